@@ -1,0 +1,1 @@
+// The names of 26 commands and 31 operators.

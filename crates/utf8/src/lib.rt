@@ -1,0 +1,1 @@
+// Unicode's UTF-8 and White_Space.
