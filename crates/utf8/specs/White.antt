@@ -1,9 +1,10 @@
 -- Unicode's White_Space (PropList.txt): its 25 characters, and texts of nothing else. Assumes nothing.
-use Prim.Native.Nat.{ℕ, zero, suc}
+use Prim.Native.Nat.{ℕ}
 use mathlib.Core.List.{List, [], _∷_}
 use mathlib.Core.Bool.{Bool, true, false, cond, _&&_}
-use lib.ListN.{length, drop}
+use lib.ListN.{length}
 use lib.Dec.{eqb}
+use Rattle.utf8.specs.Runs.{isRun, runs}
 use Rattle.utf8.specs.Scalars.{encodingOf}
 
 -- the scalar values with the property White_Space
@@ -23,19 +24,11 @@ unfoldable pub frontOf : List ℕ → List ℕ → ℕ
 frontOf [] t = 0
 frontOf (u ∷ us) t = let r = frontOf us t in cond (begins (encodingOf u) t) (length (encodingOf u)) r
 
--- only characters with White_Space, or empty; the first argument bounds their number
-unfoldable pub blankFrom : ℕ → List ℕ → Bool
-blankFrom zero [] = true
-blankFrom zero (b ∷ t) = false
-blankFrom (suc n) [] = true
-blankFrom (suc n) (b ∷ t) =
-    let r = blankFrom n (drop (frontOf whites (b ∷ t)) (b ∷ t)) in
-    cond (eqb (frontOf whites (b ∷ t)) 0) false r
-
-abbrev pub blank : List ℕ → Bool
-blank t = blankFrom (length t) t
+-- only characters with White_Space, or empty
+unfoldable pub blank : List ℕ → Bool
+blank t = isRun (frontOf whites) t
 
 -- names on an `unfolding` line what a computation with this module needs
 unfoldable pub blanks : Unit {0}
-unfolding whites begins frontOf blankFrom encodingOf
+unfolding whites begins frontOf blank encodingOf runs
 blanks = tt
