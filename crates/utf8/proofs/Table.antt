@@ -28,7 +28,7 @@ either-true false b e = inr e
 nil-cons : {X : Type 0} {r : Range} {rs : List Range} → [] ≡ r ∷ rs → X
 nil-cons e = let z : _≡_ {A = ℕ} 0 1 = cc in absurd (omega arith)
 
-and-false : (a : Bool) → (a && false) ≡ false
+pub and-false : (a : Bool) → (a && false) ≡ false
 and-false true = refl
 and-false false = refl
 
