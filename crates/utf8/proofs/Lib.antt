@@ -1,3 +1,6 @@
 pub mod Runs
 pub mod Table
 pub mod Ascii
+pub mod Encodings
+pub mod Decoding
+pub mod Laws

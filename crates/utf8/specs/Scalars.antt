@@ -22,8 +22,12 @@ encodingOf u =
     (cond (ltb u 0x10000) ((0xe0 + u / 64 / 64) ∷ trail (u / 64) ∷ trail u ∷ [])
     ((0xf0 + u / 64 / 64 / 64) ∷ trail (u / 64 / 64) ∷ trail (u / 64) ∷ trail u ∷ [])))
 
--- the text is the encodings of scalar values, one after the other
-pub record Encoded (bs : List ℕ) : Type 0 where
+-- the text is the encodings of numbers that pass the test, one after the other
+pub record EncodedOf (test : ℕ → Bool) (bs : List ℕ) : Type 0 where
   pub scalars : List ℕ
-  pub each : (u : ℕ) → List·Memᴰ u scalars → isScalar u ≡ true
+  pub each : (u : ℕ) → List·Memᴰ u scalars → test u ≡ true
   pub joined : flatMap encodingOf scalars ≡ bs
+
+-- the text is the encodings of scalar values, one after the other
+abbrev pub Encoded : List ℕ → Type 0
+Encoded bs = EncodedOf isScalar bs
