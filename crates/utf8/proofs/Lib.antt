@@ -4,3 +4,4 @@ pub mod Ascii
 pub mod Encodings
 pub mod Decoding
 pub mod Laws
+pub mod WhiteSpace
