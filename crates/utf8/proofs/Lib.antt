@@ -5,3 +5,4 @@ pub mod Encodings
 pub mod Decoding
 pub mod Laws
 pub mod WhiteSpace
+pub mod Blank

@@ -58,7 +58,7 @@ first b c d h p q r s =
     (rw (ne-eqb b 0xc2 p, ne-eqb b 0xe1 q, ne-eqb b 0xe2 r, ne-eqb b 0xe3 s))
 
 pub by-first : (b c d v : ℕ) → b < 256 → (b ≡ 0xc2 → ⊥) → (b ≡ 0xe1 → ⊥) → (b ≡ 0xe2 → ⊥) → (b ≡ 0xe3 → ⊥) → v ≡ cond (leb 0x09 b && leb b 0x0d) 1 (cond (eqb b 0x20) 1 0)
-  → v ≡ frontOf whites (b ∷ c ∷ d ∷ [])
+    → v ≡ frontOf whites (b ∷ c ∷ d ∷ [])
 by-first b c d v h p q r s e = rw (first b c d h p q r s) e
 
 -- ---- the first three bytes are enough
