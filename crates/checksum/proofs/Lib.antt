@@ -1,3 +1,6 @@
 pub mod Xor
 pub mod Shifts
 pub mod Checksums
+pub mod Polynomials
+pub mod Division
+pub mod Standard
