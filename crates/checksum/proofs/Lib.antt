@@ -3,4 +3,5 @@ pub mod Shifts
 pub mod Checksums
 pub mod Polynomials
 pub mod Division
+pub mod Bits
 pub mod Standard
