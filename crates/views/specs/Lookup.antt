@@ -11,7 +11,7 @@ use Rattle.texts.specs.declared.Order.{Order}
 use Rattle.texts.specs.declared.Order.the-variants.{Less, Equal, Greater}
 use Rattle.texts.specs.Text.{orderOf, same, texts}
 use Rattle.texts.specs.Dots.{hasDot, firstDot, beforeDot, afterDot, dots}
-use Rattle.utf8.specs.White.{blank, blankFrom, blanks}
+use Rattle.utf8.specs.White.{blank, blanks}
 use Rattle.image.specs.Sections.{Sections, nodeCount, definitionCount, nodeWord, tagOf, f, namedWord, definitionWord, itemWord, textAt, partAt, inside, isContainer, insideContainer, sections}
 use Rattle.tree.specs.Tree.{namedAt, namedText}
 use Rattle.index.specs.Definitions.{definitionText, firstItem, itemsOf, itemText, itemTextOf}
