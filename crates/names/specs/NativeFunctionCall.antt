@@ -1,0 +1,93 @@
+-- The operators by number and by name. Assumes nothing.
+use Prim.Native.Nat.{ℕ}
+use mathlib.Core.List.{List, [], _∷_, map}
+use mathlib.Core.Option.{Option, none, some}
+use lib.ListN.{getD}
+use Rattle.names.specs.Names.{operators, numberIn}
+use Rattle.names.specs.declared.native_function_call.Op.{Op}
+use Rattle.names.specs.declared.native_function_call.Op.the-variants.{
+  Add,
+  Subtract,
+  Divide,
+  Multiply,
+  Mod,
+  Negate,
+  Equal,
+  Greater,
+  Less,
+  GreaterThanOrEquals,
+  LessThanOrEquals,
+  NotEquals,
+  Not,
+  And,
+  Or,
+  Min,
+  Max,
+  Pow,
+  Floor,
+  Ceiling,
+  Int,
+  Float,
+  Has,
+  Hasnt,
+  Intersect,
+  ListMin,
+  ListMax,
+  All,
+  Count,
+  ValueOfList,
+  Invert
+}
+use Rattle.names.specs.declared.native_function_call.Operator.{Operator}
+use Rattle.names.specs.declared.native_function_call.Operator.the-variants.{Known, Unknown}
+
+-- a operator's number is the place of its name in the list
+abbrev pub operatorNumber : Op → ℕ
+operatorNumber Add = 0
+operatorNumber Subtract = 1
+operatorNumber Divide = 2
+operatorNumber Multiply = 3
+operatorNumber Mod = 4
+operatorNumber Negate = 5
+operatorNumber Equal = 6
+operatorNumber Greater = 7
+operatorNumber Less = 8
+operatorNumber GreaterThanOrEquals = 9
+operatorNumber LessThanOrEquals = 10
+operatorNumber NotEquals = 11
+operatorNumber Not = 12
+operatorNumber And = 13
+operatorNumber Or = 14
+operatorNumber Min = 15
+operatorNumber Max = 16
+operatorNumber Pow = 17
+operatorNumber Floor = 18
+operatorNumber Ceiling = 19
+operatorNumber Int = 20
+operatorNumber Float = 21
+operatorNumber Has = 22
+operatorNumber Hasnt = 23
+operatorNumber Intersect = 24
+operatorNumber ListMin = 25
+operatorNumber ListMax = 26
+operatorNumber All = 27
+operatorNumber Count = 28
+operatorNumber ValueOfList = 29
+operatorNumber Invert = 30
+
+-- in the order of their numbers
+abbrev pub ops : List Op
+ops =
+    Add ∷ Subtract ∷ Divide ∷ Multiply ∷ Mod ∷ Negate ∷ Equal ∷ Greater ∷ Less ∷ GreaterThanOrEquals ∷ LessThanOrEquals ∷ NotEquals ∷ Not ∷ And ∷ Or ∷ Min ∷ Max ∷ Pow ∷ Floor ∷ Ceiling ∷ Int ∷ Float ∷ Has ∷ Hasnt ∷ Intersect ∷ ListMin ∷ ListMax ∷ All ∷ Count ∷ ValueOfList ∷ Invert ∷ []
+
+abbrev pub operatorAt : ℕ → Operator
+operatorAt k = getD (map Known ops) k Unknown
+
+-- by a name's number
+abbrev pub operatorAtOption : Option ℕ → Operator
+operatorAtOption none = Unknown
+operatorAtOption (some k) = operatorAt k
+
+-- the operator of a text
+unfoldable pub operatorNamed : List ℕ → Operator
+operatorNamed t = operatorAtOption (numberIn operators t)
