@@ -1,42 +1,15 @@
--- The commands by number and by name. Assumes nothing.
+-- The commands, numbered in the order of their names. Assumes nothing.
 use Prim.Native.Nat.{ℕ}
-use mathlib.Core.List.{List, [], _∷_, map}
+use mathlib.Core.List.{List, [], _∷_}
 use mathlib.Core.Option.{Option, none, some}
-use lib.ListN.{getD}
-use Rattle.names.specs.Names.{commands, numberIn}
+use Rattle.names.specs.Names.{commands}
+use Rattle.names.specs.Spelling.{namedIn}
 use Rattle.names.specs.declared.control_command.CommandType.{CommandType}
-use Rattle.names.specs.declared.control_command.CommandType.the-variants.{
-  EvalStart,
-  EvalOutput,
-  EvalEnd,
-  Duplicate,
-  PopEvaluatedValue,
-  PopFunction,
-  PopTunnel,
-  BeginString,
-  EndString,
-  NoOp,
-  ChoiceCount,
-  Turns,
-  TurnsSince,
-  ReadCount,
-  Random,
-  SeedRandom,
-  VisitIndex,
-  SequenceShuffleIndex,
-  StartThread,
-  Done,
-  End,
-  ListFromInt,
-  ListRange,
-  ListRandom,
-  BeginTag,
-  EndTag
-}
+use Rattle.names.specs.declared.control_command.CommandType.the-variants.{EvalStart, EvalOutput, EvalEnd, Duplicate, PopEvaluatedValue, PopFunction, PopTunnel, BeginString, EndString, NoOp, ChoiceCount, Turns, TurnsSince, ReadCount, Random, SeedRandom, VisitIndex, SequenceShuffleIndex, StartThread, Done, End, ListFromInt, ListRange, ListRandom, BeginTag, EndTag}
 use Rattle.names.specs.declared.control_command.Command.{Command}
 use Rattle.names.specs.declared.control_command.Command.the-variants.{Known, Unknown}
 
--- a command's number is the place of its name in the list
+-- the place of the command's name in the list
 abbrev pub commandNumber : CommandType → ℕ
 commandNumber EvalStart = 0
 commandNumber EvalOutput = 1
@@ -66,18 +39,17 @@ commandNumber BeginTag = 24
 commandNumber EndTag = 25
 
 -- in the order of their numbers
-abbrev pub commandTypes : List CommandType
+unfoldable pub commandTypes : List CommandType
 commandTypes =
-    EvalStart ∷ EvalOutput ∷ EvalEnd ∷ Duplicate ∷ PopEvaluatedValue ∷ PopFunction ∷ PopTunnel ∷ BeginString ∷ EndString ∷ NoOp ∷ ChoiceCount ∷ Turns ∷ TurnsSince ∷ ReadCount ∷ Random ∷ SeedRandom ∷ VisitIndex ∷ SequenceShuffleIndex ∷ StartThread ∷ Done ∷ End ∷ ListFromInt ∷ ListRange ∷ ListRandom ∷ BeginTag ∷ EndTag ∷ []
+    EvalStart ∷ EvalOutput ∷ EvalEnd ∷ Duplicate ∷ PopEvaluatedValue ∷ PopFunction ∷ PopTunnel ∷ BeginString ∷ EndString ∷ NoOp ∷ ChoiceCount ∷ Turns
+    ∷ TurnsSince ∷ ReadCount ∷ Random ∷ SeedRandom ∷ VisitIndex ∷ SequenceShuffleIndex ∷ StartThread ∷ Done ∷ End ∷ ListFromInt ∷ ListRange
+    ∷ ListRandom ∷ BeginTag ∷ EndTag ∷ []
 
-abbrev pub commandAt : ℕ → Command
-commandAt k = getD (map Known commandTypes) k Unknown
+-- what an answer says
+abbrev pub knownCommand : Command → Option CommandType
+knownCommand (Known c) = some c
+knownCommand Unknown = none
 
--- by a name's number
-abbrev pub commandAtOption : Option ℕ → Command
-commandAtOption none = Unknown
-commandAtOption (some k) = commandAt k
-
--- the command of a text
-unfoldable pub commandNamed : List ℕ → Command
-commandNamed t = commandAtOption (numberIn commands t)
+-- the command that a text names
+abbrev pub commandNamed : List ℕ → Option CommandType
+commandNamed t = namedIn commandTypes commands t

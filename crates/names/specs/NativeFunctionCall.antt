@@ -1,47 +1,15 @@
--- The operators by number and by name. Assumes nothing.
+-- The operators, numbered in the order of their names. Assumes nothing.
 use Prim.Native.Nat.{ℕ}
-use mathlib.Core.List.{List, [], _∷_, map}
+use mathlib.Core.List.{List, [], _∷_}
 use mathlib.Core.Option.{Option, none, some}
-use lib.ListN.{getD}
-use Rattle.names.specs.Names.{operators, numberIn}
+use Rattle.names.specs.Names.{operators}
+use Rattle.names.specs.Spelling.{namedIn}
 use Rattle.names.specs.declared.native_function_call.Op.{Op}
-use Rattle.names.specs.declared.native_function_call.Op.the-variants.{
-  Add,
-  Subtract,
-  Divide,
-  Multiply,
-  Mod,
-  Negate,
-  Equal,
-  Greater,
-  Less,
-  GreaterThanOrEquals,
-  LessThanOrEquals,
-  NotEquals,
-  Not,
-  And,
-  Or,
-  Min,
-  Max,
-  Pow,
-  Floor,
-  Ceiling,
-  Int,
-  Float,
-  Has,
-  Hasnt,
-  Intersect,
-  ListMin,
-  ListMax,
-  All,
-  Count,
-  ValueOfList,
-  Invert
-}
+use Rattle.names.specs.declared.native_function_call.Op.the-variants.{Add, Subtract, Divide, Multiply, Mod, Negate, Equal, Greater, Less, GreaterThanOrEquals, LessThanOrEquals, NotEquals, Not, And, Or, Min, Max, Pow, Floor, Ceiling, Int, Float, Has, Hasnt, Intersect, ListMin, ListMax, All, Count, ValueOfList, Invert}
 use Rattle.names.specs.declared.native_function_call.Operator.{Operator}
 use Rattle.names.specs.declared.native_function_call.Operator.the-variants.{Known, Unknown}
 
--- a operator's number is the place of its name in the list
+-- the place of the operator's name in the list
 abbrev pub operatorNumber : Op → ℕ
 operatorNumber Add = 0
 operatorNumber Subtract = 1
@@ -76,18 +44,16 @@ operatorNumber ValueOfList = 29
 operatorNumber Invert = 30
 
 -- in the order of their numbers
-abbrev pub ops : List Op
+unfoldable pub ops : List Op
 ops =
-    Add ∷ Subtract ∷ Divide ∷ Multiply ∷ Mod ∷ Negate ∷ Equal ∷ Greater ∷ Less ∷ GreaterThanOrEquals ∷ LessThanOrEquals ∷ NotEquals ∷ Not ∷ And ∷ Or ∷ Min ∷ Max ∷ Pow ∷ Floor ∷ Ceiling ∷ Int ∷ Float ∷ Has ∷ Hasnt ∷ Intersect ∷ ListMin ∷ ListMax ∷ All ∷ Count ∷ ValueOfList ∷ Invert ∷ []
+    Add ∷ Subtract ∷ Divide ∷ Multiply ∷ Mod ∷ Negate ∷ Equal ∷ Greater ∷ Less ∷ GreaterThanOrEquals ∷ LessThanOrEquals ∷ NotEquals ∷ Not ∷ And ∷ Or
+    ∷ Min ∷ Max ∷ Pow ∷ Floor ∷ Ceiling ∷ Int ∷ Float ∷ Has ∷ Hasnt ∷ Intersect ∷ ListMin ∷ ListMax ∷ All ∷ Count ∷ ValueOfList ∷ Invert ∷ []
 
-abbrev pub operatorAt : ℕ → Operator
-operatorAt k = getD (map Known ops) k Unknown
+-- what an answer says
+abbrev pub knownOperator : Operator → Option Op
+knownOperator (Known c) = some c
+knownOperator Unknown = none
 
--- by a name's number
-abbrev pub operatorAtOption : Option ℕ → Operator
-operatorAtOption none = Unknown
-operatorAtOption (some k) = operatorAt k
-
--- the operator of a text
-unfoldable pub operatorNamed : List ℕ → Operator
-operatorNamed t = operatorAtOption (numberIn operators t)
+-- the operator that a text names
+abbrev pub operatorNamed : List ℕ → Option Op
+operatorNamed t = namedIn ops operators t

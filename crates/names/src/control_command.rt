@@ -9,8 +9,8 @@ ghost use mathlib.Core.Path.{_≡_};
 ghost use mathlib.Core.List.{[]};
 ghost use lib.ListN.{getD};
 ghost use Rattle.names.specs.Names.{commands, numberIn};
-ghost use Rattle.names.specs.Spelling.{nameOf, numbered};
-ghost use Rattle.names.specs.ControlCommand.{commandNumber, commandAt, commandNamed};
+ghost use Rattle.names.specs.Spelling.{elementAt, nameOf, numbered};
+ghost use Rattle.names.specs.ControlCommand.{commandNumber, commandTypes, knownCommand, commandNamed};
 
 pub enum CommandType {
     EvalStart,
@@ -79,134 +79,7 @@ const COMMANDS: [CommandType; 26] = [
 
 // By slot, the number of the only command whose name has that slot.
 const BY_SLOT: [u8; 128] = [
-    0,
-    16,
-    0,
-    0,
-    15,
-    0,
-    0,
-    22,
-    0,
-    0,
-    0,
-    0,
-    0,
-    0,
-    0,
-    20,
-    0,
-    0,
-    19,
-    0,
-    0,
-    0,
-    18,
-    0,
-    0,
-    0,
-    0,
-    0,
-    0,
-    0,
-    0,
-    9,
-    0,
-    0,
-    0,
-    0,
-    0,
-    0,
-    0,
-    0,
-    0,
-    0,
-    0,
-    0,
-    0,
-    0,
-    0,
-    4,
-    0,
-    0,
-    0,
-    0,
-    0,
-    0,
-    0,
-    0,
-    8,
-    0,
-    0,
-    21,
-    5,
-    0,
-    0,
-    1,
-    0,
-    0,
-    0,
-    0,
-    0,
-    0,
-    0,
-    0,
-    11,
-    0,
-    0,
-    2,
-    23,
-    17,
-    0,
-    0,
-    0,
-    0,
-    0,
-    7,
-    25,
-    0,
-    0,
-    0,
-    0,
-    0,
-    0,
-    0,
-    0,
-    0,
-    0,
-    0,
-    0,
-    0,
-    0,
-    0,
-    0,
-    0,
-    0,
-    0,
-    3,
-    0,
-    0,
-    12,
-    0,
-    0,
-    0,
-    24,
-    6,
-    0,
-    0,
-    0,
-    0,
-    0,
-    0,
-    14,
-    0,
-    0,
-    0,
-    13,
-    0,
-    10,
-    0,
-    0,
+    0, 16, 0, 0, 15, 0, 0, 22, 0, 0, 0, 0, 0, 0, 0, 20, 0, 0, 19, 0, 0, 0, 18, 0, 0, 0, 0, 0, 0, 0, 0, 9, 0, 0, 0, 0, 0, 0, 0, 0, 0, 0, 0, 0, 0, 0, 0, 4, 0, 0, 0, 0, 0, 0, 0, 0, 8, 0, 0, 21, 5, 0, 0, 1, 0, 0, 0, 0, 0, 0, 0, 0, 11, 0, 0, 2, 23, 17, 0, 0, 0, 0, 0, 7, 25, 0, 0, 0, 0, 0, 0, 0, 0, 0, 0, 0, 0, 0, 0, 0, 0, 0, 0, 0, 3, 0, 0, 12, 0, 0, 0, 24, 6, 0, 0, 0, 0, 0, 0, 14, 0, 0, 0, 13, 0, 10, 0, 0,
 ];
 
 pub fn number_of(command: CommandType) -> u8
@@ -243,7 +116,7 @@ pub fn number_of(command: CommandType) -> u8
 }
 
 pub fn command_of(number: u8) -> Command
-    ensures { λ r. ⌜ r ≡ commandAt number ⌝ }
+    ensures { λ r. ⌜ knownCommand r ≡ elementAt commandTypes number ⌝ }
 {
     if number < 26 {
         let at = number as usize;
@@ -296,7 +169,7 @@ fn only(text: &[u8]) -> CommandType
 }
 
 pub fn new_from_name(text: &[u8]) -> Command
-    ensures { λ r. ⌜ r ≡ commandNamed (now (text .entry)) ⌝ }
+    ensures { λ r. ⌜ knownCommand r ≡ commandNamed (now (text .entry)) ⌝ }
 {
     let command = only(text);
     if is_spelled(get_name(command), text) {

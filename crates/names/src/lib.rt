@@ -21,7 +21,7 @@ pub enum Number {
 }
 
 fn wide(b: u8) -> usize
-    ensures { λ r. ⌜ r ≡ b ⌝ }
+    ensures { λ r. ⌜ (r ≡ b) × (r < 256) ⌝ }
 {
     b as usize
 }
@@ -47,7 +47,7 @@ fn is_spelled(name: Name, text: &[u8]) -> bool
 {
     let len = name.len;
     let bytes = name.bytes;
-    equal(text, &bytes[..len])
+    texts::equal(text, &bytes[..len])
 }
 
 // A number below 128 in which no two commands agree, and no two operators.
@@ -61,20 +61,4 @@ fn slot(text: &[u8]) -> usize
     let first = wide(text[0]);
     let last = wide(text[len - 1]);
     (first * 8 + last * 6 + len % 16 * 5) % 128
-}
-
-fn equal(a: &[u8], b: &[u8]) -> bool
-    ensures { λ r. ⌜ r ≡ same (now (a .entry)) (now (b .entry)) ⌝ }
-{
-    if a.len() != b.len() {
-        return false;
-    }
-    let mut i = 0;
-    while i < a.len() {
-        if a[i] != b[i] {
-            return false;
-        }
-        i += 1;
-    }
-    true
 }

@@ -9,8 +9,8 @@ ghost use mathlib.Core.Path.{_≡_};
 ghost use mathlib.Core.List.{[]};
 ghost use lib.ListN.{getD};
 ghost use Rattle.names.specs.Names.{operators, numberIn};
-ghost use Rattle.names.specs.Spelling.{nameOf, numbered};
-ghost use Rattle.names.specs.NativeFunctionCall.{operatorNumber, operatorAt, operatorNamed};
+ghost use Rattle.names.specs.Spelling.{elementAt, nameOf, numbered};
+ghost use Rattle.names.specs.NativeFunctionCall.{operatorNumber, ops, knownOperator, operatorNamed};
 
 pub enum Op {
     Add,
@@ -89,134 +89,7 @@ const OPERATORS: [Op; 31] = [
 
 // By slot, the number of the only operator whose name has that slot.
 const BY_SLOT: [u8; 128] = [
-    11,
-    0,
-    0,
-    0,
-    0,
-    0,
-    0,
-    16,
-    0,
-    0,
-    28,
-    4,
-    23,
-    0,
-    0,
-    30,
-    0,
-    0,
-    0,
-    0,
-    0,
-    0,
-    0,
-    2,
-    26,
-    17,
-    0,
-    0,
-    0,
-    0,
-    13,
-    0,
-    0,
-    0,
-    0,
-    0,
-    0,
-    0,
-    0,
-    0,
-    0,
-    24,
-    0,
-    0,
-    0,
-    0,
-    0,
-    0,
-    29,
-    0,
-    0,
-    0,
-    0,
-    18,
-    0,
-    5,
-    0,
-    0,
-    0,
-    0,
-    0,
-    0,
-    0,
-    0,
-    0,
-    21,
-    0,
-    0,
-    0,
-    0,
-    0,
-    0,
-    0,
-    0,
-    0,
-    15,
-    0,
-    8,
-    0,
-    20,
-    27,
-    3,
-    14,
-    12,
-    0,
-    0,
-    0,
-    0,
-    10,
-    0,
-    0,
-    0,
-    25,
-    0,
-    0,
-    0,
-    6,
-    0,
-    0,
-    0,
-    0,
-    19,
-    0,
-    0,
-    9,
-    7,
-    0,
-    0,
-    0,
-    0,
-    0,
-    0,
-    0,
-    0,
-    0,
-    0,
-    0,
-    0,
-    0,
-    22,
-    0,
-    0,
-    0,
-    1,
-    0,
-    0,
-    0,
-    0,
+    11, 0, 0, 0, 0, 0, 0, 16, 0, 0, 28, 4, 23, 0, 0, 30, 0, 0, 0, 0, 0, 0, 0, 2, 26, 17, 0, 0, 0, 0, 13, 0, 0, 0, 0, 0, 0, 0, 0, 0, 0, 24, 0, 0, 0, 0, 0, 0, 29, 0, 0, 0, 0, 18, 0, 5, 0, 0, 0, 0, 0, 0, 0, 0, 0, 21, 0, 0, 0, 0, 0, 0, 0, 0, 0, 15, 0, 8, 0, 20, 27, 3, 14, 12, 0, 0, 0, 0, 10, 0, 0, 0, 25, 0, 0, 0, 6, 0, 0, 0, 0, 19, 0, 0, 9, 7, 0, 0, 0, 0, 0, 0, 0, 0, 0, 0, 0, 0, 0, 22, 0, 0, 0, 1, 0, 0, 0, 0,
 ];
 
 pub fn number_of(op: Op) -> u8
@@ -258,7 +131,7 @@ pub fn number_of(op: Op) -> u8
 }
 
 pub fn operator_of(number: u8) -> Operator
-    ensures { λ r. ⌜ r ≡ operatorAt number ⌝ }
+    ensures { λ r. ⌜ knownOperator r ≡ elementAt ops number ⌝ }
 {
     if number < 31 {
         let at = number as usize;
@@ -316,7 +189,7 @@ fn only(text: &[u8]) -> Op
 }
 
 pub fn new_from_name(text: &[u8]) -> Operator
-    ensures { λ r. ⌜ r ≡ operatorNamed (now (text .entry)) ⌝ }
+    ensures { λ r. ⌜ knownOperator r ≡ operatorNamed (now (text .entry)) ⌝ }
 {
     let op = only(text);
     if is_spelled(get_name(op), text) {

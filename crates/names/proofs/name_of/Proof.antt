@@ -1,41 +1,39 @@
+-- `names::name_of` meets its contract: after i turns the first i bytes are the text's. Assumes nothing.
+use Prim.Native.Nat.{_≤_, _-_}
+use mathlib.Core.Path.{_≡_, refl}
+use native.Mathlib.Omega.{arith}
+use borrow.Author.Needs.{needs}
+use lib.ListN.{length}
+use Rattle.names.proofs.Copied.{copied, copied-more, copied-all}
 use Rattle.names.proofs.name_of.Statement.{statement}
 use Rattle.names.proofs.name_of.Tie as tie
-use Rattle.names.proofs.name_of.Reads as reads
-use Rattle.names.proofs.name_of.Lts as lts
 
 abbrev Inv-loop : tie.InvT-loop
-Inv-loop text len bytes₀ i₀ bytes i = ?
+Inv-loop text len bytes₀ i₀ bytes i = (i ≤ length text) × (bytes ≡ copied text i 11)
 
 abbrev μ-loop : tie.MeasureT-loop
-μ-loop text len bytes₀ i₀ bytes i = ?
+μ-loop text len bytes₀ i₀ bytes i = length text - i
 
--- src/lib.rt:36:5
 loop-holds : tie.Need-loop-holds Inv-loop μ-loop
-loop-holds c = ?
+loop-holds c = (search needs, refl)
 
--- src/lib.rt:37:20
 shared-slice-read-bytes : tie.Need-shared-slice-read-bytes Inv-loop μ-loop
-shared-slice-read-bytes c = ?
+shared-slice-read-bytes c = search needs
 
--- src/lib.rt:37:9
 array-write-bytes : tie.Need-array-write-bytes Inv-loop μ-loop
-array-write-bytes c = ?
+array-write-bytes c = search needs
 
--- src/lib.rt:38:9
 add-i : tie.Need-add-i Inv-loop μ-loop
-add-i c = ?
+add-i c = search needs
 
--- src/lib.rt:36:5
 loop-less : tie.Need-loop-less Inv-loop μ-loop
-loop-less c = ?
+loop-less c = search needs
 
--- src/lib.rt:36:5
 loop-again : tie.Need-loop-again Inv-loop μ-loop
-loop-again c = ?
+loop-again c = (search needs, copied-more _ _ _ 11 (omega arith) (omega arith) (c .before .before .loop .inv .1))
 
--- src/lib.rt:29:1
 returns : tie.Need-returns Inv-loop μ-loop
-returns c = ?
+returns c = copied-all _ _ _ (omega arith) (c .before .loop .inv .1)
 
 pub name-of-spec : {M : Type 1} → statement M
 name-of-spec =

@@ -1,31 +1,30 @@
+-- `names::control_command::only` meets its contract. Assumes nothing.
+use Prim.Native.Nat.{_<_}
 use borrow.Author.Needs.{needs}
+use native.Mathlib.Omega.{arith}
+use Rattle.names.specs.ControlCommand.{commandTypes}
+use Rattle.names.proofs.Slots.{slot-below}
+use Rattle.names.proofs.Commands.{slot-number, only-one}
 use Rattle.names.proofs.control_command.only.Statement.{statement}
 use Rattle.names.proofs.control_command.only.Tie as tie
-use Rattle.names.proofs.control_command.only.Reads as reads
-use Rattle.names.proofs.control_command.only.Lts as lts
-use Rattle.names.proofs.slot.Reads as slot-reads
-use Rattle.names.proofs.wide.Reads as wide-reads
 
--- src/control_command.rt:293:9
 slot-requires : tie.Need-slot-requires
 slot-requires c κs = search needs
 
--- src/control_command.rt:294:23
 array-read-wide : tie.Need-array-read-wide
-array-read-wide c = ?
+array-read-wide c = rw (c .slot .ensures) (slot-below _)
 
--- src/control_command.rt:294:9
 wide-requires : tie.Need-wide-requires
 wide-requires c κs = search needs
 
--- src/control_command.rt:295:5
 array-copy-out-result : tie.Need-array-copy-out-result
-array-copy-out-result c = ?
+array-copy-out-result c =
+    let h : c .before .slot .result < 128 = rw (c .before .slot .ensures) (slot-below _) in
+    rw (c .wide .ensures .0) (slot-number (c .before .slot .result) h)
 
--- src/control_command.rt:290:1
 returns : tie.Need-returns
-returns c = ?
+unfolding commandTypes
+returns c command e = only-one _ _ _ _ (c .before .before .slot .ensures) (c .before .wide .ensures .0) command e
 
 pub only-spec : {M : Type 1} → statement M
-only-spec =
-    tie.close (tie.spec slot-requires array-read-wide wide-requires array-copy-out-result returns)
+only-spec = tie.close (tie.spec slot-requires array-read-wide wide-requires array-copy-out-result returns)

@@ -1,0 +1,6 @@
+pub mod Distinct
+pub mod Numbered
+pub mod Copied
+pub mod Slots
+pub mod Commands
+pub mod Operators
