@@ -139,3 +139,10 @@ module _ {A : Type 0} {number : A → ℕ} {kinds : List A} {names : List (List 
           let s = named-text t b e in
           let m = only b s in
           absurd (same-unlike t (nameIn number names a) p (s ∙ ap (nameIn number names) (sym m)))
+
+  -- the answers by number
+  pub number-yes : (t : List ℕ) (a : A) (k : ℕ) → k ≡ number a → some a ≡ namedIn kinds names t → some k ≡ numberIn names t
+  number-yes t a k e p = ap some e ∙ sym (named-number t a (sym p))
+
+  pub number-no : (t : List ℕ) → none ≡ namedIn kinds names t → none ≡ numberIn names t
+  number-no t p = sym (unnamed-number t (sym p))

@@ -42,7 +42,7 @@ fn name_of(text: &[u8]) -> Name
 
 // The text is the name's bytes.
 fn is_spelled(name: Name, text: &[u8]) -> bool
-    requires { ⌜ name .len ≤ 11 ⌝ }
+    requires { ⌜ name .len ≤ length (name .bytes) ⌝ }
     ensures { λ r. ⌜ r ≡ same (now (text .entry)) (spelled name) ⌝ }
 {
     let len = name.len;

@@ -1,23 +1,19 @@
+-- `names::is_spelled` meets its contract. Assumes nothing.
+use mathlib.Core.Path.{sym}
+use lib.Seq.{length-take-le}
 use borrow.Author.Needs.{needs}
 use Rattle.names.proofs.is_spelled.Statement.{statement}
 use Rattle.names.proofs.is_spelled.Tie as tie
-use Rattle.names.proofs.is_spelled.Reads as reads
-use Rattle.names.proofs.is_spelled.Lts as lts
-use Rattle.texts.proofs.equal.Reads as equal-reads
 
--- src/lib.rt:50:24
 array-share-prefix-bytes : tie.Need-array-share-prefix-bytes
-array-share-prefix-bytes c = ?
+array-share-prefix-bytes c = c .before .before .pre
 
--- src/lib.rt:50:24
 slice-aggregate-equal : tie.Need-slice-aggregate-equal
-slice-aggregate-equal c = ?
+slice-aggregate-equal c = sym (length-take-le _ _ (c .before .before .before .pre))
 
--- src/lib.rt:50:5
 equal-requires : tie.Need-equal-requires
 equal-requires c κs = search needs
 
--- src/lib.rt:44:1
 returns : tie.Need-returns
 returns c = search needs
 

@@ -33,7 +33,7 @@ loop-again : tie.Need-loop-again Inv-loop μ-loop
 loop-again c = (search needs, copied-more _ _ _ 11 (omega arith) (omega arith) (c .before .before .loop .inv .1))
 
 returns : tie.Need-returns Inv-loop μ-loop
-returns c = copied-all _ _ _ (omega arith) (c .before .loop .inv .1)
+returns c = copied-all _ _ (c .before .loop .i) (let h : c .before .loop .i ≡ length (c .before .before .args .text .now) = omega arith in h) (c .before .loop .inv .1)
 
 pub name-of-spec : {M : Type 1} → statement M
 name-of-spec =

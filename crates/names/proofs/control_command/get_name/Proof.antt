@@ -1,425 +1,346 @@
+-- `names::control_command::get_name` meets its contract: each arm spells the name of its number. Assumes nothing.
+use Rattle.names.specs.Names.{names}
 use borrow.Author.Needs.{needs}
 use Rattle.names.proofs.control_command.get_name.Statement.{statement}
 use Rattle.names.proofs.control_command.get_name.Tie as tie
-use Rattle.names.proofs.control_command.get_name.Reads as reads
-use Rattle.names.proofs.control_command.get_name.Lts as lts
-use Rattle.names.proofs.name_of.Reads as name-of-reads
 
--- src/control_command.rt:133:43
 enum-told : tie.Need-enum-told
 enum-told c = search needs
 
--- src/control_command.rt:133:43
 slice-aggregate-name-of : tie.Need-slice-aggregate-name-of
 slice-aggregate-name-of c = search needs
 
--- src/control_command.rt:133:35
 name-of-requires : tie.Need-name-of-requires
 name-of-requires c κs = search needs
 
--- src/control_command.rt:134:44
 enum-told-2 : tie.Need-enum-told-2
 enum-told-2 c = search needs
 
--- src/control_command.rt:134:44
 slice-aggregate-name-of-2 : tie.Need-slice-aggregate-name-of-2
 slice-aggregate-name-of-2 c = search needs
 
--- src/control_command.rt:134:36
 name-of-requires-2 : tie.Need-name-of-requires-2
 name-of-requires-2 c κs = search needs
 
--- src/control_command.rt:135:41
 enum-told-3 : tie.Need-enum-told-3
 enum-told-3 c = search needs
 
--- src/control_command.rt:135:41
 slice-aggregate-name-of-3 : tie.Need-slice-aggregate-name-of-3
 slice-aggregate-name-of-3 c = search needs
 
--- src/control_command.rt:135:33
 name-of-requires-3 : tie.Need-name-of-requires-3
 name-of-requires-3 c κs = search needs
 
--- src/control_command.rt:136:43
 enum-told-4 : tie.Need-enum-told-4
 enum-told-4 c = search needs
 
--- src/control_command.rt:136:43
 slice-aggregate-name-of-4 : tie.Need-slice-aggregate-name-of-4
 slice-aggregate-name-of-4 c = search needs
 
--- src/control_command.rt:136:35
 name-of-requires-4 : tie.Need-name-of-requires-4
 name-of-requires-4 c κs = search needs
 
--- src/control_command.rt:137:51
 enum-told-5 : tie.Need-enum-told-5
 enum-told-5 c = search needs
 
--- src/control_command.rt:137:51
 slice-aggregate-name-of-5 : tie.Need-slice-aggregate-name-of-5
 slice-aggregate-name-of-5 c = search needs
 
--- src/control_command.rt:137:43
 name-of-requires-5 : tie.Need-name-of-requires-5
 name-of-requires-5 c κs = search needs
 
--- src/control_command.rt:138:45
 enum-told-6 : tie.Need-enum-told-6
 enum-told-6 c = search needs
 
--- src/control_command.rt:138:45
 slice-aggregate-name-of-6 : tie.Need-slice-aggregate-name-of-6
 slice-aggregate-name-of-6 c = search needs
 
--- src/control_command.rt:138:37
 name-of-requires-6 : tie.Need-name-of-requires-6
 name-of-requires-6 c κs = search needs
 
--- src/control_command.rt:139:43
 enum-told-7 : tie.Need-enum-told-7
 enum-told-7 c = search needs
 
--- src/control_command.rt:139:43
 slice-aggregate-name-of-7 : tie.Need-slice-aggregate-name-of-7
 slice-aggregate-name-of-7 c = search needs
 
--- src/control_command.rt:139:35
 name-of-requires-7 : tie.Need-name-of-requires-7
 name-of-requires-7 c κs = search needs
 
--- src/control_command.rt:140:45
 enum-told-8 : tie.Need-enum-told-8
 enum-told-8 c = search needs
 
--- src/control_command.rt:140:45
 slice-aggregate-name-of-8 : tie.Need-slice-aggregate-name-of-8
 slice-aggregate-name-of-8 c = search needs
 
--- src/control_command.rt:140:37
 name-of-requires-8 : tie.Need-name-of-requires-8
 name-of-requires-8 c κs = search needs
 
--- src/control_command.rt:141:43
 enum-told-9 : tie.Need-enum-told-9
 enum-told-9 c = search needs
 
--- src/control_command.rt:141:43
 slice-aggregate-name-of-9 : tie.Need-slice-aggregate-name-of-9
 slice-aggregate-name-of-9 c = search needs
 
--- src/control_command.rt:141:35
 name-of-requires-9 : tie.Need-name-of-requires-9
 name-of-requires-9 c κs = search needs
 
--- src/control_command.rt:142:38
 enum-told-10 : tie.Need-enum-told-10
 enum-told-10 c = search needs
 
--- src/control_command.rt:142:38
 slice-aggregate-name-of-10 : tie.Need-slice-aggregate-name-of-10
 slice-aggregate-name-of-10 c = search needs
 
--- src/control_command.rt:142:30
 name-of-requires-10 : tie.Need-name-of-requires-10
 name-of-requires-10 c κs = search needs
 
--- src/control_command.rt:143:45
 enum-told-11 : tie.Need-enum-told-11
 enum-told-11 c = search needs
 
--- src/control_command.rt:143:45
 slice-aggregate-name-of-11 : tie.Need-slice-aggregate-name-of-11
 slice-aggregate-name-of-11 c = search needs
 
--- src/control_command.rt:143:37
 name-of-requires-11 : tie.Need-name-of-requires-11
 name-of-requires-11 c κs = search needs
 
--- src/control_command.rt:144:39
 enum-told-12 : tie.Need-enum-told-12
 enum-told-12 c = search needs
 
--- src/control_command.rt:144:39
 slice-aggregate-name-of-12 : tie.Need-slice-aggregate-name-of-12
 slice-aggregate-name-of-12 c = search needs
 
--- src/control_command.rt:144:31
 name-of-requires-12 : tie.Need-name-of-requires-12
 name-of-requires-12 c κs = search needs
 
--- src/control_command.rt:145:44
 enum-told-13 : tie.Need-enum-told-13
 enum-told-13 c = search needs
 
--- src/control_command.rt:145:44
 slice-aggregate-name-of-13 : tie.Need-slice-aggregate-name-of-13
 slice-aggregate-name-of-13 c = search needs
 
--- src/control_command.rt:145:36
 name-of-requires-13 : tie.Need-name-of-requires-13
 name-of-requires-13 c κs = search needs
 
--- src/control_command.rt:146:43
 enum-told-14 : tie.Need-enum-told-14
 enum-told-14 c = search needs
 
--- src/control_command.rt:146:43
 slice-aggregate-name-of-14 : tie.Need-slice-aggregate-name-of-14
 slice-aggregate-name-of-14 c = search needs
 
--- src/control_command.rt:146:35
 name-of-requires-14 : tie.Need-name-of-requires-14
 name-of-requires-14 c κs = search needs
 
--- src/control_command.rt:147:40
 enum-told-15 : tie.Need-enum-told-15
 enum-told-15 c = search needs
 
--- src/control_command.rt:147:40
 slice-aggregate-name-of-15 : tie.Need-slice-aggregate-name-of-15
 slice-aggregate-name-of-15 c = search needs
 
--- src/control_command.rt:147:32
 name-of-requires-15 : tie.Need-name-of-requires-15
 name-of-requires-15 c κs = search needs
 
--- src/control_command.rt:148:44
 enum-told-16 : tie.Need-enum-told-16
 enum-told-16 c = search needs
 
--- src/control_command.rt:148:44
 slice-aggregate-name-of-16 : tie.Need-slice-aggregate-name-of-16
 slice-aggregate-name-of-16 c = search needs
 
--- src/control_command.rt:148:36
 name-of-requires-16 : tie.Need-name-of-requires-16
 name-of-requires-16 c κs = search needs
 
--- src/control_command.rt:149:44
 enum-told-17 : tie.Need-enum-told-17
 enum-told-17 c = search needs
 
--- src/control_command.rt:149:44
 slice-aggregate-name-of-17 : tie.Need-slice-aggregate-name-of-17
 slice-aggregate-name-of-17 c = search needs
 
--- src/control_command.rt:149:36
 name-of-requires-17 : tie.Need-name-of-requires-17
 name-of-requires-17 c κs = search needs
 
--- src/control_command.rt:150:54
 enum-told-18 : tie.Need-enum-told-18
 enum-told-18 c = search needs
 
--- src/control_command.rt:150:54
 slice-aggregate-name-of-18 : tie.Need-slice-aggregate-name-of-18
 slice-aggregate-name-of-18 c = search needs
 
--- src/control_command.rt:150:46
 name-of-requires-18 : tie.Need-name-of-requires-18
 name-of-requires-18 c κs = search needs
 
--- src/control_command.rt:151:45
 enum-told-19 : tie.Need-enum-told-19
 enum-told-19 c = search needs
 
--- src/control_command.rt:151:45
 slice-aggregate-name-of-19 : tie.Need-slice-aggregate-name-of-19
 slice-aggregate-name-of-19 c = search needs
 
--- src/control_command.rt:151:37
 name-of-requires-19 : tie.Need-name-of-requires-19
 name-of-requires-19 c κs = search needs
 
--- src/control_command.rt:152:38
 enum-told-20 : tie.Need-enum-told-20
 enum-told-20 c = search needs
 
--- src/control_command.rt:152:38
 slice-aggregate-name-of-20 : tie.Need-slice-aggregate-name-of-20
 slice-aggregate-name-of-20 c = search needs
 
--- src/control_command.rt:152:30
 name-of-requires-20 : tie.Need-name-of-requires-20
 name-of-requires-20 c κs = search needs
 
--- src/control_command.rt:153:37
 enum-told-21 : tie.Need-enum-told-21
 enum-told-21 c = search needs
 
--- src/control_command.rt:153:37
 slice-aggregate-name-of-21 : tie.Need-slice-aggregate-name-of-21
 slice-aggregate-name-of-21 c = search needs
 
--- src/control_command.rt:153:29
 name-of-requires-21 : tie.Need-name-of-requires-21
 name-of-requires-21 c κs = search needs
 
--- src/control_command.rt:154:45
 enum-told-22 : tie.Need-enum-told-22
 enum-told-22 c = search needs
 
--- src/control_command.rt:154:45
 slice-aggregate-name-of-22 : tie.Need-slice-aggregate-name-of-22
 slice-aggregate-name-of-22 c = search needs
 
--- src/control_command.rt:154:37
 name-of-requires-22 : tie.Need-name-of-requires-22
 name-of-requires-22 c κs = search needs
 
--- src/control_command.rt:155:43
 enum-told-23 : tie.Need-enum-told-23
 enum-told-23 c = search needs
 
--- src/control_command.rt:155:43
 slice-aggregate-name-of-23 : tie.Need-slice-aggregate-name-of-23
 slice-aggregate-name-of-23 c = search needs
 
--- src/control_command.rt:155:35
 name-of-requires-23 : tie.Need-name-of-requires-23
 name-of-requires-23 c κs = search needs
 
--- src/control_command.rt:156:44
 enum-told-24 : tie.Need-enum-told-24
 enum-told-24 c = search needs
 
--- src/control_command.rt:156:44
 slice-aggregate-name-of-24 : tie.Need-slice-aggregate-name-of-24
 slice-aggregate-name-of-24 c = search needs
 
--- src/control_command.rt:156:36
 name-of-requires-24 : tie.Need-name-of-requires-24
 name-of-requires-24 c κs = search needs
 
--- src/control_command.rt:157:42
 enum-told-25 : tie.Need-enum-told-25
 enum-told-25 c = search needs
 
--- src/control_command.rt:157:42
 slice-aggregate-name-of-25 : tie.Need-slice-aggregate-name-of-25
 slice-aggregate-name-of-25 c = search needs
 
--- src/control_command.rt:157:34
 name-of-requires-25 : tie.Need-name-of-requires-25
 name-of-requires-25 c κs = search needs
 
--- src/control_command.rt:158:40
 enum-told-26 : tie.Need-enum-told-26
 enum-told-26 c = search needs
 
--- src/control_command.rt:158:40
 slice-aggregate-name-of-26 : tie.Need-slice-aggregate-name-of-26
 slice-aggregate-name-of-26 c = search needs
 
--- src/control_command.rt:158:32
 name-of-requires-26 : tie.Need-name-of-requires-26
 name-of-requires-26 c κs = search needs
 
--- src/control_command.rt:129:1
 returns : tie.Need-returns
-returns c = ?
+unfolding names
+returns c = rw (c .before .before .enum-told .given .1) (c .name-of .ensures)
 
--- src/control_command.rt:129:1
 returns-2 : tie.Need-returns-2
-returns-2 c = ?
+unfolding names
+returns-2 c = rw (c .before .before .enum-told2 .given .1) (c .name-of2 .ensures)
 
--- src/control_command.rt:129:1
 returns-3 : tie.Need-returns-3
-returns-3 c = ?
+unfolding names
+returns-3 c = rw (c .before .before .enum-told3 .given .1) (c .name-of3 .ensures)
 
--- src/control_command.rt:129:1
 returns-4 : tie.Need-returns-4
-returns-4 c = ?
+unfolding names
+returns-4 c = rw (c .before .before .enum-told4 .given .1) (c .name-of4 .ensures)
 
--- src/control_command.rt:129:1
 returns-5 : tie.Need-returns-5
-returns-5 c = ?
+unfolding names
+returns-5 c = rw (c .before .before .enum-told5 .given .1) (c .name-of5 .ensures)
 
--- src/control_command.rt:129:1
 returns-6 : tie.Need-returns-6
-returns-6 c = ?
+unfolding names
+returns-6 c = rw (c .before .before .enum-told6 .given .1) (c .name-of6 .ensures)
 
--- src/control_command.rt:129:1
 returns-7 : tie.Need-returns-7
-returns-7 c = ?
+unfolding names
+returns-7 c = rw (c .before .before .enum-told7 .given .1) (c .name-of7 .ensures)
 
--- src/control_command.rt:129:1
 returns-8 : tie.Need-returns-8
-returns-8 c = ?
+unfolding names
+returns-8 c = rw (c .before .before .enum-told8 .given .1) (c .name-of8 .ensures)
 
--- src/control_command.rt:129:1
 returns-9 : tie.Need-returns-9
-returns-9 c = ?
+unfolding names
+returns-9 c = rw (c .before .before .enum-told9 .given .1) (c .name-of9 .ensures)
 
--- src/control_command.rt:129:1
 returns-10 : tie.Need-returns-10
-returns-10 c = ?
+unfolding names
+returns-10 c = rw (c .before .before .enum-told10 .given .1) (c .name-of10 .ensures)
 
--- src/control_command.rt:129:1
 returns-11 : tie.Need-returns-11
-returns-11 c = ?
+unfolding names
+returns-11 c = rw (c .before .before .enum-told11 .given .1) (c .name-of11 .ensures)
 
--- src/control_command.rt:129:1
 returns-12 : tie.Need-returns-12
-returns-12 c = ?
+unfolding names
+returns-12 c = rw (c .before .before .enum-told12 .given .1) (c .name-of12 .ensures)
 
--- src/control_command.rt:129:1
 returns-13 : tie.Need-returns-13
-returns-13 c = ?
+unfolding names
+returns-13 c = rw (c .before .before .enum-told13 .given .1) (c .name-of13 .ensures)
 
--- src/control_command.rt:129:1
 returns-14 : tie.Need-returns-14
-returns-14 c = ?
+unfolding names
+returns-14 c = rw (c .before .before .enum-told14 .given .1) (c .name-of14 .ensures)
 
--- src/control_command.rt:129:1
 returns-15 : tie.Need-returns-15
-returns-15 c = ?
+unfolding names
+returns-15 c = rw (c .before .before .enum-told15 .given .1) (c .name-of15 .ensures)
 
--- src/control_command.rt:129:1
 returns-16 : tie.Need-returns-16
-returns-16 c = ?
+unfolding names
+returns-16 c = rw (c .before .before .enum-told16 .given .1) (c .name-of16 .ensures)
 
--- src/control_command.rt:129:1
 returns-17 : tie.Need-returns-17
-returns-17 c = ?
+unfolding names
+returns-17 c = rw (c .before .before .enum-told17 .given .1) (c .name-of17 .ensures)
 
--- src/control_command.rt:129:1
 returns-18 : tie.Need-returns-18
-returns-18 c = ?
+unfolding names
+returns-18 c = rw (c .before .before .enum-told18 .given .1) (c .name-of18 .ensures)
 
--- src/control_command.rt:129:1
 returns-19 : tie.Need-returns-19
-returns-19 c = ?
+unfolding names
+returns-19 c = rw (c .before .before .enum-told19 .given .1) (c .name-of19 .ensures)
 
--- src/control_command.rt:129:1
 returns-20 : tie.Need-returns-20
-returns-20 c = ?
+unfolding names
+returns-20 c = rw (c .before .before .enum-told20 .given .1) (c .name-of20 .ensures)
 
--- src/control_command.rt:129:1
 returns-21 : tie.Need-returns-21
-returns-21 c = ?
+unfolding names
+returns-21 c = rw (c .before .before .enum-told21 .given .1) (c .name-of21 .ensures)
 
--- src/control_command.rt:129:1
 returns-22 : tie.Need-returns-22
-returns-22 c = ?
+unfolding names
+returns-22 c = rw (c .before .before .enum-told22 .given .1) (c .name-of22 .ensures)
 
--- src/control_command.rt:129:1
 returns-23 : tie.Need-returns-23
-returns-23 c = ?
+unfolding names
+returns-23 c = rw (c .before .before .enum-told23 .given .1) (c .name-of23 .ensures)
 
--- src/control_command.rt:129:1
 returns-24 : tie.Need-returns-24
-returns-24 c = ?
+unfolding names
+returns-24 c = rw (c .before .before .enum-told24 .given .1) (c .name-of24 .ensures)
 
--- src/control_command.rt:129:1
 returns-25 : tie.Need-returns-25
-returns-25 c = ?
+unfolding names
+returns-25 c = rw (c .before .before .enum-told25 .given .1) (c .name-of25 .ensures)
 
--- src/control_command.rt:129:1
 returns-26 : tie.Need-returns-26
-returns-26 c = ?
+unfolding names
+returns-26 c = rw (c .before .before .enum-told26 .given .1) (c .name-of26 .ensures)
 
 pub get-name-spec : {M : Type 1} → statement M
 get-name-spec =
