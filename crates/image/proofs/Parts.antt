@@ -1,19 +1,19 @@
 -- Laws of sections in bytes: their parts, their lengths, how many entries they hold, and where a text lies. Assumes nothing.
 use Prim.Native.Nat.{ℕ, zero, suc, _+_, _*_, _-_, _/_, _≤_, _<_}
 use mathlib.Core.Path.{_≡_, refl, sym, ap, _∙_, subst}
-use mathlib.Core.Bool.{Bool, true, false, _&&_, true≢false}
+use mathlib.Core.Bool.{Bool, true, false, _&&_, _||_, not, true≢false}
 use lib.Dec.{leb}
 use mathlib.Core.List.{List, []}
 use native.Mathlib.Omega.{arith}
 use native.Mathlib.Nat.{mul-le-mul-left, mul-le-mul-right, mul-comm, mul-suc, le-div-iff-mul-le, div-div-eq-div-mul, mul-div-cancel}
-use borrow.Author.Tests.{le-leb, lt-leb, leb-true}
+use borrow.Author.Tests.{le-leb, lt-leb, eq-eqb, ne-eqb, leb-true}
 use lib.ListN.{length, getD, take, drop, length-drop, length-take}
 use lib.Seq.{length-take-le}
-use Rattle.words.specs.Words.{wordsOf, NONE}
+use Rattle.words.specs.Words.{wordsOf, NONE, isNone}
 use Rattle.words.proofs.Words.{length-words}
 use Rattle.image.specs.declared.Section.{Section}
 use Rattle.utf8.specs.Utf8.{utf8}
-use Rattle.image.specs.Sections.{partAt, present, textIn, goodIn}
+use Rattle.image.specs.Sections.{partAt, present, textIn, goodIn, optionalIn}
 use Rattle.image.specs.Header.{sectionBytes}
 
 -- the product of two words fits 64 bits, and a word more
@@ -79,6 +79,43 @@ text-inside strings at len h = rw (le-leb (at + len) (length strings) h)
 pub text-outside : (strings : List ℕ) (at len : ℕ) → length strings < at + len → textIn strings at len ≡ []
 unfolding textIn
 text-outside strings at len h = rw (lt-leb (at + len) (length strings) h)
+
+-- a good text by the tests of its words: absent offset, absent length, outside, inside
+pub no-offset : (strings : List ℕ) (at len : ℕ) → at ≡ NONE → goodIn strings at len ≡ false
+unfolding goodIn
+no-offset strings at len h = rw (eq-eqb at NONE h)
+
+pub no-length : (strings : List ℕ) (at len : ℕ) → len ≡ NONE → goodIn strings at len ≡ false
+unfolding goodIn
+no-length strings at len h =
+    rw (eq-eqb len NONE h) (either (isNone at) (leb (at + len) (length strings)) (utf8 (partAt strings at len)))
+  where
+    either : (a b c : Bool) → (not (a || true) && b && c) ≡ false
+    either true b c = refl
+    either false b c = refl
+
+pub good-outside : (strings : List ℕ) (at len : ℕ) → length strings < at + len → goodIn strings at len ≡ false
+unfolding goodIn
+good-outside strings at len h = rw (lt-leb (at + len) (length strings) h) (either (present at len) (utf8 (partAt strings at len)))
+  where
+    either : (a b : Bool) → (a && false && b) ≡ false
+    either true b = refl
+    either false b = refl
+
+pub good-inside : (strings : List ℕ) (at len : ℕ) → (at ≡ NONE → ⊥) → (len ≡ NONE → ⊥) → at + len ≤ length strings
+    → goodIn strings at len ≡ utf8 (partAt strings at len)
+unfolding goodIn
+good-inside strings at len h k l = rw (ne-eqb at NONE h, ne-eqb len NONE k, le-leb (at + len) (length strings) l)
+
+-- an optional text by the same tests
+pub optional-present : (strings : List ℕ) (at len : ℕ) → (at ≡ NONE → ⊥) → optionalIn strings at len ≡ goodIn strings at len
+optional-present strings at len h = rw (ne-eqb at NONE h)
+
+pub optional-absent : (strings : List ℕ) (at len : ℕ) → at ≡ NONE → len ≡ NONE → optionalIn strings at len ≡ true
+optional-absent strings at len h k = rw (eq-eqb at NONE h, eq-eqb len NONE k)
+
+pub optional-half : (strings : List ℕ) (at len : ℕ) → at ≡ NONE → (len ≡ NONE → ⊥) → optionalIn strings at len ≡ false
+optional-half strings at len h k = rw (no-offset strings at len h, eq-eqb at NONE h, ne-eqb len NONE k)
 
 -- what a good text is
 pub record Good (strings : List ℕ) (at len : ℕ) : Type 0 where
