@@ -7,6 +7,8 @@ ghost use Rattle.image.specs.Sections.{goodIn, optionalIn, textIn};
 ghost use Rattle.image.specs.Header.{sectionBytes};
 ghost use Rattle.image.specs.Entries.{recordOf, textEntryOf, definitionOf};
 
+pub mod refusal;
+
 // Where a section begins, in bytes, and how many entries it has.
 pub struct Section {
     pub offset: u32,
