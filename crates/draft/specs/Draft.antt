@@ -1,0 +1,92 @@
+-- The rules of a draft, numbers 19 to 22: sections without an index, in any numbering with root 0. Assumes nothing.
+use Prim.Native.Nat.{ℕ, zero, suc, _+_, _*_, _%_}
+use mathlib.Core.List.{List}
+use mathlib.Core.Bool.{Bool, true, false, _&&_, _||_, not}
+use lib.ListN.{length}
+use lib.Dec.{eqb}
+use Rattle.laws.specs.Refusal.{unless, countsAs, _▸_, firstOf, refusals}
+use Rattle.laws.specs.Counted.{allOf, counted}
+use Rattle.words.specs.Words.{isNone}
+use Rattle.texts.specs.Text.{same, rising, before, texts}
+use Rattle.image.specs.Sections.{Sections, nodeCount, childCount, namedCount, definitionCount, itemCount, nodeWord, parentOf, placeOf, tagOf, childWord, namedWord, goodText, inside, isContainer}
+use Rattle.records.specs.Records.{fieldsRule, parentRule, rootRight, usedUp, records}
+use Rattle.tree.specs.Tree.{entriesRule, readWalk, allSeen, Walked, trees}
+use Rattle.index.specs.Paths.{nameless, canonicalPath, paths}
+use Rattle.index.specs.Definitions.{goodDefinition, goodItem, itemsRight, itemsOf, itemsUsedUp, definitionText, itemTextOf, definitions}
+
+-- ---- 19: the tables
+
+-- each section is whole entries, and there is a node
+unfoldable pub wholeEntries : Sections → Bool
+wholeEntries s =
+    eqb (length (s .nodes) % s .stride) 0 && eqb (length (s .named) % 3) 0 && eqb (length (s .definitions) % 4) 0 && eqb (length (s .items) % 3) 0
+    && not (eqb (nodeCount s) 0)
+
+-- the record rules of a node, and that its parent is a node, the root aside
+unfoldable pub draftNodeRule : Sections → ℕ → ℕ
+draftNodeRule s i = countsAs 19 (fieldsRule s i) ▸ unless (eqb i 0 || inside s (parentOf s i)) 19
+
+unfoldable pub draftChildRule : Sections → ℕ → ℕ
+draftChildRule s j = unless (inside s (childWord s j)) 19
+
+unfoldable pub draftNamedRule : Sections → ℕ → ℕ
+draftNamedRule s j = unless (goodText s (namedWord s j 0) (namedWord s j 1)) 19 ▸ unless (inside s (namedWord s j 2)) 19
+
+unfoldable pub draftDefinitionRule : Sections → ℕ → ℕ
+draftDefinitionRule s d = unless (goodDefinition s d) 19 ▸ unless (itemsRight s d) 19
+
+unfoldable pub draftItemRule : Sections → ℕ → ℕ
+draftItemRule s j = unless (goodItem s j) 19
+
+unfoldable pub tablesRule : Sections → ℕ
+tablesRule s =
+    unless (wholeEntries s) 19
+    ▸ firstOf (nodeCount s) (draftNodeRule s)
+    ▸ unless (usedUp s) 19
+    ▸ firstOf (childCount s) (draftChildRule s)
+    ▸ firstOf (namedCount s) (draftNamedRule s)
+    ▸ firstOf (definitionCount s) (draftDefinitionRule s)
+    ▸ unless (itemsUsedUp s) 19
+    ▸ firstOf (itemCount s) (draftItemRule s)
+
+-- ---- 7: 16 words a node, 4 for each other entry and payload byte
+
+abbrev pub writeWords : Sections → ℕ
+writeWords s = 16 * nodeCount s + 4 * (childCount s + namedCount s + definitionCount s + itemCount s + length (s .payload))
+
+-- ---- 20: every node is reached by entries from the root
+
+unfoldable pub reachRule : Sections → ℕ
+reachRule s = unless (allSeen s (readWalk s .seen)) 20
+
+-- ---- 21: root, parents, the tree's entries, order of definitions and items
+
+unfoldable pub relationRule : Sections → ℕ → ℕ
+relationRule s i = countsAs 21 (parentRule s i) ▸ countsAs 21 (entriesRule s i)
+
+unfoldable pub orderRule : Sections → ℕ → ℕ
+orderRule s d = unless (rising (definitionText s) d) 21 ▸ firstOf (itemsOf s d) (λ j. unless (rising (itemTextOf s d) j) 21)
+
+unfoldable pub shapeRule : Sections → ℕ
+shapeRule s = unless (rootRight s) 21 ▸ firstOf (nodeCount s) (relationRule s) ▸ firstOf (definitionCount s) (orderRule s)
+
+-- ---- 22: canonical paths
+
+-- a container, the root excepted, has a name or a place
+unfoldable pub placed : Sections → ℕ → Bool
+placed s i = not (isContainer s i) || eqb i 0 || not (nameless s i) || not (isNone (placeOf s i))
+
+-- no container before i has i's path
+unfoldable pub newPath : Sections → ℕ → Bool
+newPath s i = not (isContainer s i) || allOf i (λ j. not (isContainer s j) || not (same (canonicalPath s j) (canonicalPath s i)))
+
+unfoldable pub pathRule : Sections → ℕ → ℕ
+pathRule s i = unless (placed s i) 22 ▸ unless (newPath s i) 22
+
+unfoldable pub pathsRule : Sections → ℕ
+pathsRule s = firstOf (nodeCount s) (pathRule s)
+
+-- names on an `unfolding` line what a computation with this module needs
+unfoldable pub drafts : Unit {0}
+unfolding wholeEntries draftNodeRule draftChildRule draftNamedRule draftDefinitionRule draftItemRule tablesRule reachRule relationRule orderRule shapeRule placed newPath pathRule pathsRule records trees paths definitions refusals counted texts
+drafts = tt

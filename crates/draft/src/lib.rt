@@ -1,0 +1,1 @@
+// The rules of a draft, and the numbering of its nodes.

@@ -1,0 +1,3 @@
+pub mod Strings
+pub mod Written
+pub mod Encode

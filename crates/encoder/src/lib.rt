@@ -1,0 +1,1 @@
+// The writer: the image that a draft becomes.

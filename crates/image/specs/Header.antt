@@ -1,0 +1,125 @@
+-- The header: the view that it gives, the sections that a view bounds in bytes, and rows 1 to 5. Assumes nothing.
+use Prim.Native.Nat.{ℕ, zero, suc, _+_, _*_}
+use mathlib.Core.List.{List, [], _∷_}
+use mathlib.Core.Bool.{Bool, cond, _&&_, not}
+use lib.ListN.{length, getD, take}
+use lib.Dec.{leb, eqb}
+use Rattle.laws.specs.Refusal.{unless, _▸_, refusals}
+use Rattle.laws.specs.Counted.{sumOf, allOf, counted}
+use Rattle.words.specs.Words.{wordAt, wordsOf, words}
+use Rattle.texts.specs.Text.{ascii, same, texts}
+use Rattle.image.specs.declared.Section.{Section}
+use Rattle.image.specs.declared.ImageView.{ImageView}
+use Rattle.image.specs.declared.Opened.{Opened}
+use Rattle.image.specs.declared.Opened.the-variants.{View, Refused}
+use Rattle.image.specs.Sections.{Sections, partAt, sections}
+
+unfoldable pub magic : List ℕ
+magic = ascii "BLINKIMG"
+
+abbrev pub headerLength : ℕ
+headerLength = 88
+
+abbrev pub version : ℕ
+version = 2
+
+-- words a node of this version
+abbrev pub nodeWords : ℕ
+nodeWords = 10
+
+-- ---- the view
+
+-- offset and count of section k
+abbrev pub sectionAt : List ℕ → ℕ → Section
+sectionAt bs k = record { offset = wordAt bs (20 + 8 * k); count = wordAt bs (24 + 8 * k) }
+
+unfoldable pub viewOf : List ℕ → ImageView
+viewOf bs =
+    record {
+      «ink_version» = wordAt bs 12;
+      nodes = sectionAt bs 0;
+      children = sectionAt bs 1;
+      named = sectionAt bs 2;
+      definitions = sectionAt bs 3;
+      items = sectionAt bs 4;
+      index = sectionAt bs 5;
+      payload = sectionAt bs 6;
+      strings = sectionAt bs 7;
+    }
+
+-- ---- the sections of a view: for any bytes and any view
+
+-- the bytes of a section whose entries have the given size; outside the slice it counts as empty
+unfoldable pub sectionBytes : List ℕ → Section → ℕ → List ℕ
+sectionBytes bs s size = cond (leb (s .offset + s .count * size) (length bs)) (partAt bs (s .offset) (s .count * size)) []
+
+unfoldable pub sectionsIn : ℕ → List ℕ → ImageView → Sections
+sectionsIn stride bs v =
+    record {
+      stride = stride;
+      nodes = wordsOf (sectionBytes bs (v .nodes) (4 * stride));
+      children = wordsOf (sectionBytes bs (v .children) 4);
+      named = wordsOf (sectionBytes bs (v .named) 12);
+      definitions = wordsOf (sectionBytes bs (v .definitions) 16);
+      items = wordsOf (sectionBytes bs (v .items) 12);
+      index = wordsOf (sectionBytes bs (v .index) 12);
+      payload = sectionBytes bs (v .payload) 1;
+      strings = sectionBytes bs (v .strings) 1;
+    }
+
+-- the sections that a query on bytes and a view sees
+abbrev pub sectionsBy : List ℕ → ImageView → Sections
+sectionsBy bs v = sectionsIn nodeWords bs v
+
+-- the sections of an image by its own header
+abbrev pub sectionsOf : List ℕ → Sections
+sectionsOf bs = sectionsBy bs (viewOf bs)
+
+-- ---- rows 1 to 5
+
+-- bytes an entry, by section
+unfoldable pub sizes : List ℕ
+sizes = 4 * nodeWords ∷ 4 ∷ 12 ∷ 16 ∷ 12 ∷ 12 ∷ 1 ∷ 1 ∷ []
+
+-- where section k begins by the counts before it
+unfoldable pub startBy : List ℕ → ℕ → ℕ
+startBy bs k = headerLength + sumOf k (λ j. sectionAt bs j .count * getD sizes j 0)
+
+-- section k begins where the one before it ends, and ends in the slice
+unfoldable pub sectionRight : List ℕ → ℕ → Bool
+sectionRight bs k = eqb (sectionAt bs k .offset) (startBy bs k) && leb (startBy bs (suc k)) (length bs)
+
+-- so does each section; the last ends with the slice; there is a node
+unfoldable pub laidOut : List ℕ → Bool
+laidOut bs = allOf 8 (sectionRight bs) && eqb (startBy bs 8) (length bs) && not (eqb (sectionAt bs 0 .count) 0)
+
+-- signed, but 18 to 21 on the word are the same numbers
+abbrev pub inkRight : ℕ → Bool
+inkRight v = leb 18 v && leb v 21
+
+-- a whole header, with the magic
+abbrev pub headed : List ℕ → Bool
+headed bs = leb headerLength (length bs) && same (take 8 bs) magic
+
+unfoldable pub headerRule : List ℕ → ℕ
+headerRule bs =
+    unless (headed bs) 1
+    ▸ unless (eqb (wordAt bs 8) version) 2
+    ▸ unless (inkRight (wordAt bs 12)) 3
+    ▸ unless (eqb (wordAt bs 16) (length bs)) 4
+    ▸ unless (laidOut bs) 5
+
+-- ---- opening an image
+
+-- the view where nothing was refused
+unfoldable pub openedBy : ℕ → ImageView → Opened
+openedBy zero v = View v
+openedBy (suc r) v = Refused (suc r)
+
+unfoldable pub openedOf : List ℕ → Opened
+openedOf bs = openedBy (headerRule bs) (viewOf bs)
+
+-- names on an `unfolding` line what a computation with this module needs
+unfoldable pub headers : Unit {0}
+unfolding magic viewOf sectionBytes sectionsIn sizes startBy sectionRight laidOut headerRule openedBy openedOf sections refusals counted words texts
+headers = tt

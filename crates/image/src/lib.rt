@@ -1,0 +1,228 @@
+// A story image: its header, the sections that the header bounds, and how records are read out of them.
+ghost use mathlib.Core.Path.{_≡_};
+ghost use Prim.Native.Nat.{_+_, _*_, _≤_};
+ghost use lib.ListN.{length, getD};
+ghost use Rattle.words.specs.Words.{wordsOf};
+ghost use Rattle.image.specs.Sections.{goodIn, optionalIn, textIn};
+ghost use Rattle.image.specs.Header.{sectionBytes, openedOf};
+ghost use Rattle.image.specs.Entries.{recordOf, textEntryOf, definitionOf};
+
+mod header;
+pub mod refusal;
+
+// Where a section begins, in bytes, and how many entries it has.
+pub struct Section {
+    pub offset: u32,
+    pub count: u32,
+}
+
+// What the header of an image says: the ink version and the eight sections.
+pub struct ImageView {
+    pub ink_version: u32,
+    pub nodes: Section,
+    pub children: Section,
+    pub named: Section,
+    pub definitions: Section,
+    pub items: Section,
+    pub index: Section,
+    pub payload: Section,
+    pub strings: Section,
+}
+
+// What a constructor of a view answers: the view, or the number of the row of refusals that the header falls under.
+pub enum Opened {
+    View(ImageView),
+    Refused(u32),
+}
+
+impl ImageView {
+    pub const MAGIC: [u8; 8] = *b"BLINKIMG";
+
+    pub const VERSION: u32 = 2;
+
+    // In bytes.
+    pub const HEADER_LENGTH: usize = 88;
+
+    pub const NODE_WORDS: usize = 10;
+
+    // Bytes an entry, by section.
+    pub const NODE_SIZE: u32 = 40;
+
+    pub const CHILD_SIZE: u32 = 4;
+
+    pub const NAMED_SIZE: u32 = 12;
+
+    pub const DEFINITION_SIZE: u32 = 16;
+
+    pub const ITEM_SIZE: u32 = 12;
+
+    pub const INDEX_SIZE: u32 = 12;
+
+    pub const PAYLOAD_SIZE: u32 = 1;
+
+    pub const STRINGS_SIZE: u32 = 1;
+
+    pub const SECTION_SIZES: [u32; 8] = [
+        ImageView::NODE_SIZE,
+        ImageView::CHILD_SIZE,
+        ImageView::NAMED_SIZE,
+        ImageView::DEFINITION_SIZE,
+        ImageView::ITEM_SIZE,
+        ImageView::INDEX_SIZE,
+        ImageView::PAYLOAD_SIZE,
+        ImageView::STRINGS_SIZE,
+    ];
+
+    // The view that the header gives, if the header breaks none of rows 1 to 5. The checksum is not asked.
+    pub fn new(bytes: &[u8]) -> Opened
+        ensures { λ r. ⌜ r ≡ openedOf (now (bytes .entry)) ⌝ }
+    {
+        let refusal = header::refusal_of(bytes);
+        if refusal != 0 {
+            return Opened::Refused(refusal);
+        }
+        Opened::View(header::view_at(bytes))
+    }
+}
+
+// The words of a node.
+pub struct NodeRecord {
+    pub parent: u32,
+    pub place: u32,
+    pub tag: u32,
+    pub f0: u32,
+    pub f1: u32,
+    pub f2: u32,
+    pub f3: u32,
+    pub f4: u32,
+    pub f5: u32,
+    pub f6: u32,
+}
+
+// An entry of three words: a text, and the node of a named or index entry or the value of an item.
+pub struct TextEntry {
+    pub offset: u32,
+    pub len: u32,
+    pub value: u32,
+}
+
+// A definition: its text, its first item and how many items it has.
+pub struct Definition {
+    pub offset: u32,
+    pub len: u32,
+    pub first: u32,
+    pub count: u32,
+}
+
+// The word that says that a text or a node is absent.
+pub const NONE: u32 = 4294967295;
+
+// The bytes of a section whose entries have the given size; outside the slice a section counts as empty.
+pub fn section_part(bytes: &[u8], section: Section, size: u32) -> &[u8]
+    ensures { λ r. ⌜ now r ≡ sectionBytes (now (bytes .entry)) section size ⌝ }
+{
+    let start = section.offset as usize;
+    let end = start + (section.count as usize) * (size as usize);
+    if end <= bytes.len() {
+        &bytes[start..end]
+    } else {
+        &bytes[..0]
+    }
+}
+
+// Word `k` of a section's bytes.
+pub fn part_word(part: &[u8], k: usize) -> u32
+    requires { ⌜ 4 * k + 4 ≤ length (now part) ⌝ }
+    ensures { λ r. ⌜ r ≡ getD (wordsOf (now (part .entry))) k 0 ⌝ }
+{
+    words::word(part, 4 * k)
+}
+
+// Node `i` of the nodes' bytes.
+pub fn node_record(part: &[u8], i: usize) -> NodeRecord
+    requires { ⌜ 40 * i + 40 ≤ length (now part) ⌝ }
+    ensures { λ r. ⌜ r ≡ recordOf (wordsOf (now (part .entry))) i ⌝ }
+{
+    let at = i * ImageView::NODE_WORDS;
+    NodeRecord {
+        parent: part_word(part, at),
+        place: part_word(part, at + 1),
+        tag: part_word(part, at + 2),
+        f0: part_word(part, at + 3),
+        f1: part_word(part, at + 4),
+        f2: part_word(part, at + 5),
+        f3: part_word(part, at + 6),
+        f4: part_word(part, at + 7),
+        f5: part_word(part, at + 8),
+        f6: part_word(part, at + 9),
+    }
+}
+
+// Entry `j` of the bytes of the named entries, the items or the index.
+pub fn text_entry(part: &[u8], j: usize) -> TextEntry
+    requires { ⌜ 12 * j + 12 ≤ length (now part) ⌝ }
+    ensures { λ r. ⌜ r ≡ textEntryOf (wordsOf (now (part .entry))) j ⌝ }
+{
+    let at = j * 3;
+    TextEntry {
+        offset: part_word(part, at),
+        len: part_word(part, at + 1),
+        value: part_word(part, at + 2),
+    }
+}
+
+// Definition `j` of the definitions' bytes.
+pub fn definition_at(part: &[u8], j: usize) -> Definition
+    requires { ⌜ 16 * j + 16 ≤ length (now part) ⌝ }
+    ensures { λ r. ⌜ r ≡ definitionOf (wordsOf (now (part .entry))) j ⌝ }
+{
+    let at = j * 4;
+    Definition {
+        offset: part_word(part, at),
+        len: part_word(part, at + 1),
+        first: part_word(part, at + 2),
+        count: part_word(part, at + 3),
+    }
+}
+
+// The bytes of a text, or none where it is not inside the strings. Whether they are UTF-8 is not asked.
+pub fn text_part(strings: &[u8], offset: u32, len: u32) -> &[u8]
+    ensures { λ r. ⌜ now r ≡ textIn (now (strings .entry)) offset len ⌝ }
+{
+    let start = offset as usize;
+    let end = start + len as usize;
+    if end <= strings.len() {
+        &strings[start..end]
+    } else {
+        &strings[..0]
+    }
+}
+
+// Whether a text is present, inside the strings and UTF-8.
+pub fn good_text(strings: &[u8], offset: u32, len: u32) -> bool
+    ensures { λ r. ⌜ r ≡ goodIn (now (strings .entry)) offset len ⌝ }
+{
+    if offset == NONE {
+        return false;
+    }
+    if len == NONE {
+        return false;
+    }
+    let start = offset as usize;
+    let end = start + len as usize;
+    if end <= strings.len() {
+        utf8::valid(&strings[start..end])
+    } else {
+        false
+    }
+}
+
+// Whether an optional text is absent or good; with one word NONE it is neither.
+pub fn good_optional(strings: &[u8], offset: u32, len: u32) -> bool
+    ensures { λ r. ⌜ r ≡ optionalIn (now (strings .entry)) offset len ⌝ }
+{
+    if offset != NONE {
+        return good_text(strings, offset, len);
+    }
+    if len == NONE { true } else { false }
+}

@@ -1,0 +1,25 @@
+-- The path index: the rules of its entries. Assumes nothing.
+use Prim.Native.Nat.{ℕ}
+use mathlib.Core.List.{List}
+use Rattle.laws.specs.Refusal.{unless, _▸_, firstOf, refusals}
+use Rattle.texts.specs.Text.{rising, before}
+use Rattle.image.specs.Sections.{Sections, nodeWord, tagOf, indexWord, indexCount, nodeCount, textAt, goodText, inside, isContainer, insideContainer, sections}
+use Rattle.index.specs.Paths.{fits, paths}
+
+abbrev pub indexText : Sections → ℕ → List ℕ
+indexText s j = textAt s (indexWord s j 0) (indexWord s j 1)
+
+unfoldable pub indexEntryRule : Sections → ℕ → ℕ
+indexEntryRule s j =
+    unless (goodText s (indexWord s j 0) (indexWord s j 1)) 10
+    ▸ unless (insideContainer s (indexWord s j 2)) 9
+    ▸ unless (rising (indexText s) j) 16
+    ▸ unless (fits s (indexWord s j 2) (indexText s j)) 16
+
+unfoldable pub indexRule : Sections → ℕ
+indexRule s = firstOf (indexCount s) (indexEntryRule s)
+
+-- names on an `unfolding` line what a computation with this module needs
+unfoldable pub indexes : Unit {0}
+unfolding indexEntryRule indexRule paths refusals sections
+indexes = tt

@@ -1,0 +1,49 @@
+-- The canonical path of a container, and the texts that fit it. Assumes nothing.
+use Prim.Native.Nat.{ℕ, zero, suc, _+_}
+use mathlib.Core.List.{List, [], _∷_, _++_}
+use mathlib.Core.Bool.{Bool, true, false, cond, _&&_, _||_, not}
+use lib.Dec.{eqb}
+use Rattle.texts.specs.Text.{same, texts}
+use Rattle.texts.specs.Decimal.{decimal, decimals}
+use Rattle.texts.specs.Dots.{dot}
+use Rattle.image.specs.Sections.{Sections, nodeCount, nodeWord, parentOf, placeOf, f, textAt, absent, sections}
+
+-- no name, or the empty one
+unfoldable pub nameless : Sections → ℕ → Bool
+nameless s i = absent (f s i 0) (f s i 1) || eqb (f s i 1) 0
+
+-- a container's piece of a path: its non-empty name, else its place in decimal
+unfoldable pub piece : Sections → ℕ → List ℕ
+piece s i = cond (nameless s i) (decimal (placeOf s i)) (textAt s (f s i 0) (f s i 1))
+
+-- joined by a dot, below the root without one
+abbrev pub joined : ℕ → List ℕ → List ℕ → List ℕ
+joined zero front last = last
+joined (suc parent) front last = front ++ dot ∷ last
+
+-- the first argument bounds the steps up to the root
+unfoldable pub pathFrom : ℕ → Sections → ℕ → List ℕ
+pathFrom zero s i = []
+pathFrom (suc n) s i =
+    let front = pathFrom n s (parentOf s i) in
+    cond (eqb i 0) [] (joined (parentOf s i) front (piece s i))
+
+-- from below the root down, joined by dots
+abbrev pub canonicalPath : Sections → ℕ → List ℕ
+canonicalPath s i = pathFrom (nodeCount s) s i
+
+-- the topmost piece is a place; the root has no piece
+unfoldable pub topPlace : ℕ → Sections → ℕ → Bool
+topPlace zero s i = false
+topPlace (suc n) s i =
+    let above = topPlace n s (parentOf s i) in
+    cond (eqb i 0) false (cond (eqb (parentOf s i) 0) (nameless s i) above)
+
+-- an index text fits its target: the canonical path, or a dot before it where the topmost piece is a place
+unfoldable pub fits : Sections → ℕ → List ℕ → Bool
+fits s i t = same t (canonicalPath s i) || (topPlace (nodeCount s) s i && same t (dot ∷ canonicalPath s i))
+
+-- names on an `unfolding` line what a computation with this module needs
+unfoldable pub paths : Unit {0}
+unfolding nameless piece pathFrom topPlace fits sections texts decimals
+paths = tt

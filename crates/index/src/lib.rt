@@ -1,0 +1,1 @@
+// Canonical paths, the path index, list definitions and their items.

@@ -1,0 +1,59 @@
+-- What a load answers: 0, or the number of the first rule that is broken; and the work words on return. Assumes nothing.
+use Prim.Native.Nat.{ℕ, _+_}
+use mathlib.Core.List.{List, _++_}
+use mathlib.Core.Bool.{Bool, cond, _&&_}
+use mathlib.Core.Path.{_≡_}
+use lib.ListN.{length, drop, replicate}
+use lib.Dec.{leb, eqb}
+use Rattle.laws.specs.Refusal.{unless, _▸_, firstOf, refusals}
+use Rattle.words.specs.Words.{wordAt}
+use Rattle.checksum.specs.Crc.{checksumOf, crcs}
+use Rattle.image.specs.Sections.{Sections, nodeCount, childCount, namedCount, indexCount}
+use Rattle.image.specs.Header.{headerRule, sectionsOf, headers}
+use Rattle.records.specs.Records.{nodeRule, rootRight, usedUp, containersBefore, records}
+use Rattle.tree.specs.Tree.{treeRule, trees}
+use Rattle.index.specs.Index.{indexRule, indexes}
+use Rattle.index.specs.Definitions.{definitionsRule, definitions}
+
+-- row 6
+unfoldable pub checksumRule : List ℕ → ℕ
+checksumRule bs = unless (eqb (wordAt bs 84) (checksumOf bs)) 6
+
+-- row 13
+unfoldable pub leftoverRule : Sections → ℕ
+leftoverRule s = unless (usedUp s && eqb (containersBefore s (nodeCount s)) (indexCount s)) 13
+
+-- rows 8 to 17
+unfoldable pub sectionsRule : Sections → ℕ
+sectionsRule s =
+    unless (rootRight s) 8
+    ▸ firstOf (nodeCount s) (nodeRule s)
+    ▸ leftoverRule s
+    ▸ treeRule s
+    ▸ indexRule s
+    ▸ definitionsRule s
+
+-- work words for loading
+abbrev pub loadWords : Sections → ℕ
+loadWords s = nodeCount s + childCount s + namedCount s + 1
+
+-- a load of bytes with a count of work words
+unfoldable pub loadRule : List ℕ → ℕ → ℕ
+loadRule bs work = headerRule bs ▸ checksumRule bs ▸ unless (leb (loadWords (sectionsOf bs)) work) 7 ▸ sectionsRule (sectionsOf bs)
+
+-- the bytes break none of the rules
+abbrev pub Accepted : List ℕ → Type 0
+Accepted bs = (headerRule bs ▸ checksumRule bs ▸ sectionsRule (sectionsOf bs)) ≡ 0
+
+-- refusals 1 to 7 leave the work words untouched
+abbrev pub early : ℕ → Bool
+early r = leb 1 r && leb r 7
+
+-- the work words on return: otherwise as many as are needed are zero, and those past them stay
+unfoldable pub workAfter : ℕ → ℕ → List ℕ → List ℕ
+workAfter needed r work = cond (early r) work (replicate needed 0 ++ drop needed work)
+
+-- names on an `unfolding` line what a computation with this module needs
+unfoldable pub loads : Unit {0}
+unfolding checksumRule leftoverRule sectionsRule loadRule workAfter headers records trees indexes definitions crcs refusals
+loads = tt

@@ -1,0 +1,1 @@
+// The load of an image: the view, or the number of the first rule broken.

@@ -1,0 +1,61 @@
+-- The kinds of nodes by tag, and what each kind has in its fields. Assumes nothing.
+use Prim.Native.Nat.{ℕ}
+use mathlib.Core.List.{List, [], _∷_}
+use lib.ListN.{getD}
+
+-- document 01's kinds, in the order of their tags
+pub data Kind : Type 0 where
+  Container Choice Command Divert Glue Operator Tag BoolValue IntValue FloatValue StringValue ListValue TargetValue PointerValue Assignment Reference Void : Kind
+  -- no tag of a node
+  Unknown : Kind
+
+unfoldable pub kinds : List Kind
+kinds =
+    Unknown ∷ Container ∷ Choice ∷ Command ∷ Divert ∷ Glue ∷ Operator ∷ Tag ∷ BoolValue ∷ IntValue ∷ FloatValue ∷ StringValue ∷ ListValue
+    ∷ TargetValue ∷ PointerValue ∷ Unknown ∷ Assignment ∷ Reference ∷ Void ∷ []
+
+-- the kind of a tag: 1 to 14 and 16 to 18 have one
+abbrev pub kindOf : ℕ → Kind
+kindOf t = getD kinds t Unknown
+
+-- what stands in a field; a number says at which word it begins, counted from f0
+pub data Field : Type 0 where
+  -- a text, and one that may be absent (two words)
+  text optional : ℕ → Field
+  -- the known name of a command, of an operator (two words)
+  command operator : ℕ → Field
+  -- a node, one that may be absent, a container, one that may be absent
+  node optionalNode container optionalContainer : ℕ → Field
+  -- any word; a word at most the second number
+  plain : ℕ → Field
+  atMost : ℕ → ℕ → Field
+  -- start and count of ordered children (f3, f4), of named children (f5, f6); start and length of a list's payload (f0, f1)
+  children named payload : Field
+  -- nothing is right here
+  wrong : Field
+
+-- the fields of a kind, in the order in which they are tested. Divert flags below 32 with f6 / 8 at most 2 are those at most 23
+unfoldable pub fields : Kind → List Field
+fields Container = optional 0 ∷ plain 2 ∷ children ∷ named ∷ []
+fields Choice = optional 0 ∷ container 2 ∷ plain 3 ∷ []
+fields Command = command 0 ∷ []
+fields Divert = optional 0 ∷ optionalNode 2 ∷ optional 3 ∷ plain 5 ∷ atMost 6 23 ∷ []
+fields Glue = []
+fields Operator = operator 0 ∷ []
+fields Tag = text 0 ∷ []
+fields BoolValue = atMost 0 1 ∷ []
+fields IntValue = plain 0 ∷ []
+fields FloatValue = plain 0 ∷ []
+fields StringValue = text 0 ∷ []
+fields ListValue = payload ∷ []
+fields TargetValue = text 0 ∷ node 2 ∷ []
+fields PointerValue = text 0 ∷ plain 2 ∷ []
+fields Assignment = text 0 ∷ atMost 2 3 ∷ []
+fields Reference = text 0 ∷ optional 2 ∷ optionalContainer 4 ∷ []
+fields Void = []
+fields Unknown = wrong ∷ []
+
+-- names on an `unfolding` line what a computation with this module needs
+unfoldable pub schema : Unit {0}
+unfolding kinds fields
+schema = tt

@@ -1,0 +1,130 @@
+-- The record rules: the rule of each field of a node, of its parent, of a list's payload; sums of the counts before; leftovers.
+-- Assumes nothing.
+use Prim.Native.Nat.{ℕ, zero, suc, _+_, _*_}
+use mathlib.Core.List.{List, [], _∷_}
+use mathlib.Core.Bool.{Bool, true, false, cond, _&&_, _||_, not}
+use lib.ListN.{length}
+use lib.Dec.{leb, eqb}
+use Rattle.laws.specs.Refusal.{unless, _▸_, firstOf, refusals}
+use Rattle.laws.specs.Counted.{sumOf, counted}
+use Rattle.words.specs.Words.{isNone, wordAt, words}
+use Rattle.texts.specs.Text.{holds, texts}
+use Rattle.names.specs.Names.{commands, operators, names}
+use Rattle.image.specs.Sections.{Sections, nodeCount, childCount, namedCount, nodeWord, parentOf, placeOf, tagOf, f, textAt, goodText, goodOptional, inside, isContainer, insideContainer, sections}
+use Rattle.records.specs.Fields.{Field, text, optional, command, operator, node, optionalNode, container, optionalContainer, plain, atMost, children, named, payload, wrong, fields, kindOf, schema}
+
+-- the fields of node i
+abbrev pub fieldsAt : Sections → ℕ → List Field
+fieldsAt s i = fields (kindOf (tagOf s i))
+
+-- ---- counts of a node, and their sums over the nodes before
+
+-- ordered children, named children
+unfoldable pub childrenOf : Sections → ℕ → ℕ
+childrenOf s i = cond (isContainer s i) (f s i 4) 0
+
+unfoldable pub namedOf : Sections → ℕ → ℕ
+namedOf s i = cond (isContainer s i) (f s i 6) 0
+
+-- bytes of payload
+unfoldable pub payloadOf : Sections → ℕ → ℕ
+payloadOf s i = cond (eqb (tagOf s i) 12) (f s i 1) 0
+
+-- 1 for a container
+unfoldable pub containerOf : Sections → ℕ → ℕ
+containerOf s i = cond (isContainer s i) 1 0
+
+abbrev pub childrenBefore : Sections → ℕ → ℕ
+childrenBefore s i = sumOf i (childrenOf s)
+
+abbrev pub namedBefore : Sections → ℕ → ℕ
+namedBefore s i = sumOf i (namedOf s)
+
+abbrev pub payloadBefore : Sections → ℕ → ℕ
+payloadBefore s i = sumOf i (payloadOf s)
+
+abbrev pub containersBefore : Sections → ℕ → ℕ
+containersBefore s i = sumOf i (containerOf s)
+
+-- ---- a list's payload: words items, origins; an item is an optional origin, a name, a value, 20 bytes; an origin a text, 8 bytes
+
+-- the word at byte k of the payload that starts at `at`
+unfoldable pub listWord : Sections → ℕ → ℕ → ℕ
+listWord s at k = wordAt (s .payload) (at + k)
+
+abbrev pub listItems : Sections → ℕ → ℕ
+listItems s at = listWord s at 0
+
+abbrev pub listOrigins : Sections → ℕ → ℕ
+listOrigins s at = listWord s at 4
+
+-- word k of item j; of origin j
+abbrev pub listItemWord : Sections → ℕ → ℕ → ℕ → ℕ
+listItemWord s at j k = listWord s at (8 + j * 20 + k * 4)
+
+abbrev pub listOriginWord : Sections → ℕ → ℕ → ℕ → ℕ
+listOriginWord s at j k = listWord s at (8 + listItems s at * 20 + j * 8 + k * 4)
+
+unfoldable pub listItemRule : Sections → ℕ → ℕ → ℕ
+listItemRule s at j =
+    unless (goodOptional s (listItemWord s at j 0) (listItemWord s at j 1)) 10 ▸ unless (goodText s (listItemWord s at j 2) (listItemWord s at j 3)) 10
+
+unfoldable pub listOriginRule : Sections → ℕ → ℕ → ℕ
+listOriginRule s at j = unless (goodText s (listOriginWord s at j 0) (listOriginWord s at j 1)) 10
+
+-- the length is exact
+unfoldable pub payloadRule : Sections → ℕ → ℕ → ℕ
+payloadRule s at len =
+    unless (leb (at + len) (length (s .payload)) && leb 8 len && eqb len (8 + listItems s at * 20 + listOrigins s at * 8)) 11
+    ▸ firstOf (listItems s at) (listItemRule s at)
+    ▸ firstOf (listOrigins s at) (listOriginRule s at)
+
+-- ---- the rule of a field of node i
+
+unfoldable pub fieldRule : Sections → ℕ → Field → ℕ
+fieldRule s i (text k) = unless (goodText s (f s i k) (f s i (k + 1))) 10
+fieldRule s i (optional k) = unless (goodOptional s (f s i k) (f s i (k + 1))) 10
+fieldRule s i (command k) =
+    unless (goodText s (f s i k) (f s i (k + 1))) 10 ▸ unless (holds commands (textAt s (f s i k) (f s i (k + 1)))) 12
+fieldRule s i (operator k) =
+    unless (goodText s (f s i k) (f s i (k + 1))) 10 ▸ unless (holds operators (textAt s (f s i k) (f s i (k + 1)))) 12
+fieldRule s i (node k) = unless (inside s (f s i k)) 9
+fieldRule s i (optionalNode k) = unless (isNone (f s i k) || inside s (f s i k)) 9
+fieldRule s i (container k) = unless (insideContainer s (f s i k)) 9
+fieldRule s i (optionalContainer k) = unless (isNone (f s i k) || insideContainer s (f s i k)) 9
+fieldRule s i (plain k) = 0
+fieldRule s i (atMost k n) = unless (leb (f s i k) n) 12
+fieldRule s i children = unless (leb (f s i 3 + f s i 4) (childCount s) && eqb (f s i 3) (childrenBefore s i)) 11
+fieldRule s i named = unless (leb (f s i 5 + f s i 6) (namedCount s) && eqb (f s i 5) (namedBefore s i)) 11
+fieldRule s i payload = unless (eqb (f s i 0) (payloadBefore s i)) 11 ▸ payloadRule s (f s i 0) (f s i 1)
+fieldRule s i wrong = 12
+
+unfoldable pub firstField : Sections → ℕ → List Field → ℕ
+firstField s i [] = 0
+firstField s i (x ∷ xs) = let r = firstField s i xs in fieldRule s i x ▸ r
+
+-- the rules of node i's fields
+abbrev pub fieldsRule : Sections → ℕ → ℕ
+fieldsRule s i = firstField s i (fieldsAt s i)
+
+-- a parent is a container and another node; the root has none
+unfoldable pub parentRule : Sections → ℕ → ℕ
+parentRule s i = cond (eqb i 0) 0 (unless (insideContainer s (parentOf s i) && not (eqb (parentOf s i) i)) 9)
+
+unfoldable pub nodeRule : Sections → ℕ → ℕ
+nodeRule s i = parentRule s i ▸ fieldsRule s i
+
+-- row 8
+unfoldable pub rootRight : Sections → Bool
+rootRight s = isNone (parentOf s 0) && isNone (placeOf s 0) && isContainer s 0
+
+-- nothing left over in children, named children and payload
+unfoldable pub usedUp : Sections → Bool
+usedUp s =
+    eqb (childrenBefore s (nodeCount s)) (childCount s) && eqb (namedBefore s (nodeCount s)) (namedCount s)
+    && eqb (payloadBefore s (nodeCount s)) (length (s .payload))
+
+-- names on an `unfolding` line what a computation with this module needs
+unfoldable pub records : Unit {0}
+unfolding childrenOf namedOf payloadOf containerOf listWord listItemRule listOriginRule payloadRule fieldRule firstField parentRule nodeRule rootRight usedUp schema sections names refusals counted words texts
+records = tt

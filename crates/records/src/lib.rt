@@ -1,0 +1,1 @@
+// The record rules, shared by load and writer.
