@@ -1,0 +1,6 @@
+pub mod Members
+pub mod Walks
+pub mod Entries
+pub mod Reading
+pub mod Climbing
+pub mod Numbers
