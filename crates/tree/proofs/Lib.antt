@@ -4,3 +4,5 @@ pub mod Entries
 pub mod Reading
 pub mod Climbing
 pub mod Numbers
+pub mod Stack
+pub mod Machine
