@@ -15,7 +15,7 @@ use borrow.Author.Tests.{eq-eqb, ne-eqb, eqb-true}
 use Rattle.laws.specs.Counted.{sumOf}
 use Rattle.laws.specs.Lists.{has}
 use Rattle.tree.specs.Tree.{Walked, walk, stop}
-use Rattle.tree.specs.Work.{stackOf, markIn, unmarked}
+use Rattle.tree.specs.Work.{stackOf, markIn, unmarked, Entered}
 use Rattle.tree.proofs.Members.{All, all-append, sum-ext, sum-point}
 use Rattle.tree.proofs.Stack.{take-less, drop-more, stack-under, stack-push, stack-pop, stack-none}
 
@@ -184,3 +184,56 @@ module _ (test : ℕ → ℕ) (push : ℕ → List ℕ) (mark : ℕ → ℕ) (n 
               (arith, inv .room, inv .enough,
               lighter (set w v x) (λ e. omega (arith, getD-set-same w v x 0 (omega (arith, top-below, set-up .above, inv .enough))))
               (λ i k e. getD-set-other w v i x 0 e)))
+
+          -- it is entered
+          module _ (x : ℕ) (is-mark : x ≡ mark (length (inv .seen))) (w₁ : List ℕ) (r d′ : ℕ)
+            (entered : Entered (test v) (push v) base (d - 1) (set w v x) w₁ r d′) (kept : length w₁ ≡ length (set w v x)) where
+            some-mark : 0 < x
+            some-mark = omega (arith, set-up .marks (length (inv .seen)))
+
+            -- marks are below the stack
+            word-kept : (i : ℕ) → i < n → getD w₁ i 0 ≡ getD (set w v x) i 0
+            word-kept i k =
+                sym (getD-take (base + (d - 1)) w₁ i 0 (omega (arith, set-up .above))) ∙ ap (λ (l : List ℕ). getD l i 0) (entered .low)
+                ∙ getD-take (base + (d - 1)) (set w v x) i 0 (omega (arith, set-up .above))
+
+            word-here : getD w₁ v 0 ≡ x
+            word-here = word-kept v top-below ∙ getD-set-same w v x 0 (omega (arith, top-below, set-up .above, inv .enough))
+
+            word-other : (i : ℕ) → i < n → (i ≡ v → ⊥) → getD w₁ i 0 ≡ getD w i 0
+            word-other i k e = word-kept i k ∙ getD-set-other w v i x 0 e
+
+            left-now : unmarked n weight w ≡ unmarked n weight w₁ + length (push v)
+            left-now = lighter w₁ (λ e. omega (arith, word-here, some-mark)) word-other
+
+            -- the words that no walk uses
+            pub high-kept : drop (base + total + 1) w₁ ≡ drop (base + total + 1) w₀
+            high-kept =
+                drop-more (base + (d - 1) + length (push v)) (base + total + 1) w₁ (set w v x) (omega (arith, left-now, inv .room)) (entered .high)
+                ∙ drop-set-lt (base + total + 1) w v x (omega (arith, top-below, set-up .above)) ∙ inv .high
+
+            pub walk-less : r ≡ 0 → turnsLeft w₁ d′ < turnsLeft w d
+            walk-less z′ = omega (arith, left-now, entered .deeper z′)
+
+            pub walk-entered : r ≡ 0 → Walking w₀ w₁ d′
+            walk-entered z′ =
+                let p : test v ≡ 0 = sym (entered .answer) ∙ z′ in
+                let deep : d′ ≡ d - 1 + length (push v) = entered .deeper z′ in
+                let s : stackOf w₁ base d′ ≡ push v ++ stackOf w base (d - 1) =
+                rw deep (entered .stack z′ ∙ ap (λ (l : List ℕ). push v ++ l) (stack-under w base (d - 1) v x (omega (arith, top-below, set-up .above)))) in
+                let t : turnsLeft w d ≡ suc (turnsLeft w₁ d′) = omega (arith, left-now) in
+                let k : length w₁ ≡ length w = kept ∙ simp length-set in
+                record {
+                  seen = v ∷ inv .seen;
+                  long = k ∙ inv .long;
+                  enough = rw k (inv .enough);
+                  high = high-kept;
+                  room = omega (arith, inv .room);
+                  marked = λ i h′. marked-now i h′ (ℕ-discrete i v);
+                  same = inv .same ∙ rw (t, popped, s) (walk-enter test push (turnsLeft w₁ d′) v (inv .seen) (stackOf w base (d - 1)) fresh p);
+                  below = rw s (all-append (λ y. y < n) (push v) (stackOf w base (d - 1)) (set-up .inside v top-below p) (rw popped at (inv .below) .1));
+                }
+              where
+                marked-now : (i : ℕ) → i < n → Dec (i ≡ v) → getD w₁ i 0 ≡ markIn mark (v ∷ inv .seen) i
+                marked-now i h′ (yes e) = rw e (word-here ∙ is-mark ∙ sym (mark-here mark (inv .seen) v))
+                marked-now i h′ (no e) = word-other i h′ e ∙ inv .marked i h′ ∙ sym (mark-other mark (inv .seen) v i e)

@@ -28,3 +28,11 @@ pub record Pushed (rule node : ℕ → ℕ) (count base depth : ℕ) (w₀ w : L
   pub low : take (base + depth) w ≡ take (base + depth) w₀
   pub high : drop (base + depth + count) w ≡ drop (base + depth + count) w₀
   pub stack : r ≡ 0 → stackOf w base (depth + count) ≡ reverse (joinOf count (λ j. node j ∷ [])) ++ stackOf w₀ base depth
+
+-- what taking a node leaves, with its refusal r and the new depth: its test's answer, and what it pushes
+pub record Entered (test : ℕ) (push : List ℕ) (base depth : ℕ) (w₀ w : List ℕ) (r depth′ : ℕ) : Type 0 where
+  pub answer : r ≡ test
+  pub low : take (base + depth) w ≡ take (base + depth) w₀
+  pub high : drop (base + depth + length push) w ≡ drop (base + depth + length push) w₀
+  pub deeper : r ≡ 0 → depth′ ≡ depth + length push
+  pub stack : r ≡ 0 → stackOf w base (depth + length push) ≡ push ++ stackOf w₀ base depth
