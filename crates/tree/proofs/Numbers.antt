@@ -10,9 +10,10 @@ use Rattle.laws.specs.Lists.{has}
 use Rattle.image.specs.Sections.{Sections, nodeCount, childCount, namedCount}
 use Rattle.tree.specs.Tree.{childAt, namedAt, entryNodes, Walked, walk, turns, readWalk}
 use Rattle.tree.specs.Reach.{Reached, root, child, named}
+use Rattle.tree.specs.Parts.{Counts}
 use Rattle.tree.proofs.Members.{All, all-map, all-at, Distinct}
 use Rattle.tree.proofs.Walks.{walk-keeps, walk-passes, walk-marks, walk-closed, walk-first, Behind, Closed, pending, pushed}
-use Rattle.tree.proofs.Entries.{entry-each, child-entry, named-entry, Counts, entries-counted}
+use Rattle.tree.proofs.Entries.{entry-each, child-entry, named-entry, entries-counted}
 
 abbrev free : ℕ → ℕ
 free i = 0

@@ -1,0 +1,34 @@
+use borrow.Author.Needs.{needs}
+use Rattle.tree.proofs.is_container.Statement.{statement}
+use Rattle.tree.proofs.is_container.Tie as tie
+use Rattle.tree.proofs.is_container.Reads as reads
+use Rattle.tree.proofs.is_container.Lts as lts
+use Rattle.image.proofs.part_word.Reads as part-word-reads
+
+-- src/lib.rt:41:9
+returns : tie.Need-returns
+returns c = ?
+
+-- src/lib.rt:44:9
+returns-2 : tie.Need-returns-2
+returns-2 c = ?
+
+-- src/lib.rt:46:29
+mul-part-word : tie.Need-mul-part-word
+mul-part-word c = search needs
+
+-- src/lib.rt:46:29
+add-part-word : tie.Need-add-part-word
+add-part-word c = search needs
+
+-- src/lib.rt:46:5
+part-word-requires : tie.Need-part-word-requires
+part-word-requires c κs = search needs
+
+-- src/lib.rt:36:1
+returns-3 : tie.Need-returns-3
+returns-3 c = ?
+
+pub is-container-spec : {M : Type 1} → statement M
+is-container-spec =
+    tie.close (tie.spec returns returns-2 mul-part-word add-part-word part-word-requires returns-3)
