@@ -6,3 +6,4 @@ pub mod Climbing
 pub mod Numbers
 pub mod Stack
 pub mod Machine
+pub mod Tests

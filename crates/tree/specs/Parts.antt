@@ -9,8 +9,9 @@ use lib.Dec.{eqb}
 use Rattle.words.specs.Words.{wordsOf}
 use Rattle.texts.specs.Text.{before}
 use Rattle.image.specs.Header.{nodeWords}
-use Rattle.image.specs.Sections.{Sections, nodeCount, childCount, namedCount, f, isContainer, textIn}
+use Rattle.image.specs.Sections.{Sections, nodeCount, childCount, namedCount, f, isContainer, goodText, textIn}
 use Rattle.records.specs.Records.{childrenBefore, namedBefore}
+use Rattle.tree.specs.Tree.{namedAt}
 
 -- nodes, ordered children, named children and strings; the other sections do not matter here
 abbrev pub partsOf : List ℕ → List ℕ → List ℕ → List ℕ → Sections
@@ -41,6 +42,14 @@ pub record Ranges (s : Sections) (i : ℕ) : Type 0 where
 pub record Fit (s : Sections) : Type 0 where
   pub counts : Counts s
   pub ranges : (i : ℕ) → i < nodeCount s → isContainer s i ≡ true → Ranges s i
+
+-- the text of the entry before place j of container i is good
+pub record LastGood (s : Sections) (i j : ℕ) : Type 0 where
+  pub last : (k : ℕ) → suc k ≡ j → goodText s (namedAt s i k 0) (namedAt s i k 1) ≡ true
+
+-- the node of container i's named entry j
+abbrev pub namedNode : Sections → ℕ → ℕ → ℕ
+namedNode s i j = namedAt s i j 2
 
 -- the text of entry j, none where it is not inside the strings
 abbrev pub shown : List ℕ → List ℕ → ℕ → List ℕ

@@ -11,7 +11,7 @@ ghost use Rattle.image.specs.Sections.{nodeCount, childCount, namedCount, f, go
 ghost use Rattle.records.specs.Records.{childrenOf, namedOf};
 ghost use Rattle.tree.specs.Tree.{childAt, namedAt, rightChild, childRule, namedRule, entriesRule, entryNodes, loadWalk, treeRule};
 ghost use Rattle.tree.specs.Work.{Pushed, Entered};
-ghost use Rattle.tree.specs.Parts.{partsOf, Fit, follows};
+ghost use Rattle.tree.specs.Parts.{partsOf, Fit, LastGood, namedNode, follows};
 use image::refusal;
 use texts::Order;
 
@@ -65,4 +65,84 @@ fn follows_last(named: &[u8], strings: &[u8], at: usize, place: usize) -> bool
         Order::Equal => false,
         Order::Greater => false,
     }
+}
+
+// The refusal of named entry `at`, which stands at `place` among those of container `id`, or 0. The text before it is good.
+fn named_rule(nodes: &[u8], named: &[u8], strings: &[u8], id: usize, at: usize, place: usize) -> u32
+    requires { ⌜ 12 * at + 12 ≤ length (now named) ⌝ }
+    requires { ⌜ at ≡ f (partsOf (now nodes) [] (now named) (now strings)) id 5 + place ⌝ }
+    requires { ⌜ LastGood (partsOf (now nodes) [] (now named) (now strings)) id place ⌝ }
+    ensures { λ r. ⌜ r ≡ namedRule (partsOf (now (nodes .entry)) [] (now (named .entry)) (now (strings .entry))) id place ⌝ }
+{
+    let entry = image::text_entry(named, at);
+    if !image::good_text(strings, entry.offset, entry.len) {
+        return refusal::BAD_CHILD;
+    }
+    if !follows_last(named, strings, at, place) {
+        return refusal::BAD_CHILD;
+    }
+    if !is_container(nodes, entry.value) {
+        return refusal::BAD_NODE;
+    }
+    if image::part_word(nodes, entry.value as usize * 10) as usize == id {
+        0
+    } else {
+        refusal::BAD_CHILD
+    }
+}
+
+// Tests the ordered children of container `id` and pushes them onto the stack, up to the first that is refused.
+fn push_children(
+    nodes: &[u8],
+    children: &[u8],
+    id: usize,
+    start: usize,
+    count: usize,
+    work: &mut [u32],
+    base: usize,
+    depth: usize,
+) -> u32
+    requires { ⌜ start ≡ f (partsOf (now nodes) (now children) [] []) id 3 ⌝ }
+    requires { ⌜ (start + count ≤ childCount (partsOf (now nodes) (now children) [] [])) × (base + depth + count ≤ length (now work)) ⌝ }
+    ensures { λ r. ⌜ Pushed (childRule (partsOf (now (nodes .entry)) (now (children .entry)) [] []) id) (childAt (partsOf (now (nodes .entry)) (now (children .entry)) [] []) id) count base depth (now (work .entry)) (now (work .exit)) r ⌝ }
+{
+    let mut j = 0;
+    while j < count {
+        let child = image::part_word(children, start + j);
+        if !right_child(nodes, child, id, j) {
+            return refusal::BAD_CHILD;
+        }
+        work[base + depth + j] = child;
+        j += 1;
+    }
+    0
+}
+
+// Tests the named children of container `id` and pushes them onto the stack, up to the first that is refused.
+fn push_named(
+    nodes: &[u8],
+    named: &[u8],
+    strings: &[u8],
+    id: usize,
+    start: usize,
+    count: usize,
+    work: &mut [u32],
+    base: usize,
+    depth: usize,
+) -> u32
+    requires { ⌜ start ≡ f (partsOf (now nodes) [] (now named) (now strings)) id 5 ⌝ }
+    requires { ⌜ (start + count ≤ namedCount (partsOf (now nodes) [] (now named) (now strings))) × (base + depth + count ≤ length (now work)) ⌝ }
+    ensures { λ r. ⌜ Pushed (namedRule (partsOf (now (nodes .entry)) [] (now (named .entry)) (now (strings .entry))) id) (namedNode (partsOf (now (nodes .entry)) [] (now (named .entry)) (now (strings .entry))) id) count base depth (now (work .entry)) (now (work .exit)) r ⌝ }
+{
+    let mut j = 0;
+    while j < count {
+        let at = start + j;
+        let refused = named_rule(nodes, named, strings, id, at, j);
+        if refused != 0 {
+            return refused;
+        }
+        work[base + depth + j] = image::part_word(named, at * 3 + 2);
+        j += 1;
+    }
+    0
 }

@@ -1,4 +1,7 @@
 use borrow.Author.Needs.{needs}
+use mathlib.Core.Path.{sym, _∙_, ap}
+use Rattle.texts.specs.Text.{isLess}
+use Rattle.tree.proofs.Tests.{follows-first, follows-order}
 use Rattle.tree.proofs.follows_last.Statement.{statement}
 use Rattle.tree.proofs.follows_last.Tie as tie
 use Rattle.tree.proofs.follows_last.Reads as reads
@@ -9,7 +12,7 @@ use Rattle.texts.proofs.compare.Reads as compare-reads
 
 -- src/lib.rt:55:9
 returns : tie.Need-returns
-returns c = ?
+returns c = sym (follows-first _ _ _ _ (c .if1 .taken))
 
 -- src/lib.rt:57:41
 sub-text-entry : tie.Need-sub-text-entry
@@ -49,15 +52,30 @@ enum-told-3 c = search needs
 
 -- src/lib.rt:50:1
 returns-2 : tie.Need-returns-2
-returns-2 c = ?
+returns-2 c =
+    ap isLess (sym (c .enum-told .given .1))
+    ∙ sym
+    (follows-order _ _ _ _ _ _ _ _ _ (c .before .before .before .before .before .before .before .if1 .left)
+    (c .before .before .before .before .before .before .text-entry .ensures) (c .before .before .before .before .before .text-entry2 .ensures)
+    (c .before .before .before .before .text-part .ensures) (c .before .before .before .text-part2 .ensures) (c .before .before .compare .ensures))
 
 -- src/lib.rt:50:1
 returns-3 : tie.Need-returns-3
-returns-3 c = ?
+returns-3 c =
+    ap isLess (sym (c .enum-told2 .given .1))
+    ∙ sym
+    (follows-order _ _ _ _ _ _ _ _ _ (c .before .before .before .before .before .before .before .if1 .left)
+    (c .before .before .before .before .before .before .text-entry .ensures) (c .before .before .before .before .before .text-entry2 .ensures)
+    (c .before .before .before .before .text-part .ensures) (c .before .before .before .text-part2 .ensures) (c .before .before .compare .ensures))
 
 -- src/lib.rt:50:1
 returns-4 : tie.Need-returns-4
-returns-4 c = ?
+returns-4 c =
+    ap isLess (sym (c .enum-told3 .given .1))
+    ∙ sym
+    (follows-order _ _ _ _ _ _ _ _ _ (c .before .before .before .before .before .before .before .if1 .left)
+    (c .before .before .before .before .before .before .text-entry .ensures) (c .before .before .before .before .before .text-entry2 .ensures)
+    (c .before .before .before .before .text-part .ensures) (c .before .before .before .text-part2 .ensures) (c .before .before .compare .ensures))
 
 pub follows-last-spec : {M : Type 1} → statement M
 follows-last-spec =

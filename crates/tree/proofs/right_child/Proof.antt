@@ -1,4 +1,6 @@
 use borrow.Author.Needs.{needs}
+use mathlib.Core.Path.{sym, _∙_}
+use Rattle.tree.proofs.Tests.{outside-child, none-child, astray-child, place-child}
 use Rattle.tree.proofs.right_child.Statement.{statement}
 use Rattle.tree.proofs.right_child.Tie as tie
 use Rattle.tree.proofs.right_child.Reads as reads
@@ -7,11 +9,11 @@ use Rattle.image.proofs.part_word.Reads as part-word-reads
 
 -- src/lib.rt:24:9
 returns : tie.Need-returns
-returns c = ?
+returns c = sym (outside-child _ _ _ _ (c .if1 .taken))
 
 -- src/lib.rt:27:9
 returns-2 : tie.Need-returns-2
-returns-2 c = ?
+returns-2 c = sym (none-child _ _ _ _ (c .if2 .taken))
 
 -- src/lib.rt:29:32
 mul-part-word : tie.Need-mul-part-word
@@ -27,7 +29,8 @@ cast-if3 c = search needs
 
 -- src/lib.rt:30:9
 returns-3 : tie.Need-returns-3
-returns-3 c = ?
+returns-3 c =
+    sym (astray-child _ _ _ _ _ (c .before .before .before .if1 .left) (c .before .before .if2 .left) (c .before .part-word .ensures) (c .if3 .taken))
 
 -- src/lib.rt:32:29
 mul-part-word-2 : tie.Need-mul-part-word-2
@@ -47,7 +50,10 @@ cast-result c = search needs
 
 -- src/lib.rt:19:1
 returns-4 : tie.Need-returns-4
-returns-4 c = ?
+returns-4 c =
+    sym
+    (place-child _ _ _ _ _ (c .before .before .before .before .if1 .left) (c .before .before .before .if2 .left) (c .before .before .part-word .ensures) _
+    (c .before .if3 .left) (c .part-word2 .ensures))
 
 pub right-child-spec : {M : Type 1} → statement M
 right-child-spec =
