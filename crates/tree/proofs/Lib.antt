@@ -7,3 +7,4 @@ pub mod Numbers
 pub mod Stack
 pub mod Machine
 pub mod Tests
+pub mod Entering

@@ -8,7 +8,8 @@ use native.Mathlib.Nat.{add-zero}
 use lib.ListN.{length, getD}
 use lib.Dec.{eqb, ltb}
 use borrow.Author.Tests.{ltb-true, lt-ltb, le-ltb, eq-eqb, ne-eqb}
-use Rattle.laws.specs.Refusal.{unless, _▸_}
+use Rattle.laws.specs.Refusal.{unless, _▸_, firstOf}
+use Rattle.laws.proofs.First.{pass, fail, first-all}
 use Rattle.words.specs.Words.{wordsOf, NONE, isNone}
 use Rattle.words.proofs.Words.{length-words}
 use Rattle.texts.specs.declared.Order.{Order}
@@ -16,9 +17,10 @@ use Rattle.texts.specs.Text.{before, rising, orderOf, isLess}
 use Rattle.image.specs.declared.TextEntry.{TextEntry}
 use Rattle.image.specs.Entries.{textEntryOf}
 use Rattle.image.proofs.Parts.{both-true, good-part}
-use Rattle.image.specs.Sections.{Sections, nodeCount, nodeWord, parentOf, placeOf, tagOf, inside, isContainer, insideContainer, goodText, goodIn, textIn, partAt, f, namedWord}
+use Rattle.image.specs.Sections.{Sections, nodeCount, nodeWord, parentOf, placeOf, tagOf, inside, isContainer, insideContainer, goodText, goodIn, textIn, partAt, f, childWord, namedWord, childCount, namedCount}
 use Rattle.tree.specs.Tree.{childAt, namedAt, namedText, rightChild, childRule, namedRule}
-use Rattle.tree.specs.Parts.{partsOf, LastGood, shown, follows}
+use Rattle.tree.specs.Parts.{partsOf, LastGood, namedNode, shown, follows}
+use Rattle.tree.proofs.Entries.{NamedRight, named-right}
 
 -- ---- a node in the bytes of the nodes
 
@@ -172,3 +174,39 @@ container-bytes ns x b =
     let within = both-true (inside (partsOf ns [] [] []) x) _ b .0 in
     let h : x < length (wordsOf ns) / 10 = ltb-true _ _ (both-true (ltb x (length (wordsOf ns) / 10)) _ within .0) in
     node-bytes ns x (omega (arith, node-count ns))
+
+-- ---- an ordered child, by the word that the code reads
+
+module _ (ns cs : List ℕ) (i j start x : ℕ) (e : start ≡ f (partsOf ns cs [] []) i 3) (read : x ≡ getD (wordsOf cs) (start + j) 0) where
+  pub child-is : x ≡ childAt (partsOf ns cs [] []) i j
+  unfolding childWord
+  child-is = rw (read, e) refl
+
+  rule-is : childRule (partsOf ns cs [] []) i j ≡ unless (rightChild (partsOf ns [] [] []) x i j) 14
+  unfolding childRule nodeWord
+  rule-is = rw child-is refl
+
+  pub child-passes : rightChild (partsOf ns [] [] []) x i j ≡ true → childRule (partsOf ns cs [] []) i j ≡ 0
+  child-passes h = rule-is ∙ pass _ 14 h
+
+  pub child-fails : rightChild (partsOf ns [] [] []) x i j ≡ false → childRule (partsOf ns cs [] []) i j ≡ 14
+  child-fails h = rule-is ∙ fail _ 14 h
+
+-- the word of a child is there
+pub child-bytes : (ns cs : List ℕ) (k : ℕ) → k < childCount (partsOf ns cs [] []) → 4 * k + 4 ≤ length cs
+child-bytes ns cs k h = omega (arith, length-words cs)
+
+-- the words of a named entry are there
+pub named-bytes : (ns ms ss : List ℕ) (k : ℕ) → k < namedCount (partsOf ns [] ms ss) → 12 * k + 12 ≤ length ms
+named-bytes ns ms ss k h = omega (arith, length-words ms)
+
+-- ---- the node of a named entry, by the word that the code reads
+
+pub named-is : (ns ms ss : List ℕ) (i j start x : ℕ) → start ≡ f (partsOf ns [] ms ss) i 5 → x ≡ getD (wordsOf ms) ((start + j) * 3 + 2) 0
+    → x ≡ namedNode (partsOf ns [] ms ss) i j
+unfolding namedWord
+named-is ns ms ss i j start x e read = rw (read, e) refl
+
+-- where the entries before have passed, the text before is good
+pub last-good : (s : Sections) (i j : ℕ) → firstOf j (namedRule s i) ≡ 0 → LastGood s i j
+last-good s i j p = record { last = λ k e. named-right s i k (first-all j (namedRule s i) p k (omega arith)) .text }

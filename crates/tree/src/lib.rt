@@ -146,3 +146,55 @@ fn push_named(
     }
     0
 }
+
+// What taking a node comes to: a refusal or 0, and the depth of the stack.
+struct Step {
+    refused: u32,
+    depth: usize,
+}
+
+// Tests and pushes the entries of node `id`: ordered children, then named ones. A node that is no container has none.
+fn enter(
+    nodes: &[u8],
+    children: &[u8],
+    named: &[u8],
+    strings: &[u8],
+    id: usize,
+    work: &mut [u32],
+    base: usize,
+    depth: usize,
+) -> Step
+    requires { ⌜ Fit (partsOf (now nodes) (now children) (now named) (now strings)) ⌝ }
+    requires { ⌜ id < nodeCount (partsOf (now nodes) (now children) (now named) (now strings)) ⌝ }
+    requires { ⌜ base + depth + length (reverse (entryNodes (partsOf (now nodes) (now children) (now named) (now strings)) id)) ≤ length (now work) ⌝ }
+    ensures { λ r. ⌜ Entered (entriesRule (partsOf (now (nodes .entry)) (now (children .entry)) (now (named .entry)) (now (strings .entry))) id) (reverse (entryNodes (partsOf (now (nodes .entry)) (now (children .entry)) (now (named .entry)) (now (strings .entry))) id)) base depth (now (work .entry)) (now (work .exit)) (r .refused) (r .depth) ⌝ }
+{
+    let node = image::node_record(nodes, id);
+    if node.tag != 1 {
+        return Step { refused: 0, depth: depth };
+    }
+    let ordered = node.f4 as usize;
+    let first = push_children(nodes, children, id, node.f3 as usize, ordered, &mut work[..], base, depth);
+    if first != 0 {
+        return Step {
+            refused: first,
+            depth: depth,
+        };
+    }
+    let count = node.f6 as usize;
+    let second = push_named(
+        nodes,
+        named,
+        strings,
+        id,
+        node.f5 as usize,
+        count,
+        work,
+        base,
+        depth + ordered,
+    );
+    Step {
+        refused: second,
+        depth: depth + ordered + count,
+    }
+}
