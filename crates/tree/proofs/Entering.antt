@@ -6,15 +6,19 @@ use mathlib.Core.Bool.{Bool, true, false, cond}
 use native.Mathlib.Omega.{arith}
 use native.Mathlib.Nat.{add-zero}
 use lib.ListN.{length, take, drop, length-append, length-reverse}
+use borrow.Author.Tests.{eq-eqb, ne-eqb}
 use Rattle.laws.specs.Refusal.{_▸_, firstOf}
 use Rattle.laws.specs.Counted.{joinOf}
 use Rattle.laws.proofs.First.{first, second}
 use Rattle.image.specs.Sections.{Sections, nodeCount, nodeWord, childWord, namedWord, tagOf, f, goodText, isContainer, childCount, namedCount}
+use Rattle.image.specs.declared.NodeRecord.{NodeRecord}
+use Rattle.image.proofs.Entries.{IsNode}
 use Rattle.records.specs.Records.{childrenOf, namedOf}
 use Rattle.tree.specs.Tree.{childAt, namedAt, childRule, namedRule, entriesRule, entryNodes}
 use Rattle.tree.specs.Work.{stackOf, Pushed, Entered}
-use Rattle.tree.specs.Parts.{partsOf, namedNode}
+use Rattle.tree.specs.Parts.{partsOf, namedNode, Fit, Ranges}
 use Rattle.tree.proofs.Members.{length-join}
+use Rattle.tree.proofs.Entries.{length-entries}
 use Rattle.tree.proofs.Stack.{take-less, drop-more}
 
 -- ---- two runs of pushes
@@ -75,6 +79,15 @@ module _ (rule₁ node₁ rule₂ node₂ : ℕ → ℕ) (c₁ c₂ base depth :
                 ∙ ap (λ (l : List ℕ). l ++ stackOf w₀ base depth) (sym (reverse-append ones twos));
           }
 
+-- ---- a node by its tag
+
+module _ (s : Sections) (i : ℕ) (node : NodeRecord) (n : IsNode s i node) where
+  pub leaf : (node .tag ≡ 1 → ⊥) → isContainer s i ≡ false
+  leaf d = ne-eqb (tagOf s i) 1 (λ e. d (n .tag ∙ e))
+
+  pub container : node .tag ≡ 1 → isContainer s i ≡ true
+  container e = eq-eqb (tagOf s i) 1 (sym (n .tag) ∙ e)
+
 -- ---- a node of the parts
 
 module _ (ns cs ms ss : List ℕ) (i base depth : ℕ) (w₀ : List ℕ) where
@@ -134,3 +147,28 @@ module _ (ns cs ms ss : List ℕ) (i base depth : ℕ) (w₀ : List ℕ) where
     enter-pushed z c₂ e₂ w₂ r₂ d q k =
         second-pushed (childRule here i) (childAt here i) (namedRule here i) (namedNode here i) (childrenOf here i) (namedOf here i) base depth w₀ w₁ r₁ first-run z
         w₂ r₂ d (rw (children-many c, named-many c, ← e₁, ← e₂) (named-here c₂ (depth + c₁) w₁ w₂ r₂ q)) (rw (children-many c, named-many c, ← e₁, ← e₂) k)
+
+  -- ---- a container by the words that the code reads
+
+  module _ (node : NodeRecord) (n : IsNode here i node) where
+    -- its entries are there, and there are words for them
+    pub record Room : Type 0 where
+      pub children : node .f3 + node .f4 ≤ childCount here
+      pub named : node .f5 + node .f6 ≤ namedCount here
+      pub words : base + depth + node .f4 + node .f6 ≤ length w₀
+      pub children-start : node .f3 ≡ f (partsOf ns cs [] []) i 3
+      pub named-start : node .f5 ≡ f (partsOf ns [] ms ss) i 5
+
+    pub room : Fit here → i < nodeCount here → base + depth + length (reverse (entryNodes here i)) ≤ length w₀ → node .tag ≡ 1 → Room
+    unfolding nodeWord
+    room fit h enough t =
+        let c = container here i node n t in
+        let g = fit .ranges i h c in
+        let k : length (reverse (entryNodes here i)) ≡ childrenOf here i + namedOf here i = length-reverse (entryNodes here i) ∙ length-entries here i in
+        record {
+          children = omega (arith, n .f3, n .f4, g .children);
+          named = omega (arith, n .f5, n .f6, g .named);
+          words = omega (arith, children-many c, named-many c, n .f4, n .f6);
+          children-start = n .f3;
+          named-start = n .f5;
+        }

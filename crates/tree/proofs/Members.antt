@@ -236,6 +236,18 @@ unfolding allOf
 all-so zero g h = refl
 all-so (suc n) g h = and-true (allOf n g) (g n) (all-so n g (λ i k. h i (omega arith))) (h n (omega arith))
 
+-- one more number that passes; one that does not
+pub all-next : (n : ℕ) (g : ℕ → Bool) → allOf n g ≡ true → g n ≡ true → allOf (suc n) g ≡ true
+unfolding allOf
+all-next n g p q = and-true (allOf n g) (g n) p q
+
+pub all-fails : (n i : ℕ) (g : ℕ → Bool) → i < n → g i ≡ false → allOf n g ≡ false
+all-fails n i g h e = go (allOf n g) refl
+  where
+    go : (b : Bool) → allOf n g ≡ b → b ≡ false
+    go true q = absurd (false≢true (sym e ∙ all-of n g q i h))
+    go false q = refl
+
 pub sum-ext : (n : ℕ) (a b : ℕ → ℕ) → ((i : ℕ) → i < n → a i ≡ b i) → sumOf n a ≡ sumOf n b
 unfolding sumOf
 sum-ext zero a b h = refl

@@ -2,7 +2,7 @@
 use Prim.Native.Nat.{ℕ, zero, suc, _+_}
 use mathlib.Core.Path.{_≡_}
 use mathlib.Core.List.{List, [], _∷_, _++_, reverse}
-use mathlib.Core.Bool.{cond}
+use mathlib.Core.Bool.{Bool, cond, not}
 use lib.ListN.{length, getD, take, drop}
 use lib.Dec.{eqb}
 use Rattle.laws.specs.Refusal.{firstOf}
@@ -17,6 +17,10 @@ stackOf w base (suc d) = getD w (base + d) 0 ∷ stackOf w base d
 unfoldable pub markIn : (ℕ → ℕ) → List ℕ → ℕ → ℕ
 markIn mark [] i = 0
 markIn mark (x ∷ seen) i = let r = markIn mark seen i in cond (eqb i x) (mark (length seen)) r
+
+-- node i's word is not 0
+abbrev pub marked : List ℕ → ℕ → Bool
+marked w i = not (eqb (getD w i 0) 0)
 
 -- what the nodes below n weigh whose words are 0
 unfoldable pub unmarked : ℕ → (ℕ → ℕ) → List ℕ → ℕ

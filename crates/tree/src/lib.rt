@@ -10,7 +10,7 @@ ghost use Rattle.laws.specs.Lists.{has};
 ghost use Rattle.image.specs.Sections.{nodeCount, childCount, namedCount, f, goodText, insideContainer};
 ghost use Rattle.records.specs.Records.{childrenOf, namedOf};
 ghost use Rattle.tree.specs.Tree.{childAt, namedAt, rightChild, childRule, namedRule, entriesRule, entryNodes, loadWalk, treeRule};
-ghost use Rattle.tree.specs.Work.{Pushed, Entered};
+ghost use Rattle.tree.specs.Work.{Pushed, Entered, marked};
 ghost use Rattle.tree.specs.Parts.{partsOf, Fit, LastGood, namedNode, follows};
 use image::refusal;
 use texts::Order;
@@ -174,7 +174,7 @@ fn enter(
         return Step { refused: 0, depth: depth };
     }
     let ordered = node.f4 as usize;
-    let first = push_children(nodes, children, id, node.f3 as usize, ordered, &mut work[..], base, depth);
+    let first = push_children(nodes, children, id, node.f3 as usize, ordered, work, base, depth);
     if first != 0 {
         return Step {
             refused: first,
@@ -197,4 +197,31 @@ fn enter(
         refused: second,
         depth: depth + ordered + count,
     }
+}
+
+// Zero for the first n words.
+pub fn clear(work: &mut [u32], n: usize)
+    requires { ⌜ n ≤ length (now work) ⌝ }
+    ensures { λ r. ⌜ now (work .exit) ≡ replicate n 0 ++ drop n (now (work .entry)) ⌝ }
+{
+    let mut i = 0;
+    while i < n {
+        work[i] = 0;
+        i += 1;
+    }
+}
+
+// Whether none of the first n words is 0.
+fn all_marked(work: &[u32], n: usize) -> bool
+    requires { ⌜ n ≤ length (now work) ⌝ }
+    ensures { λ r. ⌜ r ≡ allOf n (marked (now (work .entry))) ⌝ }
+{
+    let mut i = 0;
+    while i < n {
+        if work[i] == 0 {
+            return false;
+        }
+        i += 1;
+    }
+    true
 }
