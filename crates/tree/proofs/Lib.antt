@@ -8,3 +8,4 @@ pub mod Stack
 pub mod Machine
 pub mod Tests
 pub mod Entering
+pub mod Loading

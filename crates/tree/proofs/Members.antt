@@ -248,6 +248,11 @@ all-fails n i g h e = go (allOf n g) refl
     go true q = absurd (false≢true (sym e ∙ all-of n g q i h))
     go false q = refl
 
+pub all-ext : (n : ℕ) (a b : ℕ → Bool) → ((i : ℕ) → i < n → a i ≡ b i) → allOf n a ≡ allOf n b
+unfolding allOf
+all-ext zero a b h = refl
+all-ext (suc n) a b h = rw (all-ext n a b (λ i k. h i (omega arith)), h n (omega arith)) refl
+
 pub sum-ext : (n : ℕ) (a b : ℕ → ℕ) → ((i : ℕ) → i < n → a i ≡ b i) → sumOf n a ≡ sumOf n b
 unfolding sumOf
 sum-ext zero a b h = refl

@@ -10,7 +10,7 @@ ghost use Rattle.laws.specs.Lists.{has};
 ghost use Rattle.image.specs.Sections.{nodeCount, childCount, namedCount, f, goodText, insideContainer};
 ghost use Rattle.records.specs.Records.{childrenOf, namedOf};
 ghost use Rattle.tree.specs.Tree.{childAt, namedAt, rightChild, childRule, namedRule, entriesRule, entryNodes, loadWalk, treeRule};
-ghost use Rattle.tree.specs.Work.{Pushed, Entered, marked};
+ghost use Rattle.tree.specs.Work.{Pushed, Entered, Loaded, treeWords, marked};
 ghost use Rattle.tree.specs.Parts.{partsOf, Fit, LastGood, namedNode, follows};
 use image::refusal;
 use texts::Order;
@@ -224,4 +224,49 @@ fn all_marked(work: &[u32], n: usize) -> bool
         i += 1;
     }
     true
+}
+
+// The walk from the root, newest entry first: marks in the first `count` words, which are 0, and the stack behind them.
+fn walk(nodes: &[u8], children: &[u8], named: &[u8], strings: &[u8], work: &mut [u32], count: usize) -> u32
+    requires { ⌜ Fit (partsOf (now nodes) (now children) (now named) (now strings)) ⌝ }
+    requires { ⌜ count ≡ nodeCount (partsOf (now nodes) (now children) (now named) (now strings)) ⌝ }
+    requires { ⌜ treeWords (partsOf (now nodes) (now children) (now named) (now strings)) ≤ length (now work) ⌝ }
+    requires { ⌜ ((i : ℕ) → i < count → getD (now work) i 0 ≡ 0) ⌝ }
+    ensures { λ r. ⌜ Loaded (partsOf (now (nodes .entry)) (now (children .entry)) (now (named .entry)) (now (strings .entry))) (now (work .entry)) (now (work .exit)) r ⌝ }
+{
+    work[count] = 0;
+    let mut depth = 1;
+    while 0 < depth {
+        depth -= 1;
+        let id = work[count + depth] as usize;
+        if work[id] == 0 {
+            work[id] = 1;
+            let step = enter(nodes, children, named, strings, id, work, count, depth);
+            if step.refused != 0 {
+                return step.refused;
+            }
+            depth = step.depth;
+        }
+    }
+    0
+}
+
+// Rows 14 (with 9 for a named target) and 15 of sections whose record rules have passed. The words that it needs are not zero afterwards.
+pub fn tree_rule(nodes: &[u8], children: &[u8], named: &[u8], strings: &[u8], work: &mut [u32]) -> u32
+    requires { ⌜ Fit (partsOf (now nodes) (now children) (now named) (now strings)) ⌝ }
+    requires { ⌜ treeWords (partsOf (now nodes) (now children) (now named) (now strings)) ≤ length (now work) ⌝ }
+    ensures answer { λ r. ⌜ r ≡ treeRule (partsOf (now (nodes .entry)) (now (children .entry)) (now (named .entry)) (now (strings .entry))) ⌝ }
+    ensures rest { λ r. ⌜ drop (treeWords (partsOf (now (nodes .entry)) (now (children .entry)) (now (named .entry)) (now (strings .entry)))) (now (work .exit)) ≡ drop (treeWords (partsOf (now (nodes .entry)) (now (children .entry)) (now (named .entry)) (now (strings .entry)))) (now (work .entry)) ⌝ }
+{
+    let count = nodes.len() / 40;
+    clear(work, count);
+    let refused = walk(nodes, children, named, strings, work, count);
+    if refused != 0 {
+        return refused;
+    }
+    if all_marked(work, count) {
+        0
+    } else {
+        refusal::UNREACHED
+    }
 }
