@@ -93,7 +93,7 @@ module _ (s : Sections) (count : ℕ) (e : count ≡ nodeCount s) (c : Counts s)
 
         -- it is taken
         module _ (w₁ : List ℕ) (r d′ : ℕ) (entered : Entered (entriesRule s v) (backwards s v) count (d - 1) (set w v 1) w₁ r d′)
-          (kept : length w₁ ≡ length (set w v 1)) where
+            (kept : length w₁ ≡ length (set w v 1)) where
           pub load-less : r ≡ 0 → loadTurns s count w₁ d′ < loadTurns s count w d
           load-less = walk-less (entriesRule s) (backwards s) one count count (entries s) here (set w₀ count 0) w d inv v h top z 1 refl w₁ r d′ entered kept
 

@@ -1,6 +1,6 @@
 -- Laws of lists of numbers: what holds of every element, membership, distinct numbers, sums over the numbers below a count.
 -- Assumes nothing.
-use Prim.Native.Nat.{ℕ, zero, suc, _+_, _≤_, _<_, suc-le-suc, zero-le}
+use Prim.Native.Nat.{ℕ, zero, suc, _+_, _-_, _≤_, _<_, suc-le-suc, zero-le}
 use mathlib.Core.Path.{_≡_, refl, sym, ap, _∙_, subst}
 use mathlib.Core.List.{List, [], _∷_, _++_, reverse, reverseAux, reverse-append}
 use mathlib.Core.Bool.{Bool, true, false, cond, _&&_, _||_, not, false≢true}
@@ -124,6 +124,27 @@ length-join (suc n) g = length-append (joinOf n (λ j. g j ∷ [])) (g n ∷ [])
 pub reverse-join : (n : ℕ) (g : ℕ → ℕ) → reverse (joinOf (suc n) (λ j. g j ∷ [])) ≡ g n ∷ reverse (joinOf n (λ j. g j ∷ []))
 unfolding joinOf
 reverse-join n g = reverse-append (joinOf n (λ j. g j ∷ [])) (g n ∷ [])
+
+pub join-ext : (n : ℕ) (a b : ℕ → ℕ) → ((i : ℕ) → i < n → a i ≡ b i) → joinOf n (λ j. a j ∷ []) ≡ joinOf n (λ j. b j ∷ [])
+unfolding joinOf
+join-ext zero a b h = refl
+join-ext (suc n) a b h = rw (join-ext n a b (λ i k. h i (omega arith)), h n (omega arith)) refl
+
+join-front : (n : ℕ) (g : ℕ → ℕ) → joinOf (suc n) (λ j. g j ∷ []) ≡ g 0 ∷ joinOf n (λ j. g (suc j) ∷ [])
+unfolding joinOf
+join-front zero g = refl
+join-front (suc n) g = ap (λ (l : List ℕ). l ++ (g (suc n) ∷ [])) (join-front n g)
+
+-- numbers taken from the last to the first, and read backwards, stand in their order
+pub reverse-down : (n : ℕ) (g : ℕ → ℕ) → reverse (joinOf n (λ j. g (n - 1 - j) ∷ [])) ≡ joinOf n (λ j. g j ∷ [])
+reverse-down zero g = unfold joinOf in refl
+reverse-down (suc n) g =
+    let e : suc n - 1 - n ≡ 0 = omega arith in
+    reverse-join n (λ j. g (suc n - 1 - j))
+    ∙ rw e
+    (ap (λ (l : List ℕ). g 0 ∷ l)
+    (ap reverse (join-ext n (λ j. g (suc n - 1 - j)) (λ j. g (suc (n - 1 - j))) (λ j h. ap g (omega arith))) ∙ reverse-down n (λ j. g (suc j)))
+    ∙ sym (join-front n g))
 
 -- ---- distinct numbers
 

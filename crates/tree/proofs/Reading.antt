@@ -69,9 +69,11 @@ module _ (s : Sections) where
     unfolding loadWalk
     closed =
         walk-closed (nodeCount s) (entriesRule s) (backwards s) (λ i h e. down i h) (turns s) (0 ∷ []) (c .some, tt)
-        (omega
-        (arith, entries-counted s c,
-        sum-ext (nodeCount s) (λ i. length (backwards s i)) (λ i. length (entryNodes s i)) (λ i h. length-reverse (entryNodes s i))))
+        (omega (
+          arith,
+          entries-counted s c,
+          sum-ext (nodeCount s) (λ i. length (backwards s i)) (λ i. length (entryNodes s i)) (λ i h. length-reverse (entryNodes s i)),
+        ))
         never-refused
 
     -- a reached node is marked

@@ -171,10 +171,22 @@ fn enter(
 {
     let node = image::node_record(nodes, id);
     if node.tag != 1 {
-        return Step { refused: 0, depth: depth };
+        return Step {
+            refused: 0,
+            depth: depth,
+        };
     }
     let ordered = node.f4 as usize;
-    let first = push_children(nodes, children, id, node.f3 as usize, ordered, work, base, depth);
+    let first = push_children(
+        nodes,
+        children,
+        id,
+        node.f3 as usize,
+        ordered,
+        work,
+        base,
+        depth,
+    );
     if first != 0 {
         return Step {
             refused: first,
@@ -227,7 +239,14 @@ fn all_marked(work: &[u32], n: usize) -> bool
 }
 
 // The walk from the root, newest entry first: marks in the first `count` words, which are 0, and the stack behind them.
-fn walk(nodes: &[u8], children: &[u8], named: &[u8], strings: &[u8], work: &mut [u32], count: usize) -> u32
+fn walk(
+    nodes: &[u8],
+    children: &[u8],
+    named: &[u8],
+    strings: &[u8],
+    work: &mut [u32],
+    count: usize,
+) -> u32
     requires { ⌜ Fit (partsOf (now nodes) (now children) (now named) (now strings)) ⌝ }
     requires { ⌜ count ≡ nodeCount (partsOf (now nodes) (now children) (now named) (now strings)) ⌝ }
     requires { ⌜ treeWords (partsOf (now nodes) (now children) (now named) (now strings)) ≤ length (now work) ⌝ }
@@ -252,7 +271,13 @@ fn walk(nodes: &[u8], children: &[u8], named: &[u8], strings: &[u8], work: &mut 
 }
 
 // Rows 14 (with 9 for a named target) and 15 of sections whose record rules have passed. The words that it needs are not zero afterwards.
-pub fn tree_rule(nodes: &[u8], children: &[u8], named: &[u8], strings: &[u8], work: &mut [u32]) -> u32
+pub fn tree_rule(
+    nodes: &[u8],
+    children: &[u8],
+    named: &[u8],
+    strings: &[u8],
+    work: &mut [u32],
+) -> u32
     requires { ⌜ Fit (partsOf (now nodes) (now children) (now named) (now strings)) ⌝ }
     requires { ⌜ treeWords (partsOf (now nodes) (now children) (now named) (now strings)) ≤ length (now work) ⌝ }
     ensures answer { λ r. ⌜ r ≡ treeRule (partsOf (now (nodes .entry)) (now (children .entry)) (now (named .entry)) (now (strings .entry))) ⌝ }

@@ -1,3 +1,4 @@
+-- `tree::all_marked` meets its contract. Assumes nothing.
 use Prim.Native.Nat.{_≤_, _-_}
 use mathlib.Core.Path.{_≡_, refl, sym, _∙_, ap}
 use mathlib.Core.Bool.{true, not}
@@ -10,8 +11,6 @@ use Rattle.tree.proofs.Members.{all-next, all-fails}
 use borrow.Author.Needs.{needs}
 use Rattle.tree.proofs.all_marked.Statement.{statement}
 use Rattle.tree.proofs.all_marked.Tie as tie
-use Rattle.tree.proofs.all_marked.Reads as reads
-use Rattle.tree.proofs.all_marked.Lts as lts
 
 abbrev Inv-loop : tie.InvT-loop
 Inv-loop work n i₀ i = (i ≤ n) × (allOf i (marked work) ≡ true)

@@ -8,8 +8,6 @@ use lib.ListN.{length, length-set, drop, replicate}
 use borrow.Author.Needs.{needs}
 use Rattle.tree.proofs.clear.Statement.{statement}
 use Rattle.tree.proofs.clear.Tie as tie
-use Rattle.tree.proofs.clear.Reads as reads
-use Rattle.tree.proofs.clear.Lts as lts
 
 abbrev Inv-loop : tie.InvT-loop
 Inv-loop work₀ n i₀ work i = (i ≤ n) × (length work ≡ length work₀) × (work ≡ replicate i 0 ++ drop i work₀)

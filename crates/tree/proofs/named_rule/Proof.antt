@@ -1,3 +1,4 @@
+-- `tree::named_rule` meets its contract. Assumes nothing.
 use mathlib.Core.Path.{_≡_, sym, _∙_}
 use mathlib.Core.Bool.{true, false}
 use native.Mathlib.Omega.{arith}
@@ -8,15 +9,7 @@ use Rattle.tree.proofs.Tests.{Reading, bad-text, bad-order, bad-target,
 use borrow.Author.Needs.{needs}
 use Rattle.tree.proofs.named_rule.Statement.{statement}
 use Rattle.tree.proofs.named_rule.Tie as tie
-use Rattle.tree.proofs.named_rule.Reads as reads
-use Rattle.tree.proofs.named_rule.Lts as lts
-use Rattle.image.proofs.good_text.Reads as good-text-reads
-use Rattle.image.proofs.part_word.Reads as part-word-reads
-use Rattle.image.proofs.text_entry.Reads as text-entry-reads
-use Rattle.tree.proofs.follows_last.Reads as follows-last-reads
-use Rattle.tree.proofs.is_container.Reads as is-container-reads
 
--- src/lib.rt:77:9
 -- what is known once the entry is read, its text is good, it follows, its target is a container
 abbrev St : tie.After-text-entry → tie.Start
 St c = c .before .before .before .before
@@ -27,54 +20,43 @@ reading c = record { where-at = St c .pre .1 .0; last = St c .pre .1 .1; read = 
 text-entry-requires : tie.Need-text-entry-requires
 text-entry-requires c κs = search needs
 
--- src/lib.rt:78:9
 good-text-requires : tie.Need-good-text-requires
 good-text-requires c κs = search needs
 
--- src/lib.rt:79:9
 returns : tie.Need-returns
 returns c = sym (bad-text _ _ _ _ _ _ _ (reading (c .before .before)) (sym (c .before .good-text .ensures) ∙ not-true _ (c .if1 .taken)))
 
--- src/lib.rt:81:9
 follows-last-requires : tie.Need-follows-last-requires
 follows-last-requires c κs = search needs
 
--- src/lib.rt:82:9
 returns-2 : tie.Need-returns-2
 returns-2 c =
     sym
     (bad-order _ _ _ _ _ _ _ (reading (c .before .before .before .before)) (sym (c .before .before .before .good-text .ensures) ∙ not-false _ (c .before .before .if1 .left))
     (sym (c .before .follows-last .ensures) ∙ not-true _ (c .if2 .taken)))
 
--- src/lib.rt:84:9
 is-container-requires : tie.Need-is-container-requires
 is-container-requires c κs = search needs
 
--- src/lib.rt:85:9
 returns-3 : tie.Need-returns-3
 returns-3 c =
     sym
     (bad-target _ _ _ _ _ _ _ (reading (c .before .before .before .before .before .before)) (sym (c .before .before .before .before .before .good-text .ensures) ∙ not-false _ (c .before .before .before .before .if1 .left))
     (sym (c .before .before .before .follows-last .ensures) ∙ not-false _ (c .before .before .if2 .left)) (sym (c .before .is-container .ensures) ∙ not-true _ (c .if3 .taken)))
 
--- src/lib.rt:87:32
 cast-part-word : tie.Need-cast-part-word
 cast-part-word c = search needs
 
--- src/lib.rt:87:32
 mul-part-word : tie.Need-mul-part-word
 mul-part-word c = search needs
 
--- src/lib.rt:87:8
 part-word-requires : tie.Need-part-word-requires
 part-word-requires c κs =
     omega (arith, container-bytes _ _ (sym (c .before .before .is-container .ensures) ∙ not-false _ (c .before .if3 .left)))
 
--- src/lib.rt:87:8
 cast-if4 : tie.Need-cast-if4
 cast-if4 c = search needs
 
--- src/lib.rt:71:1
 returns-4 : tie.Need-returns-4
 returns-4 c =
     sym
@@ -82,7 +64,6 @@ returns-4 c =
     (sym (c .before .before .before .before .before .before .follows-last .ensures) ∙ not-false _ (c .before .before .before .before .before .if2 .left))
     (sym (c .before .before .before .before .is-container .ensures) ∙ not-false _ (c .before .before .before .if3 .left)) _ (c .before .part-word .ensures) (c .if4 .taken))
 
--- src/lib.rt:71:1
 returns-5 : tie.Need-returns-5
 returns-5 c =
     sym

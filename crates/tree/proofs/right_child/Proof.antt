@@ -1,54 +1,41 @@
+-- `tree::right_child` meets its contract. Assumes nothing.
 use borrow.Author.Needs.{needs}
 use mathlib.Core.Path.{sym, _∙_}
 use Rattle.tree.proofs.Tests.{outside-child, none-child, astray-child, place-child}
 use Rattle.tree.proofs.right_child.Statement.{statement}
 use Rattle.tree.proofs.right_child.Tie as tie
-use Rattle.tree.proofs.right_child.Reads as reads
-use Rattle.tree.proofs.right_child.Lts as lts
-use Rattle.image.proofs.part_word.Reads as part-word-reads
 
--- src/lib.rt:24:9
 returns : tie.Need-returns
 returns c = sym (outside-child _ _ _ _ (c .if1 .taken))
 
--- src/lib.rt:27:9
 returns-2 : tie.Need-returns-2
 returns-2 c = sym (none-child _ _ _ _ (c .if2 .taken))
 
--- src/lib.rt:29:32
 mul-part-word : tie.Need-mul-part-word
 mul-part-word c = search needs
 
--- src/lib.rt:29:8
 part-word-requires : tie.Need-part-word-requires
 part-word-requires c κs = search needs
 
--- src/lib.rt:29:8
 cast-if3 : tie.Need-cast-if3
 cast-if3 c = search needs
 
--- src/lib.rt:30:9
 returns-3 : tie.Need-returns-3
 returns-3 c =
     sym (astray-child _ _ _ _ _ (c .before .before .before .if1 .left) (c .before .before .if2 .left) (c .before .part-word .ensures) (c .if3 .taken))
 
--- src/lib.rt:32:29
 mul-part-word-2 : tie.Need-mul-part-word-2
 mul-part-word-2 c = search needs
 
--- src/lib.rt:32:29
 add-part-word : tie.Need-add-part-word
 add-part-word c = search needs
 
--- src/lib.rt:32:5
 part-word-requires-2 : tie.Need-part-word-requires-2
 part-word-requires-2 c κs = search needs
 
--- src/lib.rt:32:5
 cast-result : tie.Need-cast-result
 cast-result c = search needs
 
--- src/lib.rt:19:1
 returns-4 : tie.Need-returns-4
 returns-4 c =
     sym
