@@ -7,6 +7,8 @@ ghost use Rattle.image.specs.Sections.{goodIn, optionalIn, textIn};
 ghost use Rattle.image.specs.Header.{sectionBytes};
 ghost use Rattle.image.specs.Entries.{recordOf, textEntryOf, definitionOf};
 
+pub mod refusal;
+
 // Where a section begins, in bytes, and how many entries it has.
 pub struct Section {
     pub offset: u32,
@@ -137,4 +139,33 @@ pub fn text_part(strings: &[u8], offset: u32, len: u32) -> &[u8]
     } else {
         &strings[..0]
     }
+}
+
+// Whether a text is present, inside the strings and UTF-8.
+pub fn good_text(strings: &[u8], offset: u32, len: u32) -> bool
+    ensures { λ r. ⌜ r ≡ goodIn (now (strings .entry)) offset len ⌝ }
+{
+    if offset == NONE {
+        return false;
+    }
+    if len == NONE {
+        return false;
+    }
+    let start = offset as usize;
+    let end = start + len as usize;
+    if end <= strings.len() {
+        utf8::valid(&strings[start..end])
+    } else {
+        false
+    }
+}
+
+// Whether an optional text is absent or good; with one word NONE it is neither.
+pub fn good_optional(strings: &[u8], offset: u32, len: u32) -> bool
+    ensures { λ r. ⌜ r ≡ optionalIn (now (strings .entry)) offset len ⌝ }
+{
+    if offset != NONE {
+        return good_text(strings, offset, len);
+    }
+    if len == NONE { true } else { false }
 }
