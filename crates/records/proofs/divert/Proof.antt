@@ -1,0 +1,53 @@
+use borrow.Author.Needs.{needs}
+use Rattle.records.proofs.divert.Statement.{statement}
+use Rattle.records.proofs.divert.Tie as tie
+use Rattle.records.proofs.divert.Reads as reads
+use Rattle.records.proofs.divert.Lts as lts
+use Rattle.image.proofs.good_optional.Reads as good-optional-reads
+use Rattle.records.proofs.at_most.Reads as at-most-reads
+use Rattle.records.proofs.is_optional_node.Reads as is-optional-node-reads
+
+-- src/lib.rt:136:9
+good-optional-requires : tie.Need-good-optional-requires
+good-optional-requires c κs = search needs
+
+-- src/lib.rt:137:9
+returns : tie.Need-returns
+returns c = ?
+
+-- src/lib.rt:139:9
+is-optional-node-requires : tie.Need-is-optional-node-requires
+is-optional-node-requires c κs = search needs
+
+-- src/lib.rt:140:9
+returns-2 : tie.Need-returns-2
+returns-2 c = ?
+
+-- src/lib.rt:142:9
+good-optional-requires-2 : tie.Need-good-optional-requires-2
+good-optional-requires-2 c κs = search needs
+
+-- src/lib.rt:143:9
+returns-3 : tie.Need-returns-3
+returns-3 c = ?
+
+-- src/lib.rt:145:5
+at-most-requires : tie.Need-at-most-requires
+at-most-requires c κs = search needs
+
+-- src/lib.rt:133:1
+returns-4 : tie.Need-returns-4
+returns-4 c = ?
+
+pub divert-spec : {M : Type 1} → statement M
+divert-spec =
+    tie.close
+    (tie.spec
+    good-optional-requires
+    returns
+    is-optional-node-requires
+    returns-2
+    good-optional-requires-2
+    returns-3
+    at-most-requires
+    returns-4)
