@@ -84,88 +84,87 @@ module _ (s : Sections) (i : ℕ) where
     tagged t e = sym (ap (λ (x : NodeRecord). x .tag) (h .node)) ∙ e
 
     pub at-container : r .tag ≡ 1 → containerRule r c u ts ≡ fieldsRule s i
+    unfolding containerRule firstField fieldRule fields kinds
     at-container e =
         let p : containerRule r c u ts ≡ containerRule (nodeIn s i) (countsOf s) (sumsBefore s i) (s .strings) =
             λ j. containerRule (h .node j) (h .counts j) (h .sums j) (h .strings j) in
         p ∙ same ∙ by-kind 1 (tagged 1 e)
       where
         same : containerRule (nodeIn s i) (countsOf s) (sumsBefore s i) (s .strings) ≡ firstField s i (fields (kindOf 1))
-        unfolding containerRule firstField fieldRule fields kinds
         same = simp (skip, last)
 
     target-at : (t : ℕ) → r .tag ≡ t → tag ≡ tagIn s (targetOf s i (kindOf t))
     target-at t e = h .target ∙ ap (λ (x : ℕ). tagIn s (targetOf s i (kindOf x))) (tagged t e)
 
     pub at-choice : r .tag ≡ 2 → choiceRule r (c .nodes) tag ts ≡ fieldsRule s i
+    unfolding choiceRule firstField fieldRule fields kinds targetIn
     at-choice e =
         let p : choiceRule r (c .nodes) tag ts ≡ choiceRule (nodeIn s i) (nodeCount s) (tagIn s (targetOf s i (kindOf 2))) (s .strings) =
             λ j. choiceRule (h .node j) (h .counts j .nodes) (target-at 2 e j) (h .strings j) in
         p ∙ same ∙ by-kind 2 (tagged 2 e)
       where
         same : choiceRule (nodeIn s i) (nodeCount s) (tagIn s (targetOf s i (kindOf 2))) (s .strings) ≡ firstField s i (fields (kindOf 2))
-        unfolding choiceRule firstField fieldRule fields kinds targetIn
         same = simp (tag-told, skip, last)
 
     pub at-divert : r .tag ≡ 4 → divertRule r (c .nodes) ts ≡ fieldsRule s i
+    unfolding divertRule firstField fieldRule fields kinds
     at-divert e =
         let p : divertRule r (c .nodes) ts ≡ divertRule (nodeIn s i) (nodeCount s) (s .strings) =
             λ j. divertRule (h .node j) (h .counts j .nodes) (h .strings j) in
         p ∙ same ∙ by-kind 4 (tagged 4 e)
       where
         same : divertRule (nodeIn s i) (nodeCount s) (s .strings) ≡ firstField s i (fields (kindOf 4))
-        unfolding divertRule firstField fieldRule fields kinds
         same = simp (skip, last)
 
     pub at-target : r .tag ≡ 13 → targetRule r (c .nodes) ts ≡ fieldsRule s i
+    unfolding targetRule firstField fieldRule fields kinds
     at-target e =
         let p : targetRule r (c .nodes) ts ≡ targetRule (nodeIn s i) (nodeCount s) (s .strings) =
             λ j. targetRule (h .node j) (h .counts j .nodes) (h .strings j) in
         p ∙ same ∙ by-kind 13 (tagged 13 e)
       where
         same : targetRule (nodeIn s i) (nodeCount s) (s .strings) ≡ firstField s i (fields (kindOf 13))
-        unfolding targetRule firstField fieldRule fields kinds
         same = simp (skip, last)
 
     pub at-assignment : r .tag ≡ 16 → assignmentRule r ts ≡ fieldsRule s i
+    unfolding assignmentRule firstField fieldRule fields kinds
     at-assignment e =
         let p : assignmentRule r ts ≡ assignmentRule (nodeIn s i) (s .strings) = λ j. assignmentRule (h .node j) (h .strings j) in
         p ∙ same ∙ by-kind 16 (tagged 16 e)
       where
         same : assignmentRule (nodeIn s i) (s .strings) ≡ firstField s i (fields (kindOf 16))
-        unfolding assignmentRule firstField fieldRule fields kinds
         same = simp (skip, last)
 
     pub at-reference : r .tag ≡ 17 → referenceRule r (c .nodes) tag ts ≡ fieldsRule s i
+    unfolding referenceRule firstField fieldRule fields kinds targetIn
     at-reference e =
         let p : referenceRule r (c .nodes) tag ts ≡ referenceRule (nodeIn s i) (nodeCount s) (tagIn s (targetOf s i (kindOf 17))) (s .strings) =
             λ j. referenceRule (h .node j) (h .counts j .nodes) (target-at 17 e j) (h .strings j) in
         p ∙ same ∙ by-kind 17 (tagged 17 e)
       where
         same : referenceRule (nodeIn s i) (nodeCount s) (tagIn s (targetOf s i (kindOf 17))) (s .strings) ≡ firstField s i (fields (kindOf 17))
-        unfolding referenceRule firstField fieldRule fields kinds targetIn
         same = simp (tag-told, skip, last)
 
     pub at-list : r .tag ≡ 12 → listRule r u ps ts ≡ fieldsRule s i
+    unfolding payloadRule listItemRule listOriginRule listWord listRule firstField fieldRule fields kinds
     at-list e =
         let p : listRule r u ps ts ≡ listRule (nodeIn s i) (sumsBefore s i) (s .payload) (s .strings) =
             λ j. listRule (h .node j) (h .sums j) (h .payload j) (h .strings j) in
         p ∙ same ∙ by-kind 12 (tagged 12 e)
       where
         bytes : (at len : ℕ) → payloadRule (bytesOnly (s .payload) (s .strings)) at len ≡ payloadRule s at len
-        unfolding payloadRule listItemRule listOriginRule listWord
         bytes at len = refl
 
         same : listRule (nodeIn s i) (sumsBefore s i) (s .payload) (s .strings) ≡ firstField s i (fields (kindOf 12))
-        unfolding listRule firstField fieldRule fields kinds
         same = simp (bytes, skip, last)
 
     pub at-bool : r .tag ≡ 8 → unless (leb (r .f0) 1) 12 ≡ fieldsRule s i
+    unfolding firstField fieldRule fields kinds
     at-bool e =
         let p : unless (leb (r .f0) 1) 12 ≡ unless (leb (f s i 0) 1) 12 = λ j. unless (leb (h .node j .f0) 1) 12 in
         p ∙ same ∙ by-kind 8 (tagged 8 e)
       where
         same : unless (leb (f s i 0) 1) 12 ≡ firstField s i (fields (kindOf 8))
-        unfolding firstField fieldRule fields kinds
         same = simp last
 
     -- ---- kinds that are a text alone
@@ -180,34 +179,32 @@ module _ (s : Sections) (i : ℕ) where
         p ∙ same ∙ by-kind t (tagged t e)
 
     pub at-command : r .tag ≡ 3 → textRule (r .tag) (r .f0) (r .f1) ts ≡ fieldsRule s i
+    unfolding textRule firstField fieldRule fields kinds
     at-command e = text-at 3 same e
       where
         same : TextOnly 3
-        unfolding textRule firstField fieldRule fields kinds
         same = simp last
 
     pub at-operator : r .tag ≡ 6 → textRule (r .tag) (r .f0) (r .f1) ts ≡ fieldsRule s i
+    unfolding textRule firstField fieldRule fields kinds
     at-operator e = text-at 6 same e
       where
         same : TextOnly 6
-        unfolding textRule firstField fieldRule fields kinds
         same = simp last
 
     pub at-text : (r .tag ≡ 7) ⊎ ((r .tag ≡ 11) ⊎ (r .tag ≡ 14)) → textRule (r .tag) (r .f0) (r .f1) ts ≡ fieldsRule s i
+    unfolding textRule firstField fieldRule fields kinds
     at-text (inl e) = text-at 7 same e
       where
         same : TextOnly 7
-        unfolding textRule firstField fieldRule fields kinds
         same = refl
     at-text (inr (inl e)) = text-at 11 same e
       where
         same : TextOnly 11
-        unfolding textRule firstField fieldRule fields kinds
         same = refl
     at-text (inr (inr e)) = text-at 14 same e
       where
         same : TextOnly 14
-        unfolding textRule firstField fieldRule fields kinds
         same = simp skip
 
     -- ---- kinds without a rule, and no kind
@@ -229,6 +226,7 @@ module _ (s : Sections) (i : ℕ) where
 
   module _ (r : NodeRecord) (c : Counts) (tag : ℕ) (h : ShowsParent s i r c tag) where
     pub parent-shown : (cond (eqb i 0) 0 (unless (containerAmong (c .nodes) (r .parent) tag && not (eqb (r .parent) i)) 9)) ≡ parentRule s i
+    unfolding parentRule
     parent-shown =
         let p : (cond (eqb i 0) 0 (unless (containerAmong (c .nodes) (r .parent) tag && not (eqb (r .parent) i)) 9))
             ≡ (cond (eqb i 0) 0 (unless (containerAmong (nodeCount s) (parentOf s i) (tagIn s (parentOf s i)) && not (eqb (parentOf s i) i)) 9)) =
@@ -236,5 +234,4 @@ module _ (s : Sections) (i : ℕ) where
         p ∙ same
       where
         same : (cond (eqb i 0) 0 (unless (containerAmong (nodeCount s) (parentOf s i) (tagIn s (parentOf s i)) && not (eqb (parentOf s i) i)) 9)) ≡ parentRule s i
-        unfolding parentRule
         same = simp tag-told

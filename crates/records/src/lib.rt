@@ -7,6 +7,7 @@ use image::refusal::BAD_NODE;
 use image::refusal::BAD_RANGE;
 use image::refusal::BAD_TAG;
 use image::refusal::BAD_TEXT;
+use names::Number;
 ghost use mathlib.Core.Path.{_≡_};
 ghost use mathlib.Core.Bool.{_||_};
 ghost use Prim.Native.Nat.{ℕ, suc, _<_};
@@ -14,6 +15,8 @@ ghost use lib.Dec.{leb};
 ghost use lib.ListN.{length};
 ghost use Rattle.laws.specs.Refusal.{unless};
 ghost use Rattle.words.specs.Words.{isNone};
+ghost use Rattle.texts.specs.Text.{holds};
+ghost use Rattle.names.specs.Names.{commands, operators};
 ghost use Rattle.image.specs.Sections.{Sections, tagOf, nodeCount};
 ghost use Rattle.image.specs.Entries.{nodeIn};
 ghost use Rattle.records.specs.Fields.{kindOf};
@@ -145,6 +148,47 @@ fn divert(node: NodeRecord, nodes: usize, strings: &[u8]) -> u32
     at_most(node.f6, 23)
 }
 
+fn is_command(name: &[u8]) -> bool
+    ensures { λ r. ⌜ r ≡ holds commands (now (name .entry)) ⌝ }
+{
+    match names::control_command::command_number(name) {
+        Number::Known(_) => true,
+        Number::Unknown => false,
+    }
+}
+
+fn is_operator(name: &[u8]) -> bool
+    ensures { λ r. ⌜ r ≡ holds operators (now (name .entry)) ⌝ }
+{
+    match names::native_function_call::operator_number(name) {
+        Number::Known(_) => true,
+        Number::Unknown => false,
+    }
+}
+
+// A kind that is a text alone: of a command or an operator, by the tag, its known name.
+fn text_only(tag: u32, offset: u32, len: u32, strings: &[u8]) -> u32
+    ensures { λ r. ⌜ r ≡ textRule tag offset len (now (strings .entry)) ⌝ }
+{
+    if !image::good_text(strings, offset, len) {
+        return BAD_TEXT;
+    }
+    let name = image::text_part(strings, offset, len);
+    if tag == 3 {
+        if is_command(name) {
+            return 0;
+        }
+        return BAD_TAG;
+    }
+    if tag == 6 {
+        if is_operator(name) {
+            return 0;
+        }
+        return BAD_TAG;
+    }
+    0
+}
+
 fn target_value(node: NodeRecord, nodes: usize, strings: &[u8]) -> u32
     ensures { λ r. ⌜ r ≡ targetRule node nodes (now (strings .entry)) ⌝ }
 {
@@ -189,6 +233,35 @@ fn list_value(node: NodeRecord, sums: Sums, payload: &[u8], strings: &[u8]) -> u
         return BAD_RANGE;
     }
     list::payload_rule(payload, strings, node.f0, node.f1)
+}
+
+// The number of the first field rule that the node breaks, or 0. The tag is that of the node's target, 0 where there is none.
+pub fn fields_rule(
+    node: NodeRecord,
+    counts: Counts,
+    sums: Sums,
+    target_tag: u32,
+    payload: &[u8],
+    strings: &[u8],
+) -> u32
+    ensures { λ r. ⌜ ((s : Sections) (i : ℕ) → Shows s i node counts sums «target_tag» (now (payload .entry)) (now (strings .entry)) → r ≡ fieldsRule s i) ⌝ }
+{
+    let tag = node.tag;
+    match tag {
+        1 => container(node, counts, sums, strings),
+        2 => choice(node, counts.nodes, target_tag, strings),
+        4 => divert(node, counts.nodes, strings),
+        5 | 18 => 0,
+        3 | 11 | 14 => text_only(tag, node.f0, node.f1, strings),
+        6..=7 => text_only(tag, node.f0, node.f1, strings),
+        8 => at_most(node.f0, 1),
+        9..=10 => 0,
+        12 => list_value(node, sums, payload, strings),
+        13 => target_value(node, counts.nodes, strings),
+        16 => assignment(node, strings),
+        17 => reference(node, counts.nodes, target_tag, strings),
+        _ => BAD_TAG,
+    }
 }
 
 // The root is a container that has no parent and no place.

@@ -1,15 +1,14 @@
+use Rattle.records.proofs.Tests.{at-most, above}
 use Rattle.records.proofs.at_most.Statement.{statement}
 use Rattle.records.proofs.at_most.Tie as tie
 use Rattle.records.proofs.at_most.Reads as reads
 use Rattle.records.proofs.at_most.Lts as lts
 
--- src/lib.rt:100:1
 returns : tie.Need-returns
-returns c = ?
+returns c = search at-most
 
--- src/lib.rt:100:1
 returns-2 : tie.Need-returns-2
-returns-2 c = ?
+returns-2 c = search above
 
 pub at-most-spec : {M : Type 1} → statement M
 at-most-spec = tie.close (tie.spec returns returns-2)

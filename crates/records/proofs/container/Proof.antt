@@ -1,3 +1,5 @@
+use Rattle.records.proofs.Tests.{rules}
+use Rattle.records.specs.Shown.{containerRule}
 use borrow.Author.Needs.{needs}
 use Rattle.records.proofs.container.Statement.{statement}
 use Rattle.records.proofs.container.Tie as tie
@@ -6,33 +8,30 @@ use Rattle.records.proofs.container.Lts as lts
 use Rattle.image.proofs.good_optional.Reads as good-optional-reads
 use Rattle.records.proofs.is_next.Reads as is-next-reads
 
--- src/lib.rt:109:9
 good-optional-requires : tie.Need-good-optional-requires
 good-optional-requires c κs = search needs
 
--- src/lib.rt:110:9
 returns : tie.Need-returns
-returns c = ?
+unfolding containerRule
+returns c = search rules depth 12
 
--- src/lib.rt:112:9
 is-next-requires : tie.Need-is-next-requires
 is-next-requires c κs = search needs
 
--- src/lib.rt:113:9
 returns-2 : tie.Need-returns-2
-returns-2 c = ?
+unfolding containerRule
+returns-2 c = search rules depth 12
 
--- src/lib.rt:115:9
 is-next-requires-2 : tie.Need-is-next-requires-2
 is-next-requires-2 c κs = search needs
 
--- src/lib.rt:116:9
 returns-3 : tie.Need-returns-3
-returns-3 c = ?
+unfolding containerRule
+returns-3 c = search rules depth 12
 
--- src/lib.rt:106:1
 returns-4 : tie.Need-returns-4
-returns-4 c = ?
+unfolding containerRule
+returns-4 c = search rules depth 12
 
 pub container-spec : {M : Type 1} → statement M
 container-spec =

@@ -1,3 +1,4 @@
+use Rattle.records.proofs.Tests.{other-tag, that-tag}
 use borrow.Author.Needs.{needs}
 use Rattle.records.proofs.is_container.Statement.{statement}
 use Rattle.records.proofs.is_container.Tie as tie
@@ -5,17 +6,14 @@ use Rattle.records.proofs.is_container.Reads as reads
 use Rattle.records.proofs.is_container.Lts as lts
 use Rattle.records.proofs.is_inside.Reads as is-inside-reads
 
--- src/lib.rt:74:9
 returns : tie.Need-returns
-returns c = ?
+returns c = search other-tag
 
--- src/lib.rt:76:5
 is-inside-requires : tie.Need-is-inside-requires
 is-inside-requires c κs = search needs
 
--- src/lib.rt:70:1
 returns-2 : tie.Need-returns-2
-returns-2 c = ?
+returns-2 c = search that-tag
 
 pub is-container-spec : {M : Type 1} → statement M
 is-container-spec = tie.close (tie.spec returns is-inside-requires returns-2)

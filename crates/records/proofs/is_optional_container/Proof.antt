@@ -1,3 +1,4 @@
+use Rattle.records.proofs.Tests.{none-optional, some-optional}
 use borrow.Author.Needs.{needs}
 use Rattle.records.proofs.is_optional_container.Statement.{statement}
 use Rattle.records.proofs.is_optional_container.Tie as tie
@@ -5,17 +6,14 @@ use Rattle.records.proofs.is_optional_container.Reads as reads
 use Rattle.records.proofs.is_optional_container.Lts as lts
 use Rattle.records.proofs.is_container.Reads as is-container-reads
 
--- src/lib.rt:83:9
 returns : tie.Need-returns
-returns c = ?
+returns c = search none-optional
 
--- src/lib.rt:85:5
 is-container-requires : tie.Need-is-container-requires
 is-container-requires c κs = search needs
 
--- src/lib.rt:79:1
 returns-2 : tie.Need-returns-2
-returns-2 c = ?
+returns-2 c = search some-optional
 
 pub is-optional-container-spec : {M : Type 1} → statement M
 is-optional-container-spec = tie.close (tie.spec returns is-container-requires returns-2)

@@ -1,3 +1,5 @@
+use Rattle.records.proofs.Tests.{rules}
+use Rattle.records.specs.Shown.{targetRule}
 use borrow.Author.Needs.{needs}
 use Rattle.records.proofs.target_value.Statement.{statement}
 use Rattle.records.proofs.target_value.Tie as tie
@@ -6,25 +8,23 @@ use Rattle.records.proofs.target_value.Lts as lts
 use Rattle.image.proofs.good_text.Reads as good-text-reads
 use Rattle.records.proofs.is_inside.Reads as is-inside-reads
 
--- src/lib.rt:151:9
 good-text-requires : tie.Need-good-text-requires
 good-text-requires c κs = search needs
 
--- src/lib.rt:152:9
 returns : tie.Need-returns
-returns c = ?
+unfolding targetRule
+returns c = search rules depth 12
 
--- src/lib.rt:154:9
 is-inside-requires : tie.Need-is-inside-requires
 is-inside-requires c κs = search needs
 
--- src/lib.rt:155:9
 returns-2 : tie.Need-returns-2
-returns-2 c = ?
+unfolding targetRule
+returns-2 c = search rules depth 12
 
--- src/lib.rt:148:1
 returns-3 : tie.Need-returns-3
-returns-3 c = ?
+unfolding targetRule
+returns-3 c = search rules depth 12
 
 pub target-value-spec : {M : Type 1} → statement M
 target-value-spec =

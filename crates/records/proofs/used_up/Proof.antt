@@ -3,15 +3,15 @@ use Rattle.records.proofs.used_up.Tie as tie
 use Rattle.records.proofs.used_up.Reads as reads
 use Rattle.records.proofs.used_up.Lts as lts
 
--- src/lib.rt:251:9
+-- src/lib.rt:324:9
 returns : tie.Need-returns
 returns c = ?
 
--- src/lib.rt:254:9
+-- src/lib.rt:327:9
 returns-2 : tie.Need-returns-2
 returns-2 c = ?
 
--- src/lib.rt:247:1
+-- src/lib.rt:320:1
 returns-3 : tie.Need-returns-3
 returns-3 c = ?
 

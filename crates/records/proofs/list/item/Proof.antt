@@ -31,29 +31,29 @@ add-word c = search needs
 word-requires-2 : tie.Need-word-requires-2
 word-requires-2 c κs = search needs
 
--- src/list.rt:19:9
-good-optional-requires : tie.Need-good-optional-requires
-good-optional-requires c κs = search needs
-
--- src/list.rt:20:9
-returns : tie.Need-returns
-returns c = ?
-
--- src/list.rt:22:37
+-- src/list.rt:19:37
 add-word-2 : tie.Need-add-word-2
 add-word-2 c = search needs
 
--- src/list.rt:22:9
+-- src/list.rt:19:9
 word-requires-3 : tie.Need-word-requires-3
 word-requires-3 c κs = search needs
 
--- src/list.rt:23:41
+-- src/list.rt:20:41
 add-word-3 : tie.Need-add-word-3
 add-word-3 c = search needs
 
--- src/list.rt:23:9
+-- src/list.rt:20:9
 word-requires-4 : tie.Need-word-requires-4
 word-requires-4 c κs = search needs
+
+-- src/list.rt:21:9
+good-optional-requires : tie.Need-good-optional-requires
+good-optional-requires c κs = search needs
+
+-- src/list.rt:22:9
+returns : tie.Need-returns
+returns c = ?
 
 -- src/list.rt:24:9
 good-text-requires : tie.Need-good-text-requires
@@ -77,12 +77,12 @@ item-spec =
     word-requires
     add-word
     word-requires-2
-    good-optional-requires
-    returns
     add-word-2
     word-requires-3
     add-word-3
     word-requires-4
+    good-optional-requires
+    returns
     good-text-requires
     returns-2
     returns-3)

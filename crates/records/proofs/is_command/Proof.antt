@@ -1,0 +1,30 @@
+use borrow.Author.Needs.{needs}
+use Rattle.records.proofs.is_command.Statement.{statement}
+use Rattle.records.proofs.is_command.Tie as tie
+use Rattle.records.proofs.is_command.Reads as reads
+use Rattle.records.proofs.is_command.Lts as lts
+use Rattle.names.proofs.control_command.command_number.Reads as command-number-reads
+
+-- src/lib.rt:154:11
+command-number-requires : tie.Need-command-number-requires
+command-number-requires c κs = search needs
+
+-- src/lib.rt:155:29
+enum-told : tie.Need-enum-told
+enum-told c = search needs
+
+-- src/lib.rt:156:28
+enum-told-2 : tie.Need-enum-told-2
+enum-told-2 c = search needs
+
+-- src/lib.rt:151:1
+returns : tie.Need-returns
+returns c = ?
+
+-- src/lib.rt:151:1
+returns-2 : tie.Need-returns-2
+returns-2 c = ?
+
+pub is-command-spec : {M : Type 1} → statement M
+is-command-spec =
+    tie.close (tie.spec command-number-requires enum-told enum-told-2 returns returns-2)
