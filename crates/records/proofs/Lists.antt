@@ -1,7 +1,7 @@
 -- The payload of a list, by the words that the code reads and the tests that it makes. Assumes nothing.
 use Prim.Native.Nat.{ℕ, zero, suc, _+_, _*_, _≤_, _<_}
 use mathlib.Core.Path.{_≡_, refl, sym, ap, _∙_}
-use mathlib.Core.Bool.{Bool, true, false, _&&_}
+use mathlib.Core.Bool.{Bool, true, false, not, _&&_}
 use mathlib.Core.List.{List}
 use native.Mathlib.Omega.{arith}
 use native.Mathlib.Nat.{add-zero}
@@ -14,7 +14,7 @@ use Rattle.words.specs.Words.{wordAt}
 use Rattle.image.specs.Sections.{Sections, goodIn, optionalIn}
 use Rattle.records.specs.Records.{listWord, listItems, listOrigins, listItemWord, listOriginWord, listItemRule, listOriginRule, payloadRule}
 use Rattle.records.specs.Shown.{bytesOnly}
-use Rattle.records.proofs.Tests.{refused}
+use Rattle.records.proofs.Tests.{refused, stop, go, stop-last, go-last}
 
 module _ (ps ts : List ℕ) (at : ℕ) where
   -- ---- items and origins, whose words begin at `from`
@@ -99,3 +99,22 @@ module _ (ps ts : List ℕ) (at : ℕ) where
           h ∙ ap (λ (m : ℕ). firstOf m (listOriginRule (bytesOnly ps ts) at)) (origins-word origins o)
           ∙ sym (second _ _ (ap (λ (m : ℕ). firstOf m (listItemRule (bytesOnly ps ts) at)) (sym (items-word items n)) ∙ sym g ∙ z))
           ∙ sym (second _ _ (pass (exact len) 11 is-exact))
+
+-- ---- an item and an origin, by the flags that the tests gave
+
+module _ (ps ts : List ℕ) (at j from : ℕ) where
+  module _ (a b c d : ℕ) (e : from ≡ at + 8 + j * 20) (ha : a ≡ wordAt ps from) (hb : b ≡ wordAt ps (from + 4)) (hc : c ≡ wordAt ps (from + 8))
+      (hd : d ≡ wordAt ps (from + 12)) (p : Bool) (origin : p ≡ optionalIn ts a b) where
+    pub item-origin : not p ≡ true → 10 ≡ listItemRule (bytesOnly ps ts) at j
+    item-origin n = stop (optionalIn ts a b) p 10 (unless (goodIn ts c d) 10) refl origin n ∙ item-rule ps ts at j from a b c d e ha hb hc hd
+
+    module _ (n : not p ≡ false) (q : Bool) (name : q ≡ goodIn ts c d) where
+      pub item-name : not q ≡ true → 10 ≡ listItemRule (bytesOnly ps ts) at j
+      item-name m =
+          go (optionalIn ts a b) p 10 (unless (goodIn ts c d) 10) 10 origin n (stop-last (goodIn ts c d) q 10 name m)
+          ∙ item-rule ps ts at j from a b c d e ha hb hc hd
+
+      pub item-right : not q ≡ false → 0 ≡ listItemRule (bytesOnly ps ts) at j
+      item-right m =
+          go (optionalIn ts a b) p 10 (unless (goodIn ts c d) 10) 0 origin n (go-last (goodIn ts c d) q 10 name m)
+          ∙ item-rule ps ts at j from a b c d e ha hb hc hd

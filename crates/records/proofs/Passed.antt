@@ -7,6 +7,7 @@ use mathlib.Core.Bool.{Bool, true, false, cond, not, _&&_, _||_, true≢false}
 use mathlib.Core.List.{List, [], _∷_, List·Memᴰ, List·Memᴰ·cases-cons, List·Memᴰ·not-nil}
 use native.Mathlib.Omega.{arith}
 use native.Mathlib.Decide.{ℕ-discrete}
+use native.Mathlib.Nat.{add-zero}
 use lib.ListN.{length}
 use lib.Dec.{leb, ltb, eqb}
 use borrow.Author.Tests.{leb-true, ltb-true, eqb-true, eq-eqb, ne-eqb, not-true}
@@ -19,7 +20,7 @@ use Rattle.names.specs.Names.{commands, operators}
 use Rattle.image.specs.declared.NodeRecord.{NodeRecord}
 use Rattle.image.specs.Entries.{nodeIn}
 use Rattle.image.specs.Sections.{Sections, nodeCount, childCount, namedCount, parentOf, placeOf, tagOf, f, textAt, goodText, goodOptional, inside, isContainer, insideContainer}
-use Rattle.image.proofs.Parts.{both-true}
+use Rattle.image.proofs.Tests.{both-true}
 use Rattle.records.specs.declared.Sums.{Sums}
 use Rattle.records.specs.Fields.{Kind, Container, Choice, Command, Divert, Glue, Operator, Tag, BoolValue, IntValue, FloatValue, StringValue, ListValue, TargetValue, PointerValue, Assignment, Reference, Void, Unknown, Field, text, optional, command, operator, node, optionalNode, container, optionalContainer, atMost, children, named, payload, kinds, kindOf, fields}
 use Rattle.records.specs.Records.{targetIn, targetOf, childrenOf, namedOf, payloadOf, containerOf, childrenBefore, namedBefore, payloadBefore, containersBefore, listItems, listOrigins, listItemWord, listOriginWord, listItemRule, listOriginRule, payloadRule, fieldRule, firstField, fieldsRule, parentRule, nodeRule, rootRight, usedUp}
@@ -254,6 +255,47 @@ within-next s i w p = by (ℕ-discrete (tagOf s i) 1) (ℕ-discrete (tagOf s i) 
 pub within : (s : Sections) (n : ℕ) → ((i : ℕ) → i < n → fieldsRule s i ≡ 0) → Within s n
 within s zero p = within-start s
 within s (suc n) p = within-next s n (within s n (λ i h. p i (omega arith))) (p n (omega arith))
+
+-- the sums before the next node, by the ends of this one's ranges
+
+module _ (s : Sections) (i : ℕ) (u : Sums) (r : NodeRecord) (q : u ≡ sumsBefore s i) (h : r ≡ nodeIn s i) where
+  tag-is : (t : ℕ) → r .tag ≡ t → tagOf s i ≡ t
+  tag-is t e = sym (ap (λ (x : NodeRecord). x .tag) h) ∙ e
+
+  -- sums that stay
+  children-stay : u .children ≡ childrenBefore s i + 0
+  children-stay = ap (λ (x : Sums). x .children) q ∙ sym (add-zero (childrenBefore s i))
+
+  named-stay : u .named ≡ namedBefore s i + 0
+  named-stay = ap (λ (x : Sums). x .named) q ∙ sym (add-zero (namedBefore s i))
+
+  payload-stays : u .payload ≡ payloadBefore s i + 0
+  payload-stays = ap (λ (x : Sums). x .payload) q ∙ sym (add-zero (payloadBefore s i))
+
+  containers-stay : u .containers ≡ containersBefore s i + 0
+  containers-stay = ap (λ (x : Sums). x .containers) q ∙ sym (add-zero (containersBefore s i))
+
+  pub sums-container : r .tag ≡ 1 → fieldsRule s i ≡ 0
+      → _≡_ {A = Sums} (record { children = r .f3 + r .f4; named = r .f5 + r .f6; payload = u .payload; containers = u .containers + 1 }) (sumsBefore s (suc i))
+  sums-container e p =
+      let g = ranges s i (eq-eqb (tagOf s i) 1 (tag-is 1 e)) p in
+      let start : r .f3 ≡ childrenBefore s i = ap (λ (x : NodeRecord). x .f3) h ∙ g .children-start in
+      let named-start : r .f5 ≡ namedBefore s i = ap (λ (x : NodeRecord). x .f5) h ∙ g .named-start in
+      (λ j. record { children = start j + h j .f4; named = named-start j + h j .f6; payload = payload-stays j; containers = q j .containers + 1 })
+      ∙ sym (next-sums s i (container-counts s i (tag-is 1 e)))
+
+  pub sums-list : r .tag ≡ 12 → fieldsRule s i ≡ 0
+      → _≡_ {A = Sums} (record { children = u .children; named = u .named; payload = r .f0 + r .f1; containers = u .containers }) (sumsBefore s (suc i))
+  sums-list e p =
+      let start : r .f0 ≡ payloadBefore s i = ap (λ (x : NodeRecord). x .f0) h ∙ payload-range s i (tag-is 12 e) p .0 in
+      (λ j. record { children = children-stay j; named = named-stay j; payload = start j + h j .f1; containers = containers-stay j })
+      ∙ sym (next-sums s i (list-counts s i (tag-is 12 e)))
+
+  pub sums-other : (r .tag ≡ 1 → ⊥) → (r .tag ≡ 12 → ⊥) → u ≡ sumsBefore s (suc i)
+  sums-other d e =
+      let same : r .tag ≡ tagOf s i = ap (λ (x : NodeRecord). x .tag) h in
+      (λ j. record { children = children-stay j; named = named-stay j; payload = payload-stays j; containers = containers-stay j })
+      ∙ sym (next-sums s i (other-counts s i (λ t. d (same ∙ t)) (λ t. e (same ∙ t))))
 
 -- ---- nothing left over
 

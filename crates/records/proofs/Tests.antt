@@ -27,6 +27,13 @@ stop-last t r k e h = sym (fail t k (sym e ∙ not-true r h))
 pub go-last : (t r : Bool) (k : ℕ) → r ≡ t → not r ≡ false → 0 ≡ unless t k
 go-last t r k e h = sym (pass t k (sym e ∙ not-false r h))
 
+-- the test is whether two numbers are equal
+pub stop-unequal : (x y k b : ℕ) → leb 1 k ≡ true → (x ≡ y → ⊥) → k ≡ (unless (eqb x y) k ▸ b)
+stop-unequal x y k b p d = stop (eqb x y) false k b p (sym (ne-eqb x y d)) refl
+
+pub go-equal : (x y k b v : ℕ) → x ≡ y → v ≡ b → v ≡ (unless (eqb x y) k ▸ b)
+go-equal x y k b v e q = go (eqb x y) true k b v (sym (eq-eqb x y e)) refl q
+
 pub ruleset rules = (stop, go, stop-last, go-last)
 
 pub skip : (b : ℕ) → (0 ▸ b) ≡ b

@@ -1,3 +1,5 @@
+use mathlib.Core.Path.{_≡_}
+use Rattle.records.proofs.Texts.{known-name, unknown-name}
 use borrow.Author.Needs.{needs}
 use Rattle.records.proofs.is_command.Statement.{statement}
 use Rattle.records.proofs.is_command.Tie as tie
@@ -5,25 +7,20 @@ use Rattle.records.proofs.is_command.Reads as reads
 use Rattle.records.proofs.is_command.Lts as lts
 use Rattle.names.proofs.control_command.command_number.Reads as command-number-reads
 
--- src/lib.rt:154:11
 command-number-requires : tie.Need-command-number-requires
 command-number-requires c κs = search needs
 
--- src/lib.rt:155:29
 enum-told : tie.Need-enum-told
 enum-told c = search needs
 
--- src/lib.rt:156:28
 enum-told-2 : tie.Need-enum-told-2
 enum-told-2 c = search needs
 
--- src/lib.rt:151:1
 returns : tie.Need-returns
-returns c = ?
+returns c = known-name _ _ _ _ (c .before .before .command-number .ensures) (c .enum-told .given .1)
 
--- src/lib.rt:151:1
 returns-2 : tie.Need-returns-2
-returns-2 c = ?
+returns-2 c = unknown-name _ _ _ (c .before .before .command-number .ensures) (c .enum-told2 .given .1)
 
 pub is-command-spec : {M : Type 1} → statement M
 is-command-spec =

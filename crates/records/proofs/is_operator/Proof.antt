@@ -1,3 +1,5 @@
+use mathlib.Core.Path.{_≡_}
+use Rattle.records.proofs.Texts.{known-name, unknown-name}
 use borrow.Author.Needs.{needs}
 use Rattle.records.proofs.is_operator.Statement.{statement}
 use Rattle.records.proofs.is_operator.Tie as tie
@@ -5,25 +7,20 @@ use Rattle.records.proofs.is_operator.Reads as reads
 use Rattle.records.proofs.is_operator.Lts as lts
 use Rattle.names.proofs.native_function_call.operator_number.Reads as operator-number-reads
 
--- src/lib.rt:163:11
 operator-number-requires : tie.Need-operator-number-requires
 operator-number-requires c κs = search needs
 
--- src/lib.rt:164:29
 enum-told : tie.Need-enum-told
 enum-told c = search needs
 
--- src/lib.rt:165:28
 enum-told-2 : tie.Need-enum-told-2
 enum-told-2 c = search needs
 
--- src/lib.rt:160:1
 returns : tie.Need-returns
-returns c = ?
+returns c = known-name _ _ _ _ (c .before .before .operator-number .ensures) (c .enum-told .given .1)
 
--- src/lib.rt:160:1
 returns-2 : tie.Need-returns-2
-returns-2 c = ?
+returns-2 c = unknown-name _ _ _ (c .before .before .operator-number .ensures) (c .enum-told2 .given .1)
 
 pub is-operator-spec : {M : Type 1} → statement M
 is-operator-spec =

@@ -1,3 +1,4 @@
+use Rattle.records.proofs.ByKind.{parent-of-root, parent-missing, parent-self, parent-right}
 use borrow.Author.Needs.{needs}
 use Rattle.records.proofs.parent_rule.Statement.{statement}
 use Rattle.records.proofs.parent_rule.Tie as tie
@@ -5,29 +6,23 @@ use Rattle.records.proofs.parent_rule.Reads as reads
 use Rattle.records.proofs.parent_rule.Lts as lts
 use Rattle.records.proofs.is_container.Reads as is-container-reads
 
--- src/lib.rt:285:9
 returns : tie.Need-returns
-returns c = ?
+returns c = λ s h. parent-of-root s _ _ _ _ h (search needs)
 
--- src/lib.rt:287:9
 is-container-requires : tie.Need-is-container-requires
 is-container-requires c κs = search needs
 
--- src/lib.rt:288:9
 returns-2 : tie.Need-returns-2
-returns-2 c = ?
+returns-2 c = λ s h. parent-missing s _ _ _ _ h (search needs) _ (c .before .is-container .ensures) (c .if2 .taken)
 
--- src/lib.rt:290:8
 cast-if3 : tie.Need-cast-if3
 cast-if3 c = search needs
 
--- src/lib.rt:291:9
 returns-3 : tie.Need-returns-3
-returns-3 c = ?
+returns-3 c = λ s h. parent-self s _ _ _ _ h (search needs) _ (c .before .before .is-container .ensures) (c .before .if2 .left) (c .if3 .taken)
 
--- src/lib.rt:281:1
 returns-4 : tie.Need-returns-4
-returns-4 c = ?
+returns-4 c = λ s h. parent-right s _ _ _ _ h (search needs) _ (c .before .before .is-container .ensures) (c .before .if2 .left) (c .if3 .left)
 
 pub parent-rule-spec : {M : Type 1} → statement M
 parent-rule-spec =

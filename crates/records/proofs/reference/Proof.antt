@@ -1,3 +1,5 @@
+use Rattle.records.proofs.Tests.{rules}
+use Rattle.records.specs.Shown.{referenceRule}
 use borrow.Author.Needs.{needs}
 use Rattle.records.proofs.reference.Statement.{statement}
 use Rattle.records.proofs.reference.Tie as tie
@@ -7,33 +9,30 @@ use Rattle.image.proofs.good_optional.Reads as good-optional-reads
 use Rattle.image.proofs.good_text.Reads as good-text-reads
 use Rattle.records.proofs.is_optional_container.Reads as is-optional-container-reads
 
--- src/lib.rt:216:9
 good-text-requires : tie.Need-good-text-requires
 good-text-requires c κs = search needs
 
--- src/lib.rt:217:9
 returns : tie.Need-returns
-returns c = ?
+unfolding referenceRule
+returns c = search rules depth 12
 
--- src/lib.rt:219:9
 good-optional-requires : tie.Need-good-optional-requires
 good-optional-requires c κs = search needs
 
--- src/lib.rt:220:9
 returns-2 : tie.Need-returns-2
-returns-2 c = ?
+unfolding referenceRule
+returns-2 c = search rules depth 12
 
--- src/lib.rt:222:9
 is-optional-container-requires : tie.Need-is-optional-container-requires
 is-optional-container-requires c κs = search needs
 
--- src/lib.rt:223:9
 returns-3 : tie.Need-returns-3
-returns-3 c = ?
+unfolding referenceRule
+returns-3 c = search rules depth 12
 
--- src/lib.rt:213:1
 returns-4 : tie.Need-returns-4
-returns-4 c = ?
+unfolding referenceRule
+returns-4 c = search rules depth 12
 
 pub reference-spec : {M : Type 1} → statement M
 reference-spec =

@@ -1,3 +1,4 @@
+use Rattle.records.proofs.Texts.{text-bad, text-any, command-known, command-unknown, operator-known, operator-unknown}
 use borrow.Author.Needs.{needs}
 use Rattle.records.proofs.text_only.Statement.{statement}
 use Rattle.records.proofs.text_only.Tie as tie
@@ -8,45 +9,35 @@ use Rattle.image.proofs.text_part.Reads as text-part-reads
 use Rattle.records.proofs.is_command.Reads as is-command-reads
 use Rattle.records.proofs.is_operator.Reads as is-operator-reads
 
--- src/lib.rt:173:9
 good-text-requires : tie.Need-good-text-requires
 good-text-requires c κs = search needs
 
--- src/lib.rt:174:9
 returns : tie.Need-returns
-returns c = ?
+returns c = text-bad _ _ _ _ _ (c .before .good-text .ensures) (c .if1 .taken)
 
--- src/lib.rt:176:9
 text-part-requires : tie.Need-text-part-requires
 text-part-requires c κs = search needs
 
--- src/lib.rt:178:12
 is-command-requires : tie.Need-is-command-requires
 is-command-requires c κs = search needs
 
--- src/lib.rt:179:13
 returns-2 : tie.Need-returns-2
-returns-2 c = ?
+returns-2 c = command-known _ _ _ _ _ (c .before .before .before .before .before .good-text .ensures) (c .before .before .before .before .if1 .left) _ (c .before .before .before .text-part .ensures) _ (c .before .before .if2 .taken) (c .before .is-command .ensures) (c .if3 .taken)
 
--- src/lib.rt:181:9
 returns-3 : tie.Need-returns-3
-returns-3 c = ?
+returns-3 c = command-unknown _ _ _ _ _ (c .before .before .before .before .before .good-text .ensures) (c .before .before .before .before .if1 .left) _ (c .before .before .before .text-part .ensures) _ (c .before .before .if2 .taken) (c .before .is-command .ensures) (c .if3 .left)
 
--- src/lib.rt:184:12
 is-operator-requires : tie.Need-is-operator-requires
 is-operator-requires c κs = search needs
 
--- src/lib.rt:185:13
 returns-4 : tie.Need-returns-4
-returns-4 c = ?
+returns-4 c = operator-known _ _ _ _ _ (c .before .before .before .before .before .before .good-text .ensures) (c .before .before .before .before .before .if1 .left) _ (c .before .before .before .before .text-part .ensures) _ (c .before .before .before .if2 .left) (c .before .before .if4 .taken) (c .before .is-operator .ensures) (c .if5 .taken)
 
--- src/lib.rt:187:9
 returns-5 : tie.Need-returns-5
-returns-5 c = ?
+returns-5 c = operator-unknown _ _ _ _ _ (c .before .before .before .before .before .before .good-text .ensures) (c .before .before .before .before .before .if1 .left) _ (c .before .before .before .before .text-part .ensures) _ (c .before .before .before .if2 .left) (c .before .before .if4 .taken) (c .before .is-operator .ensures) (c .if5 .left)
 
--- src/lib.rt:170:1
 returns-6 : tie.Need-returns-6
-returns-6 c = ?
+returns-6 c = text-any _ _ _ _ _ (c .before .before .before .before .good-text .ensures) (c .before .before .before .if1 .left) (c .before .if2 .left) (c .if4 .left)
 
 pub text-only-spec : {M : Type 1} → statement M
 text-only-spec =

@@ -1,3 +1,5 @@
+use mathlib.Core.Path.{refl}
+use Rattle.records.proofs.Lists.{item-origin, item-name, item-right}
 use borrow.Author.Needs.{needs}
 use Rattle.records.proofs.list.item.Statement.{statement}
 use Rattle.records.proofs.list.item.Tie as tie
@@ -7,65 +9,50 @@ use Rattle.image.proofs.good_optional.Reads as good-optional-reads
 use Rattle.image.proofs.good_text.Reads as good-text-reads
 use Rattle.words.proofs.word.Reads as word-reads
 
--- src/list.rt:16:17
 add-first : tie.Need-add-first
 add-first c = search needs
 
--- src/list.rt:16:26
 mul-first : tie.Need-mul-first
 mul-first c = search needs
 
--- src/list.rt:16:17
 add-first-2 : tie.Need-add-first-2
 add-first-2 c = search needs
 
--- src/list.rt:17:9
 word-requires : tie.Need-word-requires
 word-requires c κs = search needs
 
--- src/list.rt:18:43
 add-word : tie.Need-add-word
 add-word c = search needs
 
--- src/list.rt:18:9
 word-requires-2 : tie.Need-word-requires-2
 word-requires-2 c κs = search needs
 
--- src/list.rt:19:37
 add-word-2 : tie.Need-add-word-2
 add-word-2 c = search needs
 
--- src/list.rt:19:9
 word-requires-3 : tie.Need-word-requires-3
 word-requires-3 c κs = search needs
 
--- src/list.rt:20:41
 add-word-3 : tie.Need-add-word-3
 add-word-3 c = search needs
 
--- src/list.rt:20:9
 word-requires-4 : tie.Need-word-requires-4
 word-requires-4 c κs = search needs
 
--- src/list.rt:21:9
 good-optional-requires : tie.Need-good-optional-requires
 good-optional-requires c κs = search needs
 
--- src/list.rt:22:9
 returns : tie.Need-returns
-returns c = ?
+returns c = item-origin _ _ _ _ _ _ _ _ _ refl (c .before .before .before .before .before .word .ensures) (c .before .before .before .before .word2 .ensures) (c .before .before .before .word3 .ensures) (c .before .before .word4 .ensures) _ (c .before .good-optional .ensures) (c .if1 .taken)
 
--- src/list.rt:24:9
 good-text-requires : tie.Need-good-text-requires
 good-text-requires c κs = search needs
 
--- src/list.rt:25:9
 returns-2 : tie.Need-returns-2
-returns-2 c = ?
+returns-2 c = item-name _ _ _ _ _ _ _ _ _ refl (c .before .before .before .before .before .before .before .word .ensures) (c .before .before .before .before .before .before .word2 .ensures) (c .before .before .before .before .before .word3 .ensures) (c .before .before .before .before .word4 .ensures) _ (c .before .before .before .good-optional .ensures) (c .before .before .if1 .left) _ (c .before .good-text .ensures) (c .if2 .taken)
 
--- src/list.rt:12:1
 returns-3 : tie.Need-returns-3
-returns-3 c = ?
+returns-3 c = item-right _ _ _ _ _ _ _ _ _ refl (c .before .before .before .before .before .before .before .word .ensures) (c .before .before .before .before .before .before .word2 .ensures) (c .before .before .before .before .before .word3 .ensures) (c .before .before .before .before .word4 .ensures) _ (c .before .before .before .good-optional .ensures) (c .before .before .if1 .left) _ (c .before .good-text .ensures) (c .if2 .left)
 
 pub item-spec : {M : Type 1} → statement M
 item-spec =

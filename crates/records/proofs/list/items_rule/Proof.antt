@@ -1,3 +1,12 @@
+use Prim.Native.Nat.{_≤_, _-_}
+use mathlib.Core.Path.{_≡_, refl, sym, _∙_}
+use native.Mathlib.Numerals.{add-one}
+use borrow.Author.Needs.{needs}
+use Rattle.laws.specs.Refusal.{firstOf}
+use Rattle.laws.proofs.First.{first-next}
+use Rattle.records.specs.Records.{listItemRule}
+use Rattle.records.specs.Shown.{bytesOnly}
+use Rattle.records.proofs.Tests.{first-broken, first-done}
 use Rattle.records.proofs.list.items_rule.Statement.{statement}
 use Rattle.records.proofs.list.items_rule.Tie as tie
 use Rattle.records.proofs.list.items_rule.Reads as reads
@@ -5,38 +14,32 @@ use Rattle.records.proofs.list.items_rule.Lts as lts
 use Rattle.records.proofs.list.item.Reads as item-reads
 
 abbrev Inv-loop : tie.InvT-loop
-Inv-loop payload strings at items j₀ j = ?
+Inv-loop payload strings at items j₀ j = (j ≤ items) × (firstOf j (listItemRule (bytesOnly payload strings) at) ≡ 0)
 
 abbrev μ-loop : tie.MeasureT-loop
-μ-loop payload strings at items j₀ j = ?
+μ-loop payload strings at items j₀ j = items - j
 
--- src/list.rt:35:5
 loop-holds : tie.Need-loop-holds Inv-loop μ-loop
-loop-holds c = ?
+unfolding firstOf
+loop-holds c = (search needs, refl)
 
--- src/list.rt:36:13
 item-requires : tie.Need-item-requires Inv-loop μ-loop
-item-requires c κs = ?
+item-requires c κs = search needs
 
--- src/list.rt:38:13
 returns : tie.Need-returns Inv-loop μ-loop
-returns c = ?
+returns c = first-broken _ _ _ _ (search needs) (c .before .before .before .loop .inv .1) (c .before .item .ensures) (c .if1 .taken)
 
--- src/list.rt:40:9
 add-j : tie.Need-add-j Inv-loop μ-loop
-add-j c = ?
+add-j c = search needs
 
--- src/list.rt:35:5
 loop-less : tie.Need-loop-less Inv-loop μ-loop
-loop-less c = ?
+loop-less c = search needs
 
--- src/list.rt:35:5
 loop-again : tie.Need-loop-again Inv-loop μ-loop
-loop-again c = ?
+loop-again c = (search needs, rw add-one (first-next _ _ (c .before .before .before .loop .inv .1) (sym (c .before .item .ensures) ∙ c .if1 .left)))
 
--- src/list.rt:30:1
 returns-2 : tie.Need-returns-2 Inv-loop μ-loop
-returns-2 c = ?
+returns-2 c = first-done _ _ _ (search needs) (search needs) (c .before .loop .inv .1)
 
 pub items-rule-spec : {M : Type 1} → statement M
 items-rule-spec =

@@ -1,3 +1,12 @@
+use Prim.Native.Nat.{_≤_, _-_}
+use mathlib.Core.Path.{_≡_, refl, sym, _∙_}
+use native.Mathlib.Numerals.{add-one}
+use borrow.Author.Needs.{needs}
+use Rattle.laws.specs.Refusal.{firstOf}
+use Rattle.laws.proofs.First.{first-next}
+use Rattle.records.specs.Records.{listOriginRule}
+use Rattle.records.specs.Shown.{bytesOnly}
+use Rattle.records.proofs.Tests.{first-broken, first-done}
 use Rattle.records.proofs.list.origins_rule.Statement.{statement}
 use Rattle.records.proofs.list.origins_rule.Tie as tie
 use Rattle.records.proofs.list.origins_rule.Reads as reads
@@ -5,38 +14,32 @@ use Rattle.records.proofs.list.origins_rule.Lts as lts
 use Rattle.records.proofs.list.origin.Reads as origin-reads
 
 abbrev Inv-loop : tie.InvT-loop
-Inv-loop payload strings at items origins j₀ j = ?
+Inv-loop payload strings at items origins j₀ j = (j ≤ origins) × (firstOf j (listOriginRule (bytesOnly payload strings) at) ≡ 0)
 
 abbrev μ-loop : tie.MeasureT-loop
-μ-loop payload strings at items origins j₀ j = ?
+μ-loop payload strings at items origins j₀ j = origins - j
 
--- src/list.rt:64:5
 loop-holds : tie.Need-loop-holds Inv-loop μ-loop
-loop-holds c = ?
+unfolding firstOf
+loop-holds c = (search needs, refl)
 
--- src/list.rt:65:13
 origin-requires : tie.Need-origin-requires Inv-loop μ-loop
-origin-requires c κs = ?
+origin-requires c κs = (search needs, search needs)
 
--- src/list.rt:67:13
 returns : tie.Need-returns Inv-loop μ-loop
-returns c = ?
+returns c = first-broken _ _ _ _ (search needs) (c .before .before .before .loop .inv .1) (c .before .origin .ensures) (c .if1 .taken)
 
--- src/list.rt:69:9
 add-j : tie.Need-add-j Inv-loop μ-loop
-add-j c = ?
+add-j c = search needs
 
--- src/list.rt:64:5
 loop-less : tie.Need-loop-less Inv-loop μ-loop
-loop-less c = ?
+loop-less c = search needs
 
--- src/list.rt:64:5
 loop-again : tie.Need-loop-again Inv-loop μ-loop
-loop-again c = ?
+loop-again c = (search needs, rw add-one (first-next _ _ (c .before .before .before .loop .inv .1) (sym (c .before .origin .ensures) ∙ c .if1 .left)))
 
--- src/list.rt:59:1
 returns-2 : tie.Need-returns-2 Inv-loop μ-loop
-returns-2 c = ?
+returns-2 c = first-done _ _ _ (search needs) (search needs) (c .before .loop .inv .1)
 
 pub origins-rule-spec : {M : Type 1} → statement M
 origins-rule-spec =
