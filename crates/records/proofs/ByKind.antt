@@ -1,5 +1,5 @@
 -- The rules by kind, over a record and the numbers around it, are those of the node that they show. Assumes nothing.
-use Prim.Native.Nat.{ℕ, zero, suc, _+_, _≤_, _<_}
+use Prim.Native.Nat.{ℕ, suc, _≤_, _<_}
 use mathlib.Core.Path.{_≡_, refl, sym, ap, _∙_, subst}
 use mathlib.Core.Logic.{_⊎_, inl, inr, ⊎-elim}
 use mathlib.Core.Bool.{Bool, true, false, cond, not, _&&_, _||_}
@@ -7,8 +7,8 @@ use mathlib.Core.List.{List}
 use native.Mathlib.Omega.{arith}
 use native.Mathlib.Decide.{decLt}
 use native.Mathlib.Nat.{eq-or-lt-of-le}
-use lib.ListN.{length, getD, List·getD-eq-default}
-use lib.Dec.{leb, ltb, eqb}
+use lib.ListN.{length, List·getD-eq-default}
+use lib.Dec.{leb, eqb}
 use borrow.Author.Tests.{eq-eqb, ne-eqb, eqb-true, not-true, not-false}
 use Rattle.laws.specs.Refusal.{unless, _▸_, firstOf}
 use Rattle.laws.proofs.First.{first-all, passed}
@@ -20,7 +20,7 @@ use Rattle.records.specs.declared.Counts.{Counts}
 use Rattle.records.specs.declared.Sums.{Sums}
 use Rattle.records.specs.Fields.{Kind, Container, Choice, Divert, BoolValue, ListValue, TargetValue, Assignment, Reference, Unknown, kinds, kindOf, fields}
 use Rattle.records.specs.Records.{targetIn, targetOf, fieldRule, firstField, fieldsRule, parentRule, rootRight, usedUp, payloadRule, listItemRule, listOriginRule, listWord}
-use Rattle.records.specs.Shown.{countsOf, sumsBefore, tagIn, Shows, ShowsParent, insideAmong, containerAmong, bytesOnly, containerRule, choiceRule, divertRule, textRule, targetRule, assignmentRule, referenceRule, listRule}
+use Rattle.records.specs.Shown.{countsOf, sumsBefore, tagIn, Shows, ShowsParent, containerAmong, containerRule, choiceRule, divertRule, textRule, targetRule, assignmentRule, referenceRule, listRule}
 use Rattle.records.proofs.Tests.{skip, last}
 
 -- ---- kinds and targets
@@ -56,7 +56,7 @@ target-none r t h k = side (decLt t 19)
     below : fourOrNone r t ≡ true → NONE ≡ targetIn r (kindOf t)
     below p = unfold fourOrNone in
         let q : eqb (targetIn r (kindOf t)) NONE ≡ true =
-            rw (ne-eqb t 2 (λ e. h (inl e)), ne-eqb t 4 (λ e. h (inr (inl e))), ne-eqb t 13 (λ e. h (inr (inr e))), ne-eqb t 17 k) at p in
+        rw (ne-eqb t 2 (λ e. h (inl e)), ne-eqb t 4 (λ e. h (inr (inl e))), ne-eqb t 13 (λ e. h (inr (inr e))), ne-eqb t 17 k) at p in
         sym (eqb-true (targetIn r (kindOf t)) NONE q)
 
     side : Dec (t < 19) → NONE ≡ targetIn r (kindOf t)

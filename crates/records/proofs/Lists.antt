@@ -1,17 +1,16 @@
 -- The payload of a list, by the words that the code reads and the tests that it makes. Assumes nothing.
-use Prim.Native.Nat.{ℕ, zero, suc, _+_, _*_, _≤_, _<_}
+use Prim.Native.Nat.{ℕ, _+_, _*_, _≤_, _<_}
 use mathlib.Core.Path.{_≡_, refl, sym, ap, _∙_}
 use mathlib.Core.Bool.{Bool, true, false, not, _&&_}
 use mathlib.Core.List.{List}
 use native.Mathlib.Omega.{arith}
-use native.Mathlib.Nat.{add-zero}
 use lib.ListN.{length}
 use lib.Dec.{leb, eqb}
 use borrow.Author.Tests.{le-leb, lt-leb, eq-eqb, ne-eqb}
 use Rattle.laws.specs.Refusal.{unless, _▸_, firstOf}
 use Rattle.laws.proofs.First.{first, second, pass, fail}
 use Rattle.words.specs.Words.{wordAt}
-use Rattle.image.specs.Sections.{Sections, goodIn, optionalIn}
+use Rattle.image.specs.Sections.{goodIn, optionalIn}
 use Rattle.records.specs.Records.{listWord, listItems, listOrigins, listItemWord, listOriginWord, listItemRule, listOriginRule, payloadRule}
 use Rattle.records.specs.Shown.{bytesOnly}
 use Rattle.records.proofs.Tests.{refused, stop, go, stop-last, go-last}

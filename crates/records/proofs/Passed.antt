@@ -3,17 +3,17 @@
 use Prim.Native.Nat.{ℕ, zero, suc, _+_, _*_, _≤_, _<_}
 use mathlib.Core.Path.{_≡_, refl, sym, ap, _∙_, subst}
 use mathlib.Core.Logic.{⊎-elim}
-use mathlib.Core.Bool.{Bool, true, false, cond, not, _&&_, _||_, true≢false}
-use mathlib.Core.List.{List, [], _∷_, List·Memᴰ, List·Memᴰ·cases-cons, List·Memᴰ·not-nil}
+use mathlib.Core.Bool.{Bool, true, false, not, _&&_, _||_, true≢false}
+use mathlib.Core.List.{List, [], _∷_, List·Memᴰ, List·Memᴰ·head, List·Memᴰ·tail, List·Memᴰ·cases-cons, List·Memᴰ·not-nil}
 use native.Mathlib.Omega.{arith}
 use native.Mathlib.Decide.{ℕ-discrete}
 use native.Mathlib.Nat.{add-zero}
 use lib.ListN.{length}
 use lib.Dec.{leb, ltb, eqb}
 use borrow.Author.Tests.{leb-true, ltb-true, eqb-true, eq-eqb, ne-eqb, not-true}
-use Rattle.laws.specs.Refusal.{unless, _▸_, firstOf}
+use Rattle.laws.specs.Refusal.{unless, firstOf}
 use Rattle.laws.specs.Counted.{sumOf}
-use Rattle.laws.proofs.First.{both, passed, first-all}
+use Rattle.laws.proofs.First.{both, then, second, passed, first-all}
 use Rattle.words.specs.Words.{NONE, isNone}
 use Rattle.texts.specs.Text.{holds}
 use Rattle.names.specs.Names.{commands, operators}
@@ -25,6 +25,7 @@ use Rattle.records.specs.declared.Sums.{Sums}
 use Rattle.records.specs.Fields.{Kind, Container, Choice, Command, Divert, Glue, Operator, Tag, BoolValue, IntValue, FloatValue, StringValue, ListValue, TargetValue, PointerValue, Assignment, Reference, Void, Unknown, Field, text, optional, command, operator, node, optionalNode, container, optionalContainer, atMost, children, named, payload, kinds, kindOf, fields}
 use Rattle.records.specs.Records.{targetIn, targetOf, childrenOf, namedOf, payloadOf, containerOf, childrenBefore, namedBefore, payloadBefore, containersBefore, listItems, listOrigins, listItemWord, listOriginWord, listItemRule, listOriginRule, payloadRule, fieldRule, firstField, fieldsRule, parentRule, nodeRule, rootRight, usedUp}
 use Rattle.records.specs.Shown.{sumsBefore}
+use Rattle.records.proofs.Tests.{refused}
 
 -- ---- node numbers
 
@@ -50,6 +51,13 @@ each-field s i [] p x m = absurd (List·Memᴰ·not-nil m)
 each-field s i (y ∷ ys) p x m =
     ⊎-elim (λ e. ap (fieldRule s i) e ∙ both (fieldRule s i y) (firstField s i ys) p .0)
     (λ q. each-field s i ys (both (fieldRule s i y) (firstField s i ys) p .1) x q) (List·Memᴰ·cases-cons m)
+
+-- and where each passes, all do
+pub all-fields-pass : (s : Sections) (i : ℕ) (xs : List Field) → ((x : Field) → List·Memᴰ x xs → fieldRule s i x ≡ 0) → firstField s i xs ≡ 0
+unfolding firstField
+all-fields-pass s i [] p = refl
+all-fields-pass s i (y ∷ ys) p =
+    then (fieldRule s i y) (firstField s i ys) (p y (List·Memᴰ·head refl)) (all-fields-pass s i ys (λ x m. p x (List·Memᴰ·tail m)))
 
 module _ (s : Sections) (i : ℕ) where
   pub text-passed : (k : ℕ) → fieldRule s i (text k) ≡ 0 → goodText s (f s i k) (f s i (k + 1)) ≡ true
@@ -226,6 +234,11 @@ module _ (s : Sections) (i : ℕ) where
         containers = containersBefore s i + n .containers-are j;
       }
 
+-- before the first node
+pub first-sums : (s : Sections) → _≡_ {A = Sums} (record { children = 0; named = 0; payload = 0; containers = 0 }) (sumsBefore s 0)
+unfolding sumOf
+first-sums s = refl
+
 pub within-start : (s : Sections) → Within s 0
 unfolding sumOf
 within-start s = record { children = omega arith; named = omega arith; payload = omega arith; containers = omega arith }
@@ -378,6 +391,18 @@ module _ (s : Sections) (i : ℕ) where
   pub target : fieldsRule s i ≡ 0 → (targetOf s i (kindOf (tagOf s i)) ≡ NONE → ⊥) → Node s (targetOf s i (kindOf (tagOf s i)))
   target p d = kind-target (kindOf (tagOf s i)) p d
 
+-- ---- parent and fields together
+
+-- the parent's rule is broken
+pub node-refused : (s : Sections) (i r : ℕ) → r ≡ parentRule s i → (r ≡ 0 → ⊥) → r ≡ nodeRule s i
+unfolding nodeRule
+node-refused s i r e d = refused (parentRule s i) (fieldsRule s i) r e d
+
+-- it is kept: the fields decide
+pub node-fields : (s : Sections) (i q r : ℕ) → q ≡ parentRule s i → q ≡ 0 → r ≡ fieldsRule s i → r ≡ nodeRule s i
+unfolding nodeRule
+node-fields s i q r e z h = h ∙ sym (second (parentRule s i) (fieldsRule s i) (sym e ∙ z))
+
 -- ---- all nodes
 
 module _ (s : Sections) (p : firstOf (nodeCount s) (nodeRule s) ≡ 0) where
@@ -388,6 +413,9 @@ module _ (s : Sections) (p : firstOf (nodeCount s) (nodeRule s) ≡ 0) where
   pub all-parents : (i : ℕ) → i < nodeCount s → 0 < i → Parent s i
   unfolding nodeRule
   all-parents i h k = parent s i k (both _ _ (first-all (nodeCount s) (nodeRule s) p i h) .0)
+
+  pub all-targets : (i : ℕ) → i < nodeCount s → (targetOf s i (kindOf (tagOf s i)) ≡ NONE → ⊥) → Node s (targetOf s i (kindOf (tagOf s i)))
+  all-targets i h = target s i (all-fields i h)
 
   pub all-within : Within s (nodeCount s)
   all-within = within s (nodeCount s) all-fields

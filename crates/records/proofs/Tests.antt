@@ -1,12 +1,12 @@
 -- Tests of a field and chains of rules, one step at a time, by the test that the code made. Assumes nothing.
 use Prim.Native.Nat.{ℕ, zero, suc, _+_, _≤_, _<_}
-use mathlib.Core.Path.{_≡_, refl, sym, ap, _∙_}
-use mathlib.Core.Bool.{Bool, true, false, not, cond, _&&_, _||_, true≢false}
+use mathlib.Core.Path.{_≡_, refl, sym, _∙_}
+use mathlib.Core.Bool.{Bool, true, false, not, _&&_, _||_, true≢false}
 use native.Mathlib.Omega.{arith}
 use lib.Dec.{leb, ltb, eqb}
 use borrow.Author.Tests.{le-leb, lt-leb, eq-eqb, ne-eqb, not-true, not-false}
 use Rattle.laws.specs.Refusal.{unless, _▸_, firstOf}
-use Rattle.laws.proofs.First.{first, second, pass, fail, first-hit, first-next}
+use Rattle.laws.proofs.First.{first, second, pass, fail, first-hit}
 use Rattle.words.specs.Words.{NONE, isNone}
 use Rattle.records.specs.Shown.{insideAmong, containerAmong, follows}
 

@@ -1,12 +1,11 @@
 -- The rule of a text alone, by the tests that the code made; known names. Assumes nothing.
-use Prim.Native.Nat.{ℕ, _≤_}
+use Prim.Native.Nat.{ℕ}
 use mathlib.Core.Path.{_≡_, refl, sym, ap, _∙_}
 use mathlib.Core.Bool.{Bool, true, false, not, cond}
 use mathlib.Core.List.{List}
-use mathlib.Core.Option.{Option, none, some}
 use lib.Dec.{eqb}
-use borrow.Author.Tests.{eq-eqb, ne-eqb, not-true, not-false}
-use Rattle.laws.specs.Refusal.{unless, _▸_}
+use borrow.Author.Tests.{eq-eqb, ne-eqb, not-false}
+use Rattle.laws.specs.Refusal.{unless}
 use Rattle.laws.proofs.First.{second, pass}
 use Rattle.texts.specs.Text.{holds}
 use Rattle.names.specs.Names.{commands, operators, numberIn}

@@ -1,8 +1,8 @@
 -- The record rules: the rule of each field of a node, of its parent, of a list's payload; sums of the counts before; leftovers.
 -- Assumes nothing.
-use Prim.Native.Nat.{ℕ, zero, suc, _+_, _*_}
+use Prim.Native.Nat.{ℕ, _+_, _*_}
 use mathlib.Core.List.{List, [], _∷_}
-use mathlib.Core.Bool.{Bool, true, false, cond, _&&_, _||_, not}
+use mathlib.Core.Bool.{Bool, cond, _&&_, _||_, not}
 use lib.ListN.{length}
 use lib.Dec.{leb, eqb}
 use Rattle.laws.specs.Refusal.{unless, _▸_, firstOf, refusals}
@@ -12,7 +12,7 @@ use Rattle.texts.specs.Text.{holds, texts}
 use Rattle.names.specs.Names.{commands, operators, names}
 use Rattle.image.specs.declared.NodeRecord.{NodeRecord}
 use Rattle.image.specs.Entries.{nodeIn}
-use Rattle.image.specs.Sections.{Sections, nodeCount, childCount, namedCount, nodeWord, parentOf, placeOf, tagOf, f, textAt, goodText, goodOptional, inside, isContainer, insideContainer, sections}
+use Rattle.image.specs.Sections.{Sections, nodeCount, childCount, namedCount, parentOf, placeOf, tagOf, f, textAt, goodText, goodOptional, inside, isContainer, insideContainer, sections}
 use Rattle.records.specs.Fields.{Kind, Container, Choice, Command, Divert, Glue, Operator, Tag, BoolValue, IntValue, FloatValue, StringValue, ListValue, TargetValue, PointerValue, Assignment, Reference, Void, Unknown, Field, text, optional, command, operator, node, optionalNode, container, optionalContainer, plain, atMost, children, named, payload, wrong, fields, kindOf, schema}
 
 -- the fields of node i

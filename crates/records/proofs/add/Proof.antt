@@ -1,9 +1,8 @@
-use Rattle.records.proofs.Passed.{sums-container, sums-list, sums-other}
+-- `records::add` meets its contract. Assumes nothing.
 use borrow.Author.Needs.{needs}
+use Rattle.records.proofs.Passed.{sums-container, sums-list, sums-other}
 use Rattle.records.proofs.add.Statement.{statement}
 use Rattle.records.proofs.add.Tie as tie
-use Rattle.records.proofs.add.Reads as reads
-use Rattle.records.proofs.add.Lts as lts
 
 cast-t5 : tie.Need-cast-t5
 cast-t5 c = search needs

@@ -1,12 +1,9 @@
+-- `records::assignment` meets its contract. Assumes nothing.
+use borrow.Author.Needs.{needs}
 use Rattle.records.proofs.Tests.{rules}
 use Rattle.records.specs.Shown.{assignmentRule}
-use borrow.Author.Needs.{needs}
 use Rattle.records.proofs.assignment.Statement.{statement}
 use Rattle.records.proofs.assignment.Tie as tie
-use Rattle.records.proofs.assignment.Reads as reads
-use Rattle.records.proofs.assignment.Lts as lts
-use Rattle.image.proofs.good_text.Reads as good-text-reads
-use Rattle.records.proofs.at_most.Reads as at-most-reads
 
 good-text-requires : tie.Need-good-text-requires
 good-text-requires c κs = search needs

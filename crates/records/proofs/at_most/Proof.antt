@@ -1,8 +1,7 @@
+-- `records::at_most` meets its contract. Assumes nothing.
 use Rattle.records.proofs.Tests.{at-most, above}
 use Rattle.records.proofs.at_most.Statement.{statement}
 use Rattle.records.proofs.at_most.Tie as tie
-use Rattle.records.proofs.at_most.Reads as reads
-use Rattle.records.proofs.at_most.Lts as lts
 
 returns : tie.Need-returns
 returns c = search at-most

@@ -1,12 +1,9 @@
+-- `records::choice` meets its contract. Assumes nothing.
+use borrow.Author.Needs.{needs}
 use Rattle.records.proofs.Tests.{rules}
 use Rattle.records.specs.Shown.{choiceRule}
-use borrow.Author.Needs.{needs}
 use Rattle.records.proofs.choice.Statement.{statement}
 use Rattle.records.proofs.choice.Tie as tie
-use Rattle.records.proofs.choice.Reads as reads
-use Rattle.records.proofs.choice.Lts as lts
-use Rattle.image.proofs.good_optional.Reads as good-optional-reads
-use Rattle.records.proofs.is_container.Reads as is-container-reads
 
 good-optional-requires : tie.Need-good-optional-requires
 good-optional-requires c κs = search needs

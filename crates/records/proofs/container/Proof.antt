@@ -1,12 +1,9 @@
+-- `records::container` meets its contract. Assumes nothing.
+use borrow.Author.Needs.{needs}
 use Rattle.records.proofs.Tests.{rules}
 use Rattle.records.specs.Shown.{containerRule}
-use borrow.Author.Needs.{needs}
 use Rattle.records.proofs.container.Statement.{statement}
 use Rattle.records.proofs.container.Tie as tie
-use Rattle.records.proofs.container.Reads as reads
-use Rattle.records.proofs.container.Lts as lts
-use Rattle.image.proofs.good_optional.Reads as good-optional-reads
-use Rattle.records.proofs.is_next.Reads as is-next-reads
 
 good-optional-requires : tie.Need-good-optional-requires
 good-optional-requires c κs = search needs

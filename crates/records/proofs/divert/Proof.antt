@@ -1,13 +1,9 @@
+-- `records::divert` meets its contract. Assumes nothing.
+use borrow.Author.Needs.{needs}
 use Rattle.records.proofs.Tests.{rules}
 use Rattle.records.specs.Shown.{divertRule}
-use borrow.Author.Needs.{needs}
 use Rattle.records.proofs.divert.Statement.{statement}
 use Rattle.records.proofs.divert.Tie as tie
-use Rattle.records.proofs.divert.Reads as reads
-use Rattle.records.proofs.divert.Lts as lts
-use Rattle.image.proofs.good_optional.Reads as good-optional-reads
-use Rattle.records.proofs.at_most.Reads as at-most-reads
-use Rattle.records.proofs.is_optional_node.Reads as is-optional-node-reads
 
 good-optional-requires : tie.Need-good-optional-requires
 good-optional-requires c κs = search needs

@@ -1,21 +1,10 @@
-use mathlib.Core.Path.{_≡_, _∙_}
-use native.Mathlib.Omega.{arith}
+-- `records::fields_rule` meets its contract. Assumes nothing.
+use mathlib.Core.Path.{_∙_}
 use mathlib.Core.Logic.{inl}
-use Rattle.records.proofs.ByKind.{at-container, at-choice, at-divert, at-empty, at-text, at-text-range, at-bool, at-number, at-list, at-target, at-assignment, at-reference, at-unknown, from-six, from-nine, no-kind}
 use borrow.Author.Needs.{needs}
+use Rattle.records.proofs.ByKind.{at-container, at-choice, at-divert, at-empty, at-text, at-text-range, at-bool, at-number, at-list, at-target, at-assignment, at-reference, at-unknown, from-six, from-nine, no-kind}
 use Rattle.records.proofs.fields_rule.Statement.{statement}
 use Rattle.records.proofs.fields_rule.Tie as tie
-use Rattle.records.proofs.fields_rule.Reads as reads
-use Rattle.records.proofs.fields_rule.Lts as lts
-use Rattle.records.proofs.assignment.Reads as assignment-reads
-use Rattle.records.proofs.at_most.Reads as at-most-reads
-use Rattle.records.proofs.choice.Reads as choice-reads
-use Rattle.records.proofs.container.Reads as container-reads
-use Rattle.records.proofs.divert.Reads as divert-reads
-use Rattle.records.proofs.list_value.Reads as list-value-reads
-use Rattle.records.proofs.reference.Reads as reference-reads
-use Rattle.records.proofs.target_value.Reads as target-value-reads
-use Rattle.records.proofs.text_only.Reads as text-only-reads
 
 container-requires : tie.Need-container-requires
 container-requires c κs = search needs

@@ -1,11 +1,8 @@
-use mathlib.Core.Path.{_≡_}
-use Rattle.records.proofs.Texts.{known-name, unknown-name}
+-- `records::is_command` meets its contract. Assumes nothing.
 use borrow.Author.Needs.{needs}
+use Rattle.records.proofs.Texts.{known-name, unknown-name}
 use Rattle.records.proofs.is_command.Statement.{statement}
 use Rattle.records.proofs.is_command.Tie as tie
-use Rattle.records.proofs.is_command.Reads as reads
-use Rattle.records.proofs.is_command.Lts as lts
-use Rattle.names.proofs.control_command.command_number.Reads as command-number-reads
 
 command-number-requires : tie.Need-command-number-requires
 command-number-requires c κs = search needs

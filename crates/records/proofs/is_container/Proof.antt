@@ -1,10 +1,8 @@
-use Rattle.records.proofs.Tests.{other-tag, that-tag}
+-- `records::is_container` meets its contract. Assumes nothing.
 use borrow.Author.Needs.{needs}
+use Rattle.records.proofs.Tests.{other-tag, that-tag}
 use Rattle.records.proofs.is_container.Statement.{statement}
 use Rattle.records.proofs.is_container.Tie as tie
-use Rattle.records.proofs.is_container.Reads as reads
-use Rattle.records.proofs.is_container.Lts as lts
-use Rattle.records.proofs.is_inside.Reads as is-inside-reads
 
 returns : tie.Need-returns
 returns c = search other-tag

@@ -1,8 +1,7 @@
+-- `records::is_inside` meets its contract. Assumes nothing.
 use Rattle.records.proofs.Tests.{none-inside, some-inside}
 use Rattle.records.proofs.is_inside.Statement.{statement}
 use Rattle.records.proofs.is_inside.Tie as tie
-use Rattle.records.proofs.is_inside.Reads as reads
-use Rattle.records.proofs.is_inside.Lts as lts
 
 returns : tie.Need-returns
 returns c = search none-inside

@@ -1,9 +1,8 @@
-use Rattle.records.proofs.Tests.{past-end, in-end}
+-- `records::is_next` meets its contract. Assumes nothing.
 use borrow.Author.Needs.{needs}
+use Rattle.records.proofs.Tests.{past-end, in-end}
 use Rattle.records.proofs.is_next.Statement.{statement}
 use Rattle.records.proofs.is_next.Tie as tie
-use Rattle.records.proofs.is_next.Reads as reads
-use Rattle.records.proofs.is_next.Lts as lts
 
 add-if1 : tie.Need-add-if1
 add-if1 c = search needs

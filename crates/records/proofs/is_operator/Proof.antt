@@ -1,11 +1,8 @@
-use mathlib.Core.Path.{_≡_}
-use Rattle.records.proofs.Texts.{known-name, unknown-name}
+-- `records::is_operator` meets its contract. Assumes nothing.
 use borrow.Author.Needs.{needs}
+use Rattle.records.proofs.Texts.{known-name, unknown-name}
 use Rattle.records.proofs.is_operator.Statement.{statement}
 use Rattle.records.proofs.is_operator.Tie as tie
-use Rattle.records.proofs.is_operator.Reads as reads
-use Rattle.records.proofs.is_operator.Lts as lts
-use Rattle.names.proofs.native_function_call.operator_number.Reads as operator-number-reads
 
 operator-number-requires : tie.Need-operator-number-requires
 operator-number-requires c κs = search needs

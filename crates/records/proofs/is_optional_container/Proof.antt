@@ -1,10 +1,8 @@
-use Rattle.records.proofs.Tests.{none-optional, some-optional}
+-- `records::is_optional_container` meets its contract. Assumes nothing.
 use borrow.Author.Needs.{needs}
+use Rattle.records.proofs.Tests.{none-optional, some-optional}
 use Rattle.records.proofs.is_optional_container.Statement.{statement}
 use Rattle.records.proofs.is_optional_container.Tie as tie
-use Rattle.records.proofs.is_optional_container.Reads as reads
-use Rattle.records.proofs.is_optional_container.Lts as lts
-use Rattle.records.proofs.is_container.Reads as is-container-reads
 
 returns : tie.Need-returns
 returns c = search none-optional

@@ -1,8 +1,7 @@
+-- `records::is_optional_node` meets its contract. Assumes nothing.
 use Rattle.records.proofs.Tests.{none-optional, some-optional, some-inside}
 use Rattle.records.proofs.is_optional_node.Statement.{statement}
 use Rattle.records.proofs.is_optional_node.Tie as tie
-use Rattle.records.proofs.is_optional_node.Reads as reads
-use Rattle.records.proofs.is_optional_node.Lts as lts
 
 returns : tie.Need-returns
 returns c = search none-optional

@@ -1,11 +1,9 @@
+-- `records::list_value` meets its contract. Assumes nothing.
+use borrow.Author.Needs.{needs}
 use Rattle.records.proofs.Tests.{stop-unequal, go-equal}
 use Rattle.records.specs.Shown.{listRule}
-use borrow.Author.Needs.{needs}
 use Rattle.records.proofs.list_value.Statement.{statement}
 use Rattle.records.proofs.list_value.Tie as tie
-use Rattle.records.proofs.list_value.Reads as reads
-use Rattle.records.proofs.list_value.Lts as lts
-use Rattle.records.proofs.list.payload_rule.Reads as payload-rule-reads
 
 cast-start : tie.Need-cast-start
 cast-start c = search needs

@@ -1,10 +1,8 @@
-use Rattle.records.proofs.ByKind.{parent-of-root, parent-missing, parent-self, parent-right}
+-- `records::parent_rule` meets its contract. Assumes nothing.
 use borrow.Author.Needs.{needs}
+use Rattle.records.proofs.ByKind.{parent-of-root, parent-missing, parent-self, parent-right}
 use Rattle.records.proofs.parent_rule.Statement.{statement}
 use Rattle.records.proofs.parent_rule.Tie as tie
-use Rattle.records.proofs.parent_rule.Reads as reads
-use Rattle.records.proofs.parent_rule.Lts as lts
-use Rattle.records.proofs.is_container.Reads as is-container-reads
 
 returns : tie.Need-returns
 returns c = λ s h. parent-of-root s _ _ _ _ h (search needs)
@@ -19,10 +17,10 @@ cast-if3 : tie.Need-cast-if3
 cast-if3 c = search needs
 
 returns-3 : tie.Need-returns-3
-returns-3 c = λ s h. parent-self s _ _ _ _ h (search needs) _ (c .before .before .is-container .ensures) (c .before .if2 .left) (c .if3 .taken)
+returns-3 c = λ s h. parent-self s _ _ _ _ h (search needs) _ (c .before .before .before .is-container .ensures) (c .before .before .if2 .left) (c .if3 .taken)
 
 returns-4 : tie.Need-returns-4
-returns-4 c = λ s h. parent-right s _ _ _ _ h (search needs) _ (c .before .before .is-container .ensures) (c .before .if2 .left) (c .if3 .left)
+returns-4 c = λ s h. parent-right s _ _ _ _ h (search needs) _ (c .before .before .before .is-container .ensures) (c .before .before .if2 .left) (c .if3 .left)
 
 pub parent-rule-spec : {M : Type 1} → statement M
 parent-rule-spec =

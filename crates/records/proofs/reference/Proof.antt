@@ -1,13 +1,9 @@
+-- `records::reference` meets its contract. Assumes nothing.
+use borrow.Author.Needs.{needs}
 use Rattle.records.proofs.Tests.{rules}
 use Rattle.records.specs.Shown.{referenceRule}
-use borrow.Author.Needs.{needs}
 use Rattle.records.proofs.reference.Statement.{statement}
 use Rattle.records.proofs.reference.Tie as tie
-use Rattle.records.proofs.reference.Reads as reads
-use Rattle.records.proofs.reference.Lts as lts
-use Rattle.image.proofs.good_optional.Reads as good-optional-reads
-use Rattle.image.proofs.good_text.Reads as good-text-reads
-use Rattle.records.proofs.is_optional_container.Reads as is-optional-container-reads
 
 good-text-requires : tie.Need-good-text-requires
 good-text-requires c κs = search needs

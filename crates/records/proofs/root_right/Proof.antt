@@ -1,9 +1,8 @@
+-- `records::root_right` meets its contract. Assumes nothing.
 use borrow.Author.Needs.{needs}
 use Rattle.records.proofs.ByKind.{root-parent, root-place, root-tag}
 use Rattle.records.proofs.root_right.Statement.{statement}
 use Rattle.records.proofs.root_right.Tie as tie
-use Rattle.records.proofs.root_right.Reads as reads
-use Rattle.records.proofs.root_right.Lts as lts
 
 returns : tie.Need-returns
 returns c = λ s h. root-parent s _ h (search needs)

@@ -1,8 +1,7 @@
+-- `records::target_of` meets its contract. Assumes nothing.
 use Rattle.records.proofs.ByKind.{target-second, target-fourth, target-none}
 use Rattle.records.proofs.target_of.Statement.{statement}
 use Rattle.records.proofs.target_of.Tie as tie
-use Rattle.records.proofs.target_of.Reads as reads
-use Rattle.records.proofs.target_of.Lts as lts
 
 returns : tie.Need-returns
 returns c = target-second _ _ (c .match .keys1)

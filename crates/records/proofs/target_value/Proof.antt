@@ -1,12 +1,9 @@
+-- `records::target_value` meets its contract. Assumes nothing.
+use borrow.Author.Needs.{needs}
 use Rattle.records.proofs.Tests.{rules}
 use Rattle.records.specs.Shown.{targetRule}
-use borrow.Author.Needs.{needs}
 use Rattle.records.proofs.target_value.Statement.{statement}
 use Rattle.records.proofs.target_value.Tie as tie
-use Rattle.records.proofs.target_value.Reads as reads
-use Rattle.records.proofs.target_value.Lts as lts
-use Rattle.image.proofs.good_text.Reads as good-text-reads
-use Rattle.records.proofs.is_inside.Reads as is-inside-reads
 
 good-text-requires : tie.Need-good-text-requires
 good-text-requires c κs = search needs

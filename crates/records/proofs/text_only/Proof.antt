@@ -1,13 +1,8 @@
-use Rattle.records.proofs.Texts.{text-bad, text-any, command-known, command-unknown, operator-known, operator-unknown}
+-- `records::text_only` meets its contract. Assumes nothing.
 use borrow.Author.Needs.{needs}
+use Rattle.records.proofs.Texts.{text-bad, text-any, command-known, command-unknown, operator-known, operator-unknown}
 use Rattle.records.proofs.text_only.Statement.{statement}
 use Rattle.records.proofs.text_only.Tie as tie
-use Rattle.records.proofs.text_only.Reads as reads
-use Rattle.records.proofs.text_only.Lts as lts
-use Rattle.image.proofs.good_text.Reads as good-text-reads
-use Rattle.image.proofs.text_part.Reads as text-part-reads
-use Rattle.records.proofs.is_command.Reads as is-command-reads
-use Rattle.records.proofs.is_operator.Reads as is-operator-reads
 
 good-text-requires : tie.Need-good-text-requires
 good-text-requires c κs = search needs

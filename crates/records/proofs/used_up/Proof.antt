@@ -1,9 +1,8 @@
+-- `records::used_up` meets its contract. Assumes nothing.
 use borrow.Author.Needs.{needs}
 use Rattle.records.proofs.ByKind.{used-children, used-named, used-payload}
 use Rattle.records.proofs.used_up.Statement.{statement}
 use Rattle.records.proofs.used_up.Tie as tie
-use Rattle.records.proofs.used_up.Reads as reads
-use Rattle.records.proofs.used_up.Lts as lts
 
 returns : tie.Need-returns
 returns c = λ s p q l. used-children s _ _ _ p q l (search needs)

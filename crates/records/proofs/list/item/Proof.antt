@@ -1,13 +1,9 @@
+-- `records::list::item` meets its contract. Assumes nothing.
 use mathlib.Core.Path.{refl}
-use Rattle.records.proofs.Lists.{item-origin, item-name, item-right}
 use borrow.Author.Needs.{needs}
+use Rattle.records.proofs.Lists.{item-origin, item-name, item-right}
 use Rattle.records.proofs.list.item.Statement.{statement}
 use Rattle.records.proofs.list.item.Tie as tie
-use Rattle.records.proofs.list.item.Reads as reads
-use Rattle.records.proofs.list.item.Lts as lts
-use Rattle.image.proofs.good_optional.Reads as good-optional-reads
-use Rattle.image.proofs.good_text.Reads as good-text-reads
-use Rattle.words.proofs.word.Reads as word-reads
 
 add-first : tie.Need-add-first
 add-first c = search needs

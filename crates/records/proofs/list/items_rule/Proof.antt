@@ -1,3 +1,4 @@
+-- `records::list::items_rule` meets its contract. Assumes nothing.
 use Prim.Native.Nat.{_≤_, _-_}
 use mathlib.Core.Path.{_≡_, refl, sym, _∙_}
 use native.Mathlib.Numerals.{add-one}
@@ -9,9 +10,6 @@ use Rattle.records.specs.Shown.{bytesOnly}
 use Rattle.records.proofs.Tests.{first-broken, first-done}
 use Rattle.records.proofs.list.items_rule.Statement.{statement}
 use Rattle.records.proofs.list.items_rule.Tie as tie
-use Rattle.records.proofs.list.items_rule.Reads as reads
-use Rattle.records.proofs.list.items_rule.Lts as lts
-use Rattle.records.proofs.list.item.Reads as item-reads
 
 abbrev Inv-loop : tie.InvT-loop
 Inv-loop payload strings at items j₀ j = (j ≤ items) × (firstOf j (listItemRule (bytesOnly payload strings) at) ≡ 0)

@@ -1,13 +1,10 @@
+-- `records::list::origin` meets its contract. Assumes nothing.
 use mathlib.Core.Path.{refl, _∙_}
+use borrow.Author.Needs.{needs}
 use Rattle.records.proofs.Tests.{stop-last, go-last}
 use Rattle.records.proofs.Lists.{origin-rule}
-use borrow.Author.Needs.{needs}
 use Rattle.records.proofs.list.origin.Statement.{statement}
 use Rattle.records.proofs.list.origin.Tie as tie
-use Rattle.records.proofs.list.origin.Reads as reads
-use Rattle.records.proofs.list.origin.Lts as lts
-use Rattle.image.proofs.good_text.Reads as good-text-reads
-use Rattle.words.proofs.word.Reads as word-reads
 
 add-first : tie.Need-add-first
 add-first c = search needs

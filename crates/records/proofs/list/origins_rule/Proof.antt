@@ -1,3 +1,4 @@
+-- `records::list::origins_rule` meets its contract. Assumes nothing.
 use Prim.Native.Nat.{_≤_, _-_}
 use mathlib.Core.Path.{_≡_, refl, sym, _∙_}
 use native.Mathlib.Numerals.{add-one}
@@ -9,9 +10,6 @@ use Rattle.records.specs.Shown.{bytesOnly}
 use Rattle.records.proofs.Tests.{first-broken, first-done}
 use Rattle.records.proofs.list.origins_rule.Statement.{statement}
 use Rattle.records.proofs.list.origins_rule.Tie as tie
-use Rattle.records.proofs.list.origins_rule.Reads as reads
-use Rattle.records.proofs.list.origins_rule.Lts as lts
-use Rattle.records.proofs.list.origin.Reads as origin-reads
 
 abbrev Inv-loop : tie.InvT-loop
 Inv-loop payload strings at items origins j₀ j = (j ≤ origins) × (firstOf j (listOriginRule (bytesOnly payload strings) at) ≡ 0)

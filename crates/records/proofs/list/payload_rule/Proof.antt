@@ -1,12 +1,8 @@
-use Rattle.records.proofs.Lists.{payload-past, payload-short, payload-other, payload-items, payload-origins, items-word}
+-- `records::list::payload_rule` meets its contract. Assumes nothing.
 use borrow.Author.Needs.{needs}
+use Rattle.records.proofs.Lists.{payload-past, payload-short, payload-other, payload-items, payload-origins, items-word}
 use Rattle.records.proofs.list.payload_rule.Statement.{statement}
 use Rattle.records.proofs.list.payload_rule.Tie as tie
-use Rattle.records.proofs.list.payload_rule.Reads as reads
-use Rattle.records.proofs.list.payload_rule.Lts as lts
-use Rattle.records.proofs.list.items_rule.Reads as items-rule-reads
-use Rattle.records.proofs.list.origins_rule.Reads as origins-rule-reads
-use Rattle.words.proofs.word.Reads as word-reads
 
 add-if1 : tie.Need-add-if1
 add-if1 c = search needs
