@@ -1,9 +1,9 @@
 -- Words: unsigned, 32 bits, little-endian; NONE. Assumes nothing.
-use Prim.Native.Nat.{ℕ, zero, suc, _+_, _*_, _/_, _%_}
+use Prim.Native.Nat.{ℕ, _+_, _*_, _/_, _%_}
 use mathlib.Core.List.{List, [], _∷_, _++_}
-use mathlib.Core.Bool.{Bool}
-use lib.ListN.{getD}
-use lib.Dec.{eqb}
+use mathlib.Core.Bool.{Bool, cond}
+use lib.ListN.{length, getD, take, drop}
+use lib.Dec.{eqb, leb}
 
 -- document 01's NONE, the word with all bits set
 abbrev pub NONE : ℕ
@@ -20,6 +20,10 @@ wordOf a b c d = a + 256 * (b + 256 * (c + 256 * d))
 unfoldable pub wordAt : List ℕ → ℕ → ℕ
 wordAt bs at = wordOf (getD bs at 0) (getD bs (at + 1) 0) (getD bs (at + 2) 0) (getD bs (at + 3) 0)
 
+-- the same where four bytes lie there, else 0
+unfoldable pub wordIn : List ℕ → ℕ → ℕ
+wordIn bs at = cond (leb (at + 4) (length bs)) (wordAt bs at) 0
+
 -- a list of bytes as words; bytes past the last whole word are dropped
 unfoldable pub wordsOf : List ℕ → List ℕ
 wordsOf [] = []
@@ -32,6 +36,10 @@ wordsOf (a ∷ b ∷ c ∷ d ∷ rest) = wordOf a b c d ∷ wordsOf rest
 abbrev pub bytes4 : ℕ → List ℕ
 bytes4 w = w % 256 ∷ w / 256 % 256 ∷ w / 256 / 256 % 256 ∷ w / 256 / 256 / 256 % 256 ∷ []
 
+-- the bytes with a word's four at an offset, where they fit; else the bytes as they are
+unfoldable pub putIn : List ℕ → ℕ → ℕ → List ℕ
+putIn bs at w = cond (leb (at + 4) (length bs)) (take at bs ++ bytes4 w ++ drop (at + 4) bs) bs
+
 -- words one after the other as bytes
 unfoldable pub bytesOf : List ℕ → List ℕ
 bytesOf [] = []
@@ -39,5 +47,5 @@ bytesOf (w ∷ ws) = bytes4 w ++ bytesOf ws
 
 -- names on an `unfolding` line what a computation with this module needs
 unfoldable pub words : Unit {0}
-unfolding wordAt wordsOf bytesOf
+unfolding wordAt wordIn wordsOf putIn bytesOf
 words = tt
