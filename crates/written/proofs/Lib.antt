@@ -2,3 +2,9 @@ pub mod Lists
 pub mod Numbers
 pub mod Walks
 pub mod Header
+pub mod Draft
+pub mod Texts
+pub mod Blocks
+pub mod Fields
+pub mod Payload
+pub mod Rules
