@@ -8,3 +8,4 @@ pub mod Blocks
 pub mod Fields
 pub mod Payload
 pub mod Rules
+pub mod Tree
