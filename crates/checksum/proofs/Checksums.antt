@@ -1,11 +1,12 @@
 -- Laws of crcFrom and of the checksum, byte by byte and part by part. Assumes nothing.
 use mathlib.Core.Path.{_≡_, refl, sym, ap, ap₂, _∙_}
-use mathlib.Core.List.{List, [], _∷_, _++_}
-use Prim.Native.Nat.{ℕ, zero, suc, _+_, _-_, _≤_, _<_, min}
+use mathlib.Core.List.{List, [], _∷_, _++_, append-assoc}
+use mathlib.Core.Logic.{_⊎_, inl, inr}
+use Prim.Native.Nat.{ℕ, zero, suc, _+_, _-_, _^_, _≤_, _<_, min}
 use native.Mathlib.Numerals.{add-one}
 use native.Mathlib.Omega.{arith}
-use lib.ListN.{length, getD, take, drop, drop-of-length-le, length-drop}
-use lib.Seq.{drop-cons, take-all, take-nil, drop-nil}
+use lib.ListN.{length, getD, take, drop, set, drop-of-length-le, length-take, length-drop, length-append}
+use lib.Seq.{drop-cons, take-all, take-nil, drop-nil, take-at, drop-at, getD-take, getD-drop, take-set-le, drop-set-lt, length-take-le, ext-getD}
 use native.Mathlib.Nat.{zero-min, suc-min-suc}
 use Rattle.checksum.specs.Crc.{ones, byteStep, crcFrom, crc32, skipFrom, skipTo, checksumOf}
 
@@ -58,3 +59,37 @@ checksum-parts s end start head all e f p q =
     (p ∙ ap (crcFrom ones) (ap (λ n. take n s) e ∙ take-min skipFrom s))
     (to-end start s ∙ ap (λ n. drop n s) f ∙ drop-min skipTo s)
     ∙ sym (crc-append ones (take skipFrom s) (drop skipTo s)))
+
+pub checksum-lt : (s : List ℕ) → checksumOf s < 2 ^ 32
+unfolding checksumOf crc32
+checksum-lt s = omega arith
+
+-- ---- the checksum does not see its own bytes
+
+pub checksum-agree : (s t : List ℕ) → take skipFrom s ≡ take skipFrom t → drop skipTo s ≡ drop skipTo t → checksumOf s ≡ checksumOf t
+unfolding checksumOf
+checksum-agree s t p q = ap₂ (λ x y. crc32 (x ++ y)) p q
+
+-- two lists that agree outside bytes 84 to 87
+pub checksum-outside : (s t : List ℕ)
+    → length s ≡ length t
+    → ((i : ℕ) → (i < skipFrom) ⊎ (skipTo ≤ i) → getD s i 0 ≡ getD t i 0)
+    → checksumOf s ≡ checksumOf t
+checksum-outside s t e agree =
+    checksum-agree s t
+    (ext-getD 0 (take skipFrom s) (take skipFrom t) (simp length-take (omega arith))
+    (λ i h. let k : i < skipFrom = omega (arith, simp length-take at h) in rw (getD-take, getD-take) (agree i (inl k))))
+    (ext-getD 0 (drop skipTo s) (drop skipTo t) (simp length-drop (omega arith))
+    (λ i h. rw (getD-drop, getD-drop) (agree (skipTo + i) (inr (omega arith)))))
+
+-- a byte of the checksum is stored
+pub checksum-set : (s : List ℕ) (i v : ℕ) → skipFrom ≤ i → i < skipTo → checksumOf (set s i v) ≡ checksumOf s
+checksum-set s i v h k = checksum-agree (set s i v) s (take-set-le skipFrom s i v h) (drop-set-lt skipTo s i v k)
+
+-- its four bytes are put in their place
+pub checksum-filled : (s w : List ℕ) → skipFrom ≤ length s → length w ≡ 4 → checksumOf (take skipFrom s ++ w ++ drop skipTo s) ≡ checksumOf s
+checksum-filled s w h e =
+    let l : length (take skipFrom s) ≡ skipFrom = length-take-le skipFrom s h in
+    checksum-agree (take skipFrom s ++ w ++ drop skipTo s) s
+    (ap (take skipFrom) (append-assoc (take skipFrom s) w (drop skipTo s)) ∙ take-at (take skipFrom s) (w ++ drop skipTo s) skipFrom l)
+    (drop-at (take skipFrom s ++ w) (drop skipTo s) skipTo (simp length-append (omega arith)))

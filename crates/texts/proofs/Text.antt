@@ -119,6 +119,14 @@ unlike-same s t d = by (same s t) refl
 pub same-unlike : (s t : List ℕ) → same s t ≡ false → s ≡ t → ⊥
 same-unlike s t p e = false≢true (sym p ∙ equal-same s t e)
 
+-- two questions with one answer
+pub same-iff : (s t u v : List ℕ) → (s ≡ t → u ≡ v) → (u ≡ v → s ≡ t) → same s t ≡ same u v
+same-iff s t u v f g = by (same s t) refl
+  where
+    by : (b : Bool) → same s t ≡ b → b ≡ same u v
+    by true e = sym (equal-same u v (f (same-equal s t e)))
+    by false e = sym (unlike-same u v (λ q. same-unlike s t e (g q)))
+
 pub length-same : (s t : List ℕ) → (length s ≡ length t → ⊥) → same s t ≡ false
 length-same s t d = unlike-same s t (λ e. d (ap length e))
 
