@@ -1,7 +1,7 @@
 -- What the rules say of a draft that the writer takes, and of its numbering. Assumes nothing.
 use Prim.Native.Nat.{ℕ, zero, suc, _+_, _%_, _≤_, _<_}
-use mathlib.Core.Path.{_≡_, refl, _∙_, subst}
-use mathlib.Core.List.{List, [], _∷_, _++_, reverseAux}
+use mathlib.Core.Path.{_≡_, refl, ap, _∙_}
+use mathlib.Core.List.{List, [], _∷_, _++_, reverse, reverse-append}
 use mathlib.Core.Bool.{Bool, true, false, _&&_, not}
 use native.Mathlib.Omega.{arith}
 use lib.ListN.{length, getD, length-reverse}
@@ -15,15 +15,16 @@ use Rattle.words.specs.Words.{NONE}
 use Rattle.texts.specs.Text.{rising}
 use Rattle.image.specs.Sections.{Sections, nodeCount, childCount, namedCount, definitionCount, itemCount, parentOf, placeOf, inside}
 use Rattle.image.specs.Header.{inkRight}
-use Rattle.records.specs.Records.{childrenOf, namedOf, fieldsRule, parentRule, rootRight}
-use Rattle.tree.specs.Tree.{childAt, namedAt, childRule, namedRule, entriesRule, entryNodes, readWalk, walk, turns, allSeen}
+use Rattle.records.specs.Records.{fieldsRule, parentRule, rootRight, usedUp}
+use Rattle.tree.specs.Tree.{entriesRule, readWalk, allSeen}
 use Rattle.index.specs.Definitions.{goodDefinition, goodItem, itemsRight, itemsOf, itemsUsedUp, definitionText, itemTextOf}
 use Rattle.draft.specs.Draft.{wholeEntries, draftNodeRule, draftChildRule, draftNamedRule, draftDefinitionRule, draftItemRule, tablesRule, reachRule, relationRule, orderRule, shapeRule, newPath, pathRule, pathsRule}
 use Rattle.draft.specs.Numbering.{numbering}
 use Rattle.encoder.specs.Encode.{imageFor, draftRule, encodeRule}
-use Rattle.written.proofs.Lists.{both-true, or-left, all-of, All, all-append, all-reverse, all-join}
-use Rattle.written.proofs.Numbers.{has-reverse, Distinct, distinct-reverse, pigeon, cover}
-use Rattle.written.proofs.Walks.{walk-keeps}
+use Rattle.tree.proofs.Members.{both-true, All, all-of, all-reverse, has-reverse, Distinct, pigeon, cover}
+use Rattle.tree.proofs.Entries.{entries-inside, counts}
+use Rattle.tree.proofs.Numbers.{read-distinct, read-inside, read-first}
+use Rattle.written.proofs.Numbers.{distinct-reverse}
 
 pub record Taken (s : Sections) : Type 0 where
   pub some : zero < nodeCount s
@@ -31,6 +32,7 @@ pub record Taken (s : Sections) : Type 0 where
   pub definitions : (d : ℕ) → d < definitionCount s → (goodDefinition s d ≡ true) × (itemsRight s d ≡ true)
   pub items : (j : ℕ) → j < itemCount s → goodItem s j ≡ true
   pub items-used : itemsUsedUp s ≡ true
+  pub used : usedUp s ≡ true
   pub reached : (i : ℕ) → i < nodeCount s → has i (readWalk s .seen) ≡ true
   pub root : rootRight s ≡ true
   pub parents : (i : ℕ) → i < nodeCount s → parentRule s i ≡ 0
@@ -74,6 +76,7 @@ module _ (ink : ℕ) (s : Sections) (work room : ℕ) (p : encodeRule ink s work
         definitions = λ d h. let q = both _ _ (first-all _ _ (t5 .0) d h) in (passed _ 18 (q .0), passed _ 18 (q .1));
         items = λ j h. passed _ 18 (first-all _ _ (t6 .1) j h);
         items-used = passed _ 18 (t6 .0);
+        used = passed _ 18 (both _ _ (t1 .1) .0);
         reached = λ i h. all-of _ _ (passed _ 19 (both _ _ after-tables .0)) i h;
         root = passed _ 20 (shape .0);
         parents = λ i h. relation i h .0;
@@ -96,70 +99,28 @@ pub record Numbered (n : ℕ) (order : List ℕ) : Type 0 where
   pub each : (i : ℕ) → i < n → has i order ≡ true
   pub first : getD order 0 0 ≡ 0
 
--- the nodes of entries that pass are inside
-pub child-inside : (s : Sections) (i j : ℕ) → childRule s i j ≡ 0 → childAt s i j < nodeCount s
-unfolding childRule
-child-inside s i j p =
-    ltb-true _ _
-    (both-true (ltb (childAt s i j) (nodeCount s)) _
-    (both-true (inside s (childAt s i j)) _ (both-true (inside s (childAt s i j) && eqb (parentOf s (childAt s i j)) i) _ (passed _ 13 p) .0) .0) .0)
-
-pub named-inside : (s : Sections) (i j : ℕ) → namedRule s i j ≡ 0 → namedAt s i j 2 < nodeCount s
-unfolding namedRule
-named-inside s i j p =
-    ltb-true _ _
-    (both-true (ltb (namedAt s i j 2) (nodeCount s)) _
-    (both-true (inside s (namedAt s i j 2)) _ (passed _ 8 (both _ _ (both _ _ (both _ _ p .1) .1) .0)) .0) .0)
-
-pub entries-all : (P : ℕ → Type 0) (s : Sections) (i : ℕ)
-    → ((j : ℕ) → j < childrenOf s i → P (childAt s i j)) → ((j : ℕ) → j < namedOf s i → P (namedAt s i j 2)) → All P (entryNodes s i)
-unfolding entryNodes
-entries-all P s i a b =
-    all-append P (joinOf (childrenOf s i) (λ j. childAt s i j ∷ [])) (joinOf (namedOf s i) (λ j. namedAt s i j 2 ∷ []))
-    (all-join P (childrenOf s i) (λ j. childAt s i j ∷ []) (λ j h. (a j h, tt))) (all-join P (namedOf s i) (λ j. namedAt s i j 2 ∷ []) (λ j h. (b j h, tt)))
-
-pub entries-inside : (s : Sections) (i : ℕ) → entriesRule s i ≡ 0 → All (λ x. x < nodeCount s) (entryNodes s i)
-unfolding entriesRule
-entries-inside s i p =
-    entries-all (λ x. x < nodeCount s) s i (λ j h. child-inside s i j (first-all _ _ (both _ _ p .0) j h)) (λ j h. named-inside s i j (first-all _ _ (both _ _ p .1) j h))
-
 module _ (s : Sections) (t : Taken s) where
-  abbrev In : ℕ → Type 0
-  In x = x < nodeCount s
+  within-all : All (λ x. x < nodeCount s) (readWalk s .seen)
+  within-all = read-inside s (counts s (t .some) (t .used)) (λ i h. entries-inside s i (t .entries i h))
 
-  down : (i : ℕ) → In i → All In (entryNodes s i)
-  down i h = entries-inside s i (t .entries i h)
-
-  -- a property of the marks that a walk keeps, at its end
-  keeps : (Q : List ℕ → Type 0) → ((i : ℕ) (seen : List ℕ) → In i → has i seen ≡ false → Q seen → Q (i ∷ seen)) → Q [] → Q (readWalk s .seen)
-  unfolding readWalk
-  keeps Q add q = walk-keeps (λ i. 0) (entryNodes s) In down Q add (turns s) [] (0 ∷ []) q (t .some, tt)
-
-  -- the root is the last of the marks
-  abbrev Last : List ℕ → Type 0
-  Last seen = (ys : List ℕ) → getD (reverseAux seen ys) 0 0 ≡ 0
-
-  last : Last (readWalk s .seen)
-  unfolding readWalk
-  last = subst (λ (n : ℕ). Last (walk (λ i. 0) (entryNodes s) n [] (0 ∷ []) .seen)) turn one
-    where
-      turn : suc (childCount s + namedCount s) ≡ turns s
-      turn = omega arith
-
-      one : Last (walk (λ i. 0) (entryNodes s) (suc (childCount s + namedCount s)) [] (0 ∷ []) .seen)
-      one =
-          unfold walk has in (walk-keeps (λ i. 0) (entryNodes s) In down Last (λ i seen p e q ys. q (i ∷ ys)) (childCount s + namedCount s) (0 ∷ [])
-          (entryNodes s 0 ++ []) (λ ys. refl) (all-append In (entryNodes s 0) [] (down 0 (t .some)) tt))
+  root-first : getD (numbering s) 0 0 ≡ 0
+  unfolding numbering
+  root-first =
+      ap (λ (l : List ℕ). getD (reverse l) 0 0) (read-first s .behind) ∙ ap (λ (l : List ℕ). getD l 0 0) (reverse-append (read-first s .front) (0 ∷ []))
 
   pub numbered : Numbered (nodeCount s) (numbering s)
-  unfolding numbering has
+  unfolding numbering
   numbered =
-      let within = keeps (All In) (λ i seen p e a. (p, a)) tt in
-      let apart = keeps Distinct (λ i seen p e a. (e, a)) tt in
       record {
-        len = omega (arith, length-reverse (readWalk s .seen), pigeon (nodeCount s) (readWalk s .seen) apart within, cover (nodeCount s) (readWalk s .seen) (t .reached));
-        apart = distinct-reverse (readWalk s .seen) [] apart tt (λ x h. refl);
-        within = all-reverse In (readWalk s .seen) [] within tt;
-        each = λ i h. has-reverse i (readWalk s .seen) [] ∙ or-left (has i (readWalk s .seen)) _ (t .reached i h);
-        first = last [];
+        len =
+            omega (
+              arith,
+              length-reverse (readWalk s .seen),
+              pigeon (nodeCount s) (readWalk s .seen) (read-distinct s) within-all,
+              cover (nodeCount s) (readWalk s .seen) (t .reached),
+            );
+        apart = distinct-reverse (readWalk s .seen) [] (read-distinct s) tt (λ x h. unfold has in refl);
+        within = all-reverse (λ x. x < nodeCount s) (readWalk s .seen) within-all;
+        each = λ i h. has-reverse i (readWalk s .seen) ∙ t .reached i h;
+        first = root-first;
       }

@@ -21,7 +21,8 @@ use Rattle.records.specs.Records.{fieldsAt, childrenOf, namedOf, payloadOf}
 use Rattle.draft.specs.Numbering.{oldOf, newOf}
 use Rattle.encoder.specs.Written.{fieldStart, fieldWords, putFields, moreWords, nodeOut, startIn}
 use Rattle.written.specs.Written.{DraftWords}
-use Rattle.written.proofs.Lists.{both-true, and, not-of, all-get, sum-below, sum-ext}
+use Rattle.tree.proofs.Members.{both-true, and-true, sum-ext}
+use Rattle.written.proofs.Lists.{not-of, all-get, sum-below}
 use Rattle.written.proofs.Numbers.{place-get, get-place}
 use Rattle.written.proofs.Header.{image-length}
 use Rattle.written.proofs.Draft.{Taken, Numbered}
@@ -105,7 +106,7 @@ module _ {s : Sections} {order : List ℕ} {kept : List (List ℕ)} (g : Given s
 
   pub inside-written : (j : ℕ) → j < nodeCount s → inside v j ≡ true
   inside-written j h =
-      and (ltb j (nodeCount v)) _ (lt-ltb j (nodeCount v) (omega (arith, counted))) (not-of _ (ne-eqb j NONE (λ e. omega (arith, few))))
+      and-true (ltb j (nodeCount v)) _ (lt-ltb j (nodeCount v) (omega (arith, counted))) (not-of _ (ne-eqb j NONE (λ e. omega (arith, few))))
 
   pub inside-new : (i : ℕ) → i < nodeCount s → inside v (newOf order i) ≡ true
   inside-new i h = ap (inside v) (new-is i h) ∙ inside-written (placeIn order i) (new-in i h)

@@ -20,7 +20,8 @@ use Rattle.image.specs.Sections.{Sections, partAt, nodeCount, namedCount, defin
 use Rattle.image.specs.Header.{magic, headerLength, version, nodeWords, sectionAt, viewOf, sectionBytes, sectionsIn, sectionsOf, sizes, startBy, laidOut, inkRight, headerRule}
 use Rattle.image.specs.Encoding.{countOf, sectionOut, startOf, bodyOf, headerWith, imageOf}
 use Rattle.load.specs.Load.{checksumRule}
-use Rattle.written.proofs.Lists.{both-true, and, not-of, all-so, sum-ext, sum-below, join-length, join-part}
+use Rattle.tree.proofs.Members.{both-true, and-true, all-so, sum-ext}
+use Rattle.written.proofs.Lists.{not-of, sum-below, join-length, join-part}
 
 -- one of eight
 pub eight : (P : ℕ → Type 0) → P 0 → P 1 → P 2 → P 3 → P 4 → P 5 → P 6 → P 7 → (k : ℕ) → k < 8 → P k
@@ -206,9 +207,9 @@ module _ (ink : ℕ) (s : Sections) (o : Whole s) (small : ink < 2 ^ 32) where
   laid-out : laidOut (imageOf ink s) ≡ true
   unfolding laidOut
   laid-out =
-      and _ _
-      (and _ _
-      (all-so 8 _ (λ k h. and _ _ (eq-eqb _ _ (offset-is k h ∙ sym (start-by k (omega arith))))
+      and-true _ _
+      (and-true _ _
+      (all-so 8 _ (λ k h. and-true _ _ (eq-eqb _ _ (offset-is k h ∙ sym (start-by k (omega arith))))
       (le-leb (startBy (imageOf ink s) (suc k)) (length (imageOf ink s)) (omega (arith, start-by (suc k) h, start-next k, section-end k h, image-length ink s)))))
       (eq-eqb _ _ (start-by 8 (omega arith) ∙ sym (image-length ink s))))
       (not-of _ (ne-eqb (sectionAt (imageOf ink s) 0 .count) 0 (λ e. omega (arith, count-is 0 (omega arith), first-count, o .some))))
@@ -216,7 +217,7 @@ module _ (ink : ℕ) (s : Sections) (o : Whole s) (small : ink < 2 ^ 32) where
   pub header-passes : inkRight ink ≡ true → headerRule (imageOf ink s) ≡ 0
   unfolding headerRule
   header-passes h =
-      then _ _ (pass _ _ (and _ _ (le-leb headerLength (length (imageOf ink s)) (omega (arith, image-length ink s, over))) (image-words .0)))
+      then _ _ (pass _ _ (and-true _ _ (le-leb headerLength (length (imageOf ink s)) (omega (arith, image-length ink s, over))) (image-words .0)))
       (then _ _ (pass _ _ (eq-eqb _ _ (image-words .1)))
       (then _ _ (pass _ _ (ap inkRight (image-words .2) ∙ h))
       (then _ _ (pass _ _ (eq-eqb _ _ (image-words .3 ∙ sym (image-length ink s))))

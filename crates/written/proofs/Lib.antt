@@ -1,6 +1,5 @@
 pub mod Lists
 pub mod Numbers
-pub mod Walks
 pub mod Header
 pub mod Draft
 pub mod Texts

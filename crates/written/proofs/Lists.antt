@@ -1,91 +1,43 @@
--- Tests, every element of a list, sums, and where the parts of a joined list stand. Assumes nothing.
+-- Every element of a list, sums, and where the parts of a joined list stand. Assumes nothing.
 use Prim.Native.Nat.{ℕ, zero, suc, _+_, _*_, _≤_, _<_}
 use mathlib.Core.Path.{_≡_, refl, sym, ap, _∙_, subst}
 use mathlib.Core.Logic.{⊎-elim}
-use mathlib.Core.List.{List, [], _∷_, _++_, reverseAux, List·Memᴰ, List·Memᴰ·cases-cons, List·Memᴰ·not-nil}
-use mathlib.Core.Bool.{Bool, true, false, _&&_, _||_, not, false≢true}
+use mathlib.Core.List.{List, [], _∷_, _++_, List·Memᴰ, List·Memᴰ·cases-cons, List·Memᴰ·not-nil}
+use mathlib.Core.Bool.{Bool, true, false, _||_, not, false≢true}
 use native.Mathlib.Omega.{arith}
 use native.Mathlib.Nat.{not-suc-le-zero, mul-one, zero-mul, suc-mul, add-mul}
 use native.Mathlib.Decide.{ℕ-discrete}
 use lib.ListN.{length, getD, set, take, drop, length-append, length-drop, List·getD-append}
 use lib.Seq.{sets, getD-append-add, take-append-le, drop-append-le, drop-at, take-length}
-use Rattle.laws.specs.Counted.{sumOf, allOf, joinOf}
+use Rattle.laws.specs.Counted.{sumOf, joinOf}
 use Rattle.laws.specs.Lists.{Below}
+use Rattle.tree.proofs.Members.{All, all-append, sum-ext}
 
 -- ---- tests
-
-pub both-true : (a b : Bool) → (a && b) ≡ true → (a ≡ true) × (b ≡ true)
-both-true true b p = (refl, p)
-both-true false b p = absurd (false≢true p)
-
-pub and : (a b : Bool) → a ≡ true → b ≡ true → (a && b) ≡ true
-and a b p q = rw p q
-
-pub or-left : (a b : Bool) → a ≡ true → (a || b) ≡ true
-or-left a b p = rw p refl
-
-pub or-right : (a b : Bool) → b ≡ true → (a || b) ≡ true
-or-right true b p = refl
-or-right false b p = p
 
 pub or-else : (a b : Bool) → (a || b) ≡ true → a ≡ false → b ≡ true
 or-else true b h e = absurd (false≢true (sym e))
 or-else false b h e = h
 
-pub or-false : (a b : Bool) → (a || b) ≡ false → (a ≡ false) × (b ≡ false)
-or-false true b p = absurd (false≢true (sym p))
-or-false false b p = (refl, p)
-
 pub not-of : (b : Bool) → b ≡ false → not b ≡ true
 not-of b e = rw e refl
 
--- each test passes where all do, and all do where each does
-pub all-of : (n : ℕ) (g : ℕ → Bool) → allOf n g ≡ true → (i : ℕ) → i < n → g i ≡ true
-unfolding allOf
-all-of zero g p i h = absurd (not-suc-le-zero h)
-all-of (suc n) g p i h =
-    elim (ℕ-discrete i n) [
-      | yes e ↦ ap g e ∙ both-true (allOf n g) (g n) p .1
-      | no d ↦ all-of n g (both-true (allOf n g) (g n) p .0) i (omega arith)
-    ]
-
-pub all-so : (n : ℕ) (g : ℕ → Bool) → ((i : ℕ) → i < n → g i ≡ true) → allOf n g ≡ true
-unfolding allOf
-all-so zero g h = refl
-all-so (suc n) g h = and (allOf n g) (g n) (all-so n g (λ i k. h i (omega arith))) (h n (omega arith))
-
 -- ---- every element
 
-abbrev pub All : (ℕ → Type 0) → List ℕ → Type 0
-All P [] = Unit {0}
-All P (x ∷ xs) = P x × All P xs
-
-pub all-map : {P Q : ℕ → Type 0} (xs : List ℕ) → ((x : ℕ) → P x → Q x) → All P xs → All Q xs
-all-map [] g a = tt
-all-map (x ∷ xs) g a = (g x (a .0), all-map xs g (a .1))
-
-pub all-append : (P : ℕ → Type 0) (xs ys : List ℕ) → All P xs → All P ys → All P (xs ++ ys)
-all-append P [] ys a b = b
-all-append P (x ∷ xs) ys a b = (a .0, all-append P xs ys (a .1) b)
-
-pub all-reverse : (P : ℕ → Type 0) (xs ys : List ℕ) → All P xs → All P ys → All P (reverseAux xs ys)
-all-reverse P [] ys a b = b
-all-reverse P (x ∷ xs) ys a b = all-reverse P xs (x ∷ ys) (a .1) (a .0, b)
-
-pub all-join : (P : ℕ → Type 0) (n : ℕ) (g : ℕ → List ℕ) → ((j : ℕ) → j < n → All P (g j)) → All P (joinOf n g)
+pub all-joined : (P : ℕ → Type 0) (n : ℕ) (g : ℕ → List ℕ) → ((j : ℕ) → j < n → All P (g j)) → All P (joinOf n g)
 unfolding joinOf
-all-join P zero g h = tt
-all-join P (suc n) g h = all-append P (joinOf n g) (g n) (all-join P n g (λ j k. h j (omega arith))) (h n (omega arith))
+all-joined P zero g h = tt
+all-joined P (suc n) g h = all-append P (joinOf n g) (g n) (all-joined P n g (λ j k. h j (omega arith))) (h n (omega arith))
 
 pub all-get : (P : ℕ → Type 0) (xs : List ℕ) (k : ℕ) → All P xs → P 0 → P (getD xs k 0)
 all-get P [] k a z = z
 all-get P (x ∷ xs) zero a z = a .0
 all-get P (x ∷ xs) (suc k) a z = all-get P xs k (a .1) z
 
-pub all-at : (P : ℕ → Type 0) (xs : List ℕ) (k : ℕ) → k < length xs → All P xs → P (getD xs k 0)
-all-at P [] k h a = absurd (not-suc-le-zero h)
-all-at P (x ∷ xs) zero h a = a .0
-all-at P (x ∷ xs) (suc k) h a = all-at P xs k (omega arith) (a .1)
+pub all-nth : (P : ℕ → Type 0) (xs : List ℕ) (k : ℕ) → k < length xs → All P xs → P (getD xs k 0)
+all-nth P [] k h a = absurd (not-suc-le-zero h)
+all-nth P (x ∷ xs) zero h a = a .0
+all-nth P (x ∷ xs) (suc k) h a = all-nth P xs k (omega arith) (a .1)
 
 all-set : (P : ℕ → Type 0) (xs : List ℕ) (k v : ℕ) → All P xs → P v → All P (set xs k v)
 all-set P [] k v a p = tt
@@ -102,11 +54,6 @@ all-below n (y ∷ xs) a x m = ⊎-elim (λ e. omega (arith, a .0)) (all-below n
 
 -- ---- sums
 
-pub sum-ext : (n : ℕ) (g h : ℕ → ℕ) → ((i : ℕ) → i < n → g i ≡ h i) → sumOf n g ≡ sumOf n h
-unfolding sumOf
-sum-ext zero g h e = refl
-sum-ext (suc n) g h e = omega (arith, sum-ext n g h (λ i k. e i (omega arith)), e n (omega arith))
-
 pub sum-const : (n c : ℕ) → sumOf n (λ j. c) ≡ n * c
 unfolding sumOf
 sum-const zero c = sym (simp zero-mul)
@@ -116,11 +63,6 @@ pub sum-scale : (n c : ℕ) (g : ℕ → ℕ) → sumOf n (λ j. g j * c) ≡ su
 unfolding sumOf
 sum-scale zero c g = sym (zero-mul c)
 sum-scale (suc n) c g = rw (sum-scale n c g) (sym (add-mul (sumOf n g) (g n) c))
-
-pub sum-add : (n : ℕ) (a b : ℕ → ℕ) → sumOf n (λ j. a j + b j) ≡ sumOf n a + sumOf n b
-unfolding sumOf
-sum-add zero a b = refl
-sum-add (suc n) a b = omega (arith, sum-add n a b)
 
 pub sum-below : (k n : ℕ) (g : ℕ → ℕ) → k < n → sumOf k g + g k ≤ sumOf n g
 unfolding sumOf

@@ -19,7 +19,8 @@ use Rattle.records.specs.Records.{fieldRule, firstField, payloadRule, payloadOf
 use Rattle.draft.specs.Numbering.{oldOf}
 use Rattle.encoder.specs.Strings.{offsetOf}
 use Rattle.encoder.specs.Written.{listItemOut, listOriginOut, listOut, payloadOut, writtenWith}
-use Rattle.written.proofs.Lists.{both-true, All, all-append, all-join, all-below, join-read, join-len, even-read, even-len}
+use Rattle.tree.proofs.Members.{both-true, All, all-append}
+use Rattle.written.proofs.Lists.{all-joined, all-below, join-read, join-len, even-read, even-len}
 use Rattle.written.proofs.Texts.{offset-le, text-short}
 use Rattle.written.proofs.Blocks.{w}
 use Rattle.written.proofs.Fields.{Given, old-in}
@@ -114,8 +115,8 @@ module _ {s : Sections} {order : List ℕ} {kept : List (List ℕ)} (g : Given s
   list-small at =
       all-append Small ((listItems s at ∷ listOrigins s at ∷ []) ++ joinOf (listItems s at) (listItemOut s order kept at))
       (joinOf (listOrigins s at) (listOriginOut s order kept at))
-      (list-word-small at 0, (list-word-small at 4, all-join Small (listItems s at) (listItemOut s order kept at) (λ j h. item-small at j)))
-      (all-join Small (listOrigins s at) (listOriginOut s order kept at) (λ j h. origin-small at j))
+      (list-word-small at 0, (list-word-small at 4, all-joined Small (listItems s at) (listItemOut s order kept at) (λ j h. item-small at j)))
+      (all-joined Small (listOrigins s at) (listOriginOut s order kept at) (λ j h. origin-small at j))
 
   -- ---- what the draft's rule says of a list
 

@@ -21,7 +21,8 @@ use Rattle.records.specs.Records.{fieldsAt, childrenOf, namedOf, payloadOf, lis
 use Rattle.draft.specs.Numbering.{oldOf, newOf}
 use Rattle.encoder.specs.Strings.{textIf, listTexts, fieldTexts, offsetOf}
 use Rattle.encoder.specs.Written.{fieldStart, fieldWords, listItemOut, listOriginOut, listOut, writtenWith}
-use Rattle.written.proofs.Lists.{both-true, and, or-left, or-right, or-else, not-of, all-of, sum-ext, sum-below}
+use Rattle.tree.proofs.Members.{both-true, and-true, or-left, or-right, all-of, sum-ext}
+use Rattle.written.proofs.Lists.{or-else, not-of, sum-below}
 use Rattle.written.proofs.Texts.{in-left, in-right, in-one, in-join, good-utf8, text-back, text-good}
 use Rattle.written.proofs.Blocks.{w, child-count, named-count}
 use Rattle.written.proofs.Fields.{Given, counted, old-in, old-new, new-in, old-zero, zero-old, inside-lt, new-is, inside-new, parent-word, place-word, tag-word, Reads, ReadsAll, reads, container-same, children-of, named-of, payload-of, start-is, sum-written}
@@ -83,7 +84,7 @@ module _ {s : Sections} {order : List ℕ} {kept : List (List ℕ)} (g : Given s
     where
       go : (c : Bool) → absent at len ≡ c → ((t : List ℕ) → holds (cond c [] (textAt s at len ∷ [])) t ≡ true → holds kept t ≡ true)
           → a ≡ cond c NONE (offsetOf kept (textAt s at len)) → b ≡ cond c NONE (length (textAt s at len)) → goodOptional v a b ≡ true
-      go true e l x y = or-left (absent a b) (goodText v a b) (and (isNone a) (isNone b) (eq-eqb a NONE x) (eq-eqb b NONE y))
+      go true e l x y = or-left (absent a b) (goodText v a b) (and-true (isNone a) (isNone b) (eq-eqb a NONE x) (eq-eqb b NONE y))
       go false e l x y =
           or-right (absent a b) (goodText v a b)
           (good-at (textAt s at len) a b (l (textAt s at len) (in-one (textAt s at len))) (good-utf8 s at len (or-else (absent at len) (goodText s at len) h e)) x y)
@@ -100,7 +101,7 @@ module _ {s : Sections} {order : List ℕ} {kept : List (List ℕ)} (g : Given s
   container-at i a h e =
       let q = both-true (inside s i) (isContainer s i) h in
       let z = inside-lt g i (q .0) in
-      and (inside v a) (isContainer v a) (node-at i a (q .0) e)
+      and-true (inside v a) (isContainer v a) (node-at i a (q .0) e)
       (ap (isContainer v) (e ∙ new-is g i z) ∙ container-new i z ∙ q .1)
 
   none-at : (i a : ℕ) → isNone i ≡ true → a ≡ newOf order i → isNone a ≡ true
@@ -192,8 +193,8 @@ module _ {s : Sections} {order : List ℕ} {kept : List (List ℕ)} (g : Given s
           let pays : payloadOf s (oldOf order j) ≡ f s (oldOf order j) 1 = unfold payloadOf in rw e refl in
           let below = sum-below j (nodeCount s) (λ m. payloadOf s (oldOf order m)) h in
           then _ _
-          (pass _ 11 (and _ _
-          (and _ _ (le-leb (to + f s (oldOf order j) 1) (length (v .payload)) (omega (arith, payload-count g)))
+          (pass _ 11 (and-true _ _
+          (and-true _ _ (le-leb (to + f s (oldOf order j) 1) (length (v .payload)) (omega (arith, payload-count g)))
           (le-leb 8 (f s (oldOf order j) 1) (omega arith)))
           (eq-eqb (f s (oldOf order j) 1) (8 + listItems v to * 20 + listOrigins v to * 8) (omega (arith, items-same, origins-same)))))
           (then _ _
@@ -232,7 +233,7 @@ module _ {s : Sections} {order : List ℕ} {kept : List (List ℕ)} (g : Given s
       go false e =
           let d : i ≡ 0 → ⊥ = λ z. eqb-false j 0 e (zero-old g j h z) in
           let p = parent-draft i (old-in g j h) d in
-          pass _ 9 (and (insideContainer v (parentOf v j)) _ (container-at (parentOf s i) (parentOf v j) (p .0) (parent-word g j h))
+          pass _ 9 (and-true (insideContainer v (parentOf v j)) _ (container-at (parentOf s i) (parentOf v j) (p .0) (parent-word g j h))
           (not-of _ (ne-eqb (parentOf v j) j
           (λ z. p .1 (sym (old-new g (parentOf s i) (parent-lt i (old-in g j h) d)) ∙ ap (oldOf order) (sym (parent-new j h d) ∙ z))))))
 
@@ -277,7 +278,7 @@ module _ {s : Sections} {order : List ℕ} {kept : List (List ℕ)} (g : Given s
     field-kept (plain k) z r l p = refl
     field-kept (atMost k n) z r l p = pass _ 12 (ap (λ (x : ℕ). leb x n) (r .0) ∙ passed _ 11 p)
     field-kept children z r l p =
-        pass _ 11 (and _ _
+        pass _ 11 (and-true _ _
         (le-leb (f v j 3 + f v j 4) (childCount v)
         (omega (
           arith,
@@ -290,7 +291,7 @@ module _ {s : Sections} {order : List ℕ} {kept : List (List ℕ)} (g : Given s
         )))
         (eq-eqb _ _ (r .0 ∙ sym (sum-written g (childrenOf v) (childrenOf s) (children-of g) j h))))
     field-kept named z r l p =
-        pass _ 11 (and _ _
+        pass _ 11 (and-true _ _
         (le-leb (f v j 5 + f v j 6) (namedCount v)
         (omega (
           arith,
@@ -336,8 +337,8 @@ module _ {s : Sections} {order : List ℕ} {kept : List (List ℕ)} (g : Given s
       let r = both-true (isNone (parentOf s 0) && isNone (placeOf s 0)) (isContainer s 0) (unfold rootRight in g .taken .root) in
       let q = both-true (isNone (parentOf s 0)) (isNone (placeOf s 0)) (r .0) in
       let back = old-zero g in
-      and _ _
-      (and _ _ (none-at (parentOf s 0) (parentOf v 0) (q .0) (parent-word g 0 z ∙ ap (λ (x : ℕ). newOf order (parentOf s x)) back))
+      and-true _ _
+      (and-true _ _ (none-at (parentOf s 0) (parentOf v 0) (q .0) (parent-word g 0 z ∙ ap (λ (x : ℕ). newOf order (parentOf s x)) back))
       (ap isNone (place-word g 0 z ∙ ap (placeOf s) back) ∙ q .1))
       (container-same g 0 z ∙ ap (isContainer s) back ∙ r .1)
 
@@ -353,5 +354,5 @@ module _ {s : Sections} {order : List ℕ} {kept : List (List ℕ)} (g : Given s
   pub used-up : usedUp v ≡ true
   unfolding usedUp
   used-up =
-      and _ _ (and _ _ (eq-eqb _ _ children-used) (eq-eqb _ _ named-used))
+      and-true _ _ (and-true _ _ (eq-eqb _ _ children-used) (eq-eqb _ _ named-used))
       (eq-eqb _ _ (all-before (payloadOf v) (payloadOf s) (payload-of g) ∙ sym (payload-count g)))

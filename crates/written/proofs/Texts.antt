@@ -22,7 +22,7 @@ use Rattle.tree.specs.Tree.{namedText}
 use Rattle.index.specs.Definitions.{definitionText, itemsOf, itemTextOf}
 use Rattle.draft.specs.Numbering.{oldOf}
 use Rattle.encoder.specs.Strings.{byPath, pathOf, nodeTexts, namedTexts, definitionTexts, uses, distinct, storedTexts, offsetOf}
-use Rattle.written.proofs.Lists.{both-true, and, or-left, or-right}
+use Rattle.tree.proofs.Members.{both-true, and-true, or-left, or-right}
 
 -- ---- texts that a list holds
 
@@ -153,8 +153,8 @@ module _ (w : Sections) (kept : List (List ℕ)) (e : w .strings ≡ flatMap (λ
   text-good t h u =
       let fit = offset-inside kept t h in
       let size = ap length e in
-      and _ _
-      (and _ _
+      and-true _ _
+      (and-true _ _
       (two-present (offsetOf kept t) (length t) (omega arith) (omega arith))
       (le-leb (offsetOf kept t + length t) (length (w .strings)) (omega arith)))
       (ap utf8 (text-back t h) ∙ u)
