@@ -8,3 +8,5 @@ pub mod Fields
 pub mod Payload
 pub mod Rules
 pub mod Tree
+pub mod Utf8
+pub mod Paths
