@@ -10,3 +10,4 @@ pub mod Rules
 pub mod Tree
 pub mod Utf8
 pub mod Paths
+pub mod Index
