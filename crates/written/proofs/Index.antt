@@ -1,32 +1,30 @@
--- The path index and the definitions of a written image. Assumes nothing.
+-- The path index of a written image: its texts are the containers' canonical paths, and rise. Assumes nothing.
 use Prim.Native.Nat.{ℕ, zero, suc, _+_, _≤_, _<_}
 use mathlib.Core.Path.{_≡_, refl, sym, ap, _∙_}
 use mathlib.Core.Logic.{⊎-elim}
 use mathlib.Core.List.{List, [], _∷_, _++_, append-nil}
 use mathlib.Core.Bool.{Bool, true, false, cond, not, false≢true}
 use native.Mathlib.Omega.{arith}
-use native.Mathlib.Nat.{le-of-suc-le-suc, le-trans}
+use native.Mathlib.Nat.{le-of-suc-le-suc}
 use native.Mathlib.Decide.{decLt}
 use lib.ListN.{length, getD, length-append}
-use lib.Dec.{leb}
-use borrow.Author.Tests.{eqb-true, eq-eqb, le-leb, leb-true, not-true}
+use borrow.Author.Tests.{not-true}
 use Rattle.laws.specs.Counted.{sumOf, those}
+use Rattle.laws.specs.Lists.{placeIn}
 use Rattle.laws.proofs.First.{pass, then, first-of}
-use Rattle.texts.specs.Text.{before, same, rising, holds}
+use Rattle.texts.specs.Text.{before, same, rising}
 use Rattle.texts.proofs.Text.{same-self, same-turned, same-unlike, unlike-before}
-use Rattle.image.specs.Sections.{Sections, nodeCount, definitionCount, itemCount, indexCount, definitionWord, itemWord, indexWord, isContainer}
+use Rattle.image.specs.Sections.{Sections, nodeCount, indexCount, indexWord, isContainer}
 use Rattle.records.specs.Records.{containerOf, containersBefore}
-use Rattle.tree.proofs.Members.{both-true, and-true, or-left, all-of, All, all-map, all-append, sum-ext}
+use Rattle.tree.proofs.Members.{and-true, or-left, all-of, All, all-map, all-append, sum-ext}
 use Rattle.index.specs.Paths.{canonicalPath, fits}
 use Rattle.index.specs.Index.{indexText, indexEntryRule, indexRule}
-use Rattle.index.specs.Definitions.{definitionText, firstItem, itemsOf, itemText, itemTextOf, goodItem, itemsBefore, itemRule, definitionRule, itemsUsedUp, definitionsRule}
 use Rattle.draft.specs.Draft.{newPath}
 use Rattle.draft.specs.Numbering.{oldOf}
-use Rattle.encoder.specs.Strings.{insertBy, sortBy, byPath, pathOf}
-use Rattle.encoder.specs.Written.{definitionOut, itemOut, indexOut}
+use Rattle.encoder.specs.Strings.{insertBy, sortBy, byPath, pathOf, offsetOf}
+use Rattle.encoder.specs.Written.{indexOut}
 use Rattle.written.proofs.Lists.{or-else, all-nth}
-use Rattle.written.proofs.Texts.{good-utf8}
-use Rattle.written.proofs.Blocks.{w, definition-count, definition-word, item-count, item-word, index-count, index-word}
+use Rattle.written.proofs.Blocks.{w, index-count, index-word}
 use Rattle.written.proofs.Fields.{Given, counted, old-in, new-old, inside-written, container-same}
 use Rattle.written.proofs.Rules.{good-at, text-at}
 use Rattle.written.proofs.Tree.{rising-same}
@@ -149,7 +147,7 @@ module _ {s : Sections} {order : List ℕ} {kept : List (List ℕ)} (g : Given s
   abbrev boxes : List ℕ
   boxes = byPath s order
 
-  -- the draft's number of the container that index entry k is for
+  -- the node of index entry k
   abbrev target : ℕ → ℕ
   target k = getD boxes k 0
 
@@ -170,7 +168,7 @@ module _ {s : Sections} {order : List ℕ} {kept : List (List ℕ)} (g : Given s
       elim (decLt a b) [
         | yes l ↦ unlike-draft a b l (old-in g y k) p q
         | no n ↦
-            let d : a ≡ b → ⊥ = λ e. differ (sym (new-old g x (omega arith)) ∙ ap (Rattle.laws.specs.Lists.placeIn order) e ∙ new-old g y k) in
+            let d : a ≡ b → ⊥ = λ e. differ (sym (new-old g x (omega arith)) ∙ ap (placeIn order) e ∙ new-old g y k) in
             same-turned (canonicalPath s b) (canonicalPath s a) ∙ unlike-draft b a (omega arith) (old-in g x (omega arith)) q p
       ]
     where
@@ -188,7 +186,7 @@ module _ {s : Sections} {order : List ℕ} {kept : List (List ℕ)} (g : Given s
       (those-apart (pathOf s order) (nodeCount s) (λ j. isContainer s (oldOf order j)) unlike)
 
   module _ (k : ℕ) (h : k < length boxes) where
-    -- the image's node of index entry k
+    -- it is a container
     pub index-node : (target k < nodeCount s) × (isContainer s (oldOf order (target k)) ≡ true)
     index-node = all-nth (λ j. (j < nodeCount s) × (isContainer s (oldOf order j) ≡ true)) boxes k h boxes-pass
 
@@ -196,7 +194,7 @@ module _ {s : Sections} {order : List ℕ} {kept : List (List ℕ)} (g : Given s
     unfolding indexOut
     index-target = index-word s order kept k 2 h (omega arith)
 
-    text-word : indexWord v k 0 ≡ Rattle.encoder.specs.Strings.offsetOf kept (pathOf s order (target k))
+    text-word : indexWord v k 0 ≡ offsetOf kept (pathOf s order (target k))
     unfolding indexOut
     text-word = index-word s order kept k 0 h (omega arith)
 

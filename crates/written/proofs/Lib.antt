@@ -11,3 +11,5 @@ pub mod Tree
 pub mod Utf8
 pub mod Paths
 pub mod Index
+pub mod Definitions
+pub mod Loads
