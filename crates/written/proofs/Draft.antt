@@ -1,24 +1,22 @@
 -- What the rules say of a draft that the writer takes, and of its numbering. Assumes nothing.
-use Prim.Native.Nat.{ℕ, zero, suc, _+_, _%_, _≤_, _<_}
+use Prim.Native.Nat.{ℕ, zero, _%_, _≤_, _<_}
 use mathlib.Core.Path.{_≡_, refl, ap, _∙_}
-use mathlib.Core.List.{List, [], _∷_, _++_, reverse, reverse-append}
-use mathlib.Core.Bool.{Bool, true, false, _&&_, not}
+use mathlib.Core.List.{List, [], _∷_, reverse, reverse-append}
+use mathlib.Core.Bool.{true, _&&_, not}
 use native.Mathlib.Omega.{arith}
 use lib.ListN.{length, getD, length-reverse}
-use lib.Dec.{eqb, leb, ltb}
-use borrow.Author.Tests.{eqb-false, leb-true, ltb-true, not-true}
-use Rattle.laws.specs.Counted.{joinOf}
-use Rattle.laws.specs.Refusal.{_▸_}
+use lib.Dec.{eqb, leb}
+use borrow.Author.Tests.{eqb-false, leb-true, not-true}
 use Rattle.laws.specs.Lists.{has}
 use Rattle.laws.proofs.First.{both, passed, as-zero, first-all}
 use Rattle.words.specs.Words.{NONE}
 use Rattle.texts.specs.Text.{rising}
-use Rattle.image.specs.Sections.{Sections, nodeCount, childCount, namedCount, definitionCount, itemCount, parentOf, placeOf, inside}
+use Rattle.image.specs.Sections.{Sections, nodeCount, definitionCount, itemCount}
 use Rattle.image.specs.Header.{inkRight}
 use Rattle.records.specs.Records.{fieldsRule, parentRule, rootRight, usedUp}
 use Rattle.tree.specs.Tree.{entriesRule, readWalk, allSeen}
 use Rattle.index.specs.Definitions.{goodDefinition, goodItem, itemsRight, itemsOf, itemsUsedUp, definitionText, itemTextOf}
-use Rattle.draft.specs.Draft.{wholeEntries, draftNodeRule, draftChildRule, draftNamedRule, draftDefinitionRule, draftItemRule, tablesRule, reachRule, relationRule, orderRule, shapeRule, newPath, pathRule, pathsRule}
+use Rattle.draft.specs.Draft.{wholeEntries, draftNodeRule, draftDefinitionRule, draftItemRule, tablesRule, reachRule, relationRule, orderRule, shapeRule, newPath, pathRule, pathsRule}
 use Rattle.draft.specs.Numbering.{numbering}
 use Rattle.encoder.specs.Encode.{imageFor, draftRule, encodeRule}
 use Rattle.tree.proofs.Members.{both-true, All, all-of, all-reverse, has-reverse, Distinct, pigeon, cover}

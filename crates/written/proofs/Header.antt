@@ -1,14 +1,13 @@
 -- The bytes of an image give back its sections, and break none of the rules 1 to 6. Assumes nothing.
 use Prim.Native.Nat.{ℕ, zero, suc, _+_, _*_, _^_, _≤_, _<_}
 use mathlib.Core.Path.{_≡_, refl, sym, ap, _∙_, subst}
-use mathlib.Core.List.{List, [], _∷_, _++_}
-use mathlib.Core.Bool.{true, not}
+use mathlib.Core.List.{List, _++_}
+use mathlib.Core.Bool.{true}
 use native.Mathlib.Omega.{arith}
 use native.Mathlib.Nat.{le-trans}
 use lib.ListN.{length, getD, take, drop, length-append}
 use lib.Seq.{drop-append-add}
-use lib.Dec.{leb}
-use borrow.Author.Tests.{eq-eqb, le-leb, ne-eqb, leb-true}
+use borrow.Author.Tests.{eq-eqb, le-leb, ne-eqb}
 use Rattle.laws.specs.Counted.{sumOf, joinOf}
 use Rattle.laws.specs.Lists.{Below}
 use Rattle.laws.proofs.First.{pass, then}
@@ -20,7 +19,7 @@ use Rattle.image.specs.Sections.{Sections, partAt, nodeCount, namedCount, defin
 use Rattle.image.specs.Header.{magic, headerLength, version, nodeWords, sectionAt, viewOf, sectionBytes, sectionsIn, sectionsOf, sizes, startBy, laidOut, inkRight, headerRule}
 use Rattle.image.specs.Encoding.{countOf, sectionOut, startOf, bodyOf, headerWith, imageOf}
 use Rattle.load.specs.Load.{checksumRule}
-use Rattle.tree.proofs.Members.{both-true, and-true, all-so, sum-ext}
+use Rattle.tree.proofs.Members.{and-true, all-so, sum-ext}
 use Rattle.written.proofs.Lists.{not-of, sum-below, join-length, join-part}
 
 -- one of eight

@@ -12,4 +12,5 @@ pub mod Utf8
 pub mod Paths
 pub mod Index
 pub mod Definitions
+pub mod Words
 pub mod Loads

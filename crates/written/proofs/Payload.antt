@@ -15,7 +15,7 @@ use Rattle.words.specs.Words.{NONE, wordAt, bytesOf}
 use Rattle.words.proofs.Words.{word-at, word-below, words-of-bytes, length-bytes}
 use Rattle.image.specs.Sections.{Sections, nodeCount, tagOf, f, textAt, absent}
 use Rattle.records.specs.Fields.{kinds, kindOf, fields}
-use Rattle.records.specs.Records.{fieldRule, firstField, payloadRule, payloadOf, listWord, listItems, listOrigins, listItemWord, listOriginWord}
+use Rattle.records.specs.Records.{fieldRule, firstField, payloadRule, payloadOf, listWord, listItems, listOrigins, listItemWord}
 use Rattle.draft.specs.Numbering.{oldOf}
 use Rattle.encoder.specs.Strings.{offsetOf}
 use Rattle.encoder.specs.Written.{listItemOut, listOriginOut, listOut, payloadOut, writtenWith}

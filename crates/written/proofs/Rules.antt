@@ -1,12 +1,12 @@
 -- The record rules hold of every written node. Assumes nothing.
-use Prim.Native.Nat.{ℕ, zero, suc, _+_, _*_, _≤_, _<_}
+use Prim.Native.Nat.{ℕ, _+_, _*_, _<_}
 use mathlib.Core.Path.{_≡_, refl, sym, ap, _∙_}
 use mathlib.Core.List.{List, [], _∷_, _++_}
 use mathlib.Core.Bool.{Bool, true, false, cond, _&&_, _||_, not}
 use native.Mathlib.Omega.{arith}
 use lib.ListN.{length, getD, List·getD-eq-default}
 use lib.Dec.{eqb, leb, ltb}
-use borrow.Author.Tests.{eqb-true, eqb-false, eq-eqb, ne-eqb, le-leb, ltb-true, ltb-false, not-true}
+use borrow.Author.Tests.{eqb-false, eq-eqb, ne-eqb, le-leb, ltb-true, ltb-false, not-true}
 use Rattle.laws.specs.Refusal.{unless}
 use Rattle.laws.specs.Counted.{sumOf, allOf, joinOf}
 use Rattle.laws.specs.Lists.{flatMap, placeIn}

@@ -2,7 +2,7 @@
 use Prim.Native.Nat.{ℕ, zero, suc, _+_, _≤_, _<_, zero-le}
 use mathlib.Core.Path.{_≡_, refl, sym, ap, _∙_, subst}
 use mathlib.Core.List.{List, [], _∷_, _++_, map}
-use mathlib.Core.Bool.{Bool, true, false, cond, _&&_, _||_, not, false≢true}
+use mathlib.Core.Bool.{Bool, true, false, cond, _&&_, _||_, false≢true}
 use native.Mathlib.Omega.{arith}
 use native.Mathlib.Nat.{not-suc-le-zero}
 use native.Mathlib.Decide.{ℕ-discrete}
@@ -12,7 +12,7 @@ use lib.Dec.{leb}
 use borrow.Author.Tests.{ne-eqb, le-leb, leb-true}
 use Rattle.laws.specs.Counted.{joinOf}
 use Rattle.laws.specs.Lists.{flatMap}
-use Rattle.words.specs.Words.{NONE, isNone}
+use Rattle.words.specs.Words.{NONE}
 use Rattle.texts.specs.Text.{same, holds}
 use Rattle.texts.proofs.Text.{same-self, same-equal}
 use Rattle.utf8.specs.Utf8.{utf8}

@@ -1,6 +1,6 @@
 -- UTF-8 of texts that are put one after the other. Assumes nothing.
 use Prim.Native.Nat.{ℕ, zero, suc, _<_, zero-le}
-use mathlib.Core.Path.{_≡_, refl, sym, ap, _∙_}
+use mathlib.Core.Path.{_≡_, refl, _∙_}
 use mathlib.Core.List.{List, [], _∷_, _++_}
 use mathlib.Core.Bool.{Bool, true, false, cond, _&&_, false≢true}
 use native.Mathlib.Omega.{arith}
@@ -8,7 +8,6 @@ use lib.ListN.{length}
 use borrow.Author.Tests.{le-leb}
 use Rattle.laws.specs.Lists.{Below}
 use Rattle.words.proofs.Words.{below-head, below-tail}
-use Rattle.texts.specs.Dots.{dot}
 use Rattle.utf8.specs.Runs.{runFrom, isRun}
 use Rattle.utf8.specs.Utf8.{Range, within, rows, fits, sizeIn, utf8}
 use Rattle.utf8.proofs.Runs.{run-nil, run-cons}

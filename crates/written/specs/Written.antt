@@ -1,7 +1,7 @@
 -- What holds of the image of every draft that the writer takes: the statements. Assumes nothing.
 use Prim.Native.Nat.{ℕ, _^_, _≤_, _<_}
 use mathlib.Core.Path.{_≡_}
-use mathlib.Core.List.{List, _∷_}
+use mathlib.Core.List.{_∷_}
 use mathlib.Core.Bool.{true}
 use Rattle.laws.specs.Lists.{Below}
 use Rattle.texts.specs.Dots.{dot}
