@@ -57,11 +57,13 @@ head-length : (ink : ℕ) (s : Sections) (c : ℕ) → length (headerWith ink s 
 unfolding headerWith magic ascii bytesOf joinOf
 head-length ink s c = refl
 
+length-with : (ink : ℕ) (s : Sections) (c : ℕ) → length (headerWith ink s c ++ bodyOf s) ≡ startOf s 8
+unfolding bodyOf startOf
+length-with ink s c = length-append (headerWith ink s c) (joinOf 8 (sectionOut s)) ∙ rw (head-length ink s c, join-length 8 (sectionOut s)) refl
+
 pub image-length : (ink : ℕ) (s : Sections) → length (imageOf ink s) ≡ startOf s 8
-unfolding imageOf bodyOf startOf
-image-length ink s =
-    length-append (headerWith ink s (checksumOf (headerWith ink s 0 ++ joinOf 8 (sectionOut s)))) (joinOf 8 (sectionOut s))
-    ∙ rw (head-length ink s (checksumOf (headerWith ink s 0 ++ joinOf 8 (sectionOut s))), join-length 8 (sectionOut s)) refl
+unfolding imageOf
+image-length ink s = length-with ink s _
 
 module _ (ink : ℕ) (s : Sections) (o : Whole s) (small : ink < 2 ^ 32) where
   section-size : (k : ℕ) → k < 8 → countOf s k * getD sizes k 0 ≡ length (sectionOut s k)
@@ -126,15 +128,22 @@ module _ (ink : ℕ) (s : Sections) (o : Whole s) (small : ink < 2 ^ 32) where
     unfolding checksumOf headerWith magic ascii bytesOf joinOf
     sum-with = refl
 
+  -- section k stands behind the header and the sections before it
+  found-with : (c k : ℕ) → k < 8 → partAt (headerWith ink s c ++ bodyOf s) (startOf s k) (length (sectionOut s k)) ≡ sectionOut s k
+  unfolding startOf bodyOf partAt
+  found-with c k h =
+      ap (take (length (sectionOut s k))) (rw (← head-length ink s c) (drop-append-add (headerWith ink s c) (joinOf 8 (sectionOut s)) (sumOf k (λ j. length (sectionOut s j)))))
+      ∙ join-part 8 k (sectionOut s) h
+
   -- ---- the words of the image
 
   offset-is : (k : ℕ) → k < 8 → sectionAt (imageOf ink s) k .offset ≡ startOf s k
   unfolding imageOf
-  offset-is k h = offset-with (checksumOf (headerWith ink s 0 ++ bodyOf s)) (bodyOf s) k h
+  offset-is k h = offset-with _ (bodyOf s) k h
 
   count-is : (k : ℕ) → k < 8 → sectionAt (imageOf ink s) k .count ≡ countOf s k
   unfolding imageOf
-  count-is k h = count-with (checksumOf (headerWith ink s 0 ++ bodyOf s)) (bodyOf s) k h
+  count-is k h = count-with _ (bodyOf s) k h
 
   sum-small : (b : List ℕ) → checksumOf b < 2 ^ 32
   unfolding checksumOf crc32
@@ -151,15 +160,8 @@ module _ (ink : ℕ) (s : Sections) (o : Whole s) (small : ink < 2 ^ 32) where
   -- ---- the sections of the image
 
   section-found : (k : ℕ) → k < 8 → partAt (imageOf ink s) (startOf s k) (length (sectionOut s k)) ≡ sectionOut s k
-  unfolding imageOf startOf bodyOf partAt
-  section-found k h =
-      ap (take (length (sectionOut s k)))
-      (subst (λ (m : ℕ). drop (m + sumOf k (λ j. length (sectionOut s j))) (head ++ joinOf 8 (sectionOut s)) ≡ drop (sumOf k (λ j. length (sectionOut s j))) (joinOf 8 (sectionOut s)))
-      (head-length ink s (checksumOf (headerWith ink s 0 ++ joinOf 8 (sectionOut s)))) (drop-append-add head (joinOf 8 (sectionOut s)) (sumOf k (λ j. length (sectionOut s j)))))
-      ∙ join-part 8 k (sectionOut s) h
-    where
-      head : List ℕ
-      head = headerWith ink s (checksumOf (headerWith ink s 0 ++ joinOf 8 (sectionOut s)))
+  unfolding imageOf
+  section-found k h = found-with _ k h
 
   section-bytes : (k : ℕ) → k < 8 → sectionBytes (imageOf ink s) (sectionAt (imageOf ink s) k) (getD sizes k 0) ≡ sectionOut s k
   unfolding sectionBytes
