@@ -14,3 +14,4 @@ pub mod Index
 pub mod Definitions
 pub mod Words
 pub mod Loads
+pub mod Bytes

@@ -45,6 +45,10 @@ WrittenAccepted = Written (λ ink s. Accepted (imageFor ink s))
 abbrev pub HeaderPasses : Type 0
 HeaderPasses = Written (λ ink s. headerRule (imageFor ink s) ≡ 0)
 
+-- its bytes are bytes, of any draft
+abbrev pub ImageBytes : Type 0
+ImageBytes = (ink : ℕ) (s : Sections) → DraftWords s → Below 256 (imageFor ink s)
+
 -- its bytes give back the sections that were written
 abbrev pub RoundTrip : Type 0
 RoundTrip = Written (λ ink s. sectionsOf (imageFor ink s) ≡ written s)
