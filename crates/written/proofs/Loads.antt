@@ -16,7 +16,7 @@ use Rattle.image.specs.Encoding.{imageOf}
 use Rattle.records.specs.Records.{nodeRule}
 use Rattle.tree.proofs.Members.{both-true, and-true}
 use Rattle.index.specs.Paths.{canonicalPath}
-use Rattle.load.specs.Load.{checksumRule, leftoverRule, sectionsRule, loadRule}
+use Rattle.load.specs.Load.{checksumRule, leftoverRule, sectionsRule, loadWords, loadRule}
 use Rattle.draft.specs.Numbering.{numbering}
 use Rattle.encoder.specs.Strings.{storedTexts}
 use Rattle.encoder.specs.Written.{written}
@@ -105,7 +105,7 @@ pub written-loads : WrittenLoads
 unfolding loadRule
 written-loads ink s work room ten words p enough h =
     then _ _ (header ink s work room ten words p)
-    (then _ _ (checksum ink s work room ten words p) (then _ _ (pass _ 7 (le-leb _ _ h)) (sections ink s work room ten words p)))
+    (then _ _ (checksum ink s work room ten words p) (then _ _ (pass _ 7 (le-leb (loadWords (sectionsOf (imageFor ink s))) enough h)) (sections ink s work room ten words p)))
 
 pub written-accepted : WrittenAccepted
 written-accepted ink s work room ten words p =
