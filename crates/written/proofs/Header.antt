@@ -16,7 +16,7 @@ use Rattle.words.proofs.Words.{word-back, words-of-bytes, length-bytes}
 use Rattle.texts.specs.Text.{ascii, orderOf, same}
 use Rattle.checksum.specs.Crc.{checksumOf, crc32}
 use Rattle.image.specs.Sections.{Sections, partAt, nodeCount, namedCount, definitionCount, itemCount, indexCount}
-use Rattle.image.specs.Header.{magic, headerLength, version, nodeWords, sectionAt, viewOf, sectionBytes, sectionsIn, sectionsOf, sizes, startBy, laidOut, inkRight, headerRule}
+use Rattle.image.specs.Header.{magic, headerLength, version, nodeWords, sectionAt, viewOf, sectionBytes, sectionsIn, sectionsOf, sizes, startBy, sectionRight, laidOut, inkRight, headerRule}
 use Rattle.image.specs.Encoding.{countOf, sectionOut, startOf, bodyOf, headerWith, imageOf}
 use Rattle.load.specs.Load.{checksumRule}
 use Rattle.tree.proofs.Members.{and-true, all-so, sum-ext}
@@ -206,7 +206,7 @@ module _ (ink : ℕ) (s : Sections) (o : Whole s) (small : ink < 2 ^ 32) where
   first-count = refl
 
   laid-out : laidOut (imageOf ink s) ≡ true
-  unfolding laidOut
+  unfolding laidOut sectionRight
   laid-out =
       and-true _ _
       (and-true _ _

@@ -8,7 +8,6 @@ pub mod Fields
 pub mod Payload
 pub mod Rules
 pub mod Tree
-pub mod Utf8
 pub mod Paths
 pub mod Index
 pub mod Definitions

@@ -10,11 +10,13 @@ use borrow.Author.Tests.{eqb-true, eqb-false, eq-eqb, ne-eqb}
 use Rattle.laws.specs.Lists.{flatMap, placeIn}
 use Rattle.laws.proofs.First.{both, passed}
 use Rattle.words.specs.Words.{NONE}
+use Rattle.words.proofs.Words.{below-none, below-cons}
 use Rattle.texts.specs.Text.{holds}
 use Rattle.texts.specs.Decimal.{decimal}
 use Rattle.texts.specs.Dots.{dot}
 use Rattle.texts.proofs.Decimal.{decimal-digits}
 use Rattle.utf8.specs.Utf8.{utf8}
+use Rattle.utf8.proofs.Laws.{utf8-nil, utf8-append, utf8-ascii}
 use Rattle.image.specs.Sections.{Sections, nodeCount, parentOf, placeOf, tagOf, f, textAt, goodText, absent, inside, isContainer}
 use Rattle.records.specs.Fields.{kinds, kindOf, fields}
 use Rattle.records.specs.Records.{fieldRule, firstField}
@@ -24,7 +26,6 @@ use Rattle.draft.specs.Numbering.{oldOf}
 use Rattle.encoder.specs.Strings.{textIf, fieldTexts, offsetOf}
 use Rattle.encoder.specs.Written.{fieldWords}
 use Rattle.written.proofs.Lists.{or-else}
-use Rattle.written.proofs.Utf8.{utf8-nil, utf8-cons, utf8-append, utf8-ascii}
 use Rattle.written.proofs.Texts.{in-left, in-one, offset-inside, good-utf8, good-length}
 use Rattle.written.proofs.Blocks.{w}
 use Rattle.written.proofs.Fields.{Given, counted, old-in, old-new, new-in, old-zero, new-zero, zero-old, place-word, container-reads}
@@ -36,7 +37,8 @@ decimal-utf8 n = utf8-ascii (decimal n) (λ x m. omega (arith, decimal-digits n 
 
 joined-utf8 : (p : ℕ) (a b : List ℕ) → utf8 a ≡ true → utf8 b ≡ true → utf8 (joined p a b) ≡ true
 joined-utf8 zero a b x y = y
-joined-utf8 (suc p) a b x y = utf8-append a (dot ∷ b) x (utf8-cons dot b (omega arith) ∙ y)
+joined-utf8 (suc p) a b x y =
+    utf8-append a (dot ∷ b) x (utf8-append (dot ∷ []) b (utf8-ascii (dot ∷ []) (below-cons 128 dot [] (omega arith) (below-none 128))) y)
 
 joined-same : (p q : ℕ) (a b : List ℕ) → (p ≡ 0 → q ≡ 0) → (q ≡ 0 → p ≡ 0) → joined p a b ≡ joined q a b
 joined-same zero zero a b x y = refl
