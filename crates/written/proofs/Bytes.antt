@@ -1,6 +1,5 @@
 -- The bytes of a written image are bytes, whatever the draft's words say. Assumes nothing.
 use Prim.Native.Nat.{ℕ, zero, suc, _+_, _<_}
-use mathlib.Core.Path.{_≡_, refl}
 use mathlib.Core.List.{List, [], _∷_, _++_, map}
 use mathlib.Core.Bool.{Bool, true, false, cond}
 use native.Mathlib.Omega.{arith}
@@ -21,8 +20,8 @@ use Rattle.records.specs.Fields.{Field, text, optional, command, operator, node
 use Rattle.records.specs.Records.{fieldsAt, namedOf, listItems, listOrigins, listItemWord, listOriginWord}
 use Rattle.tree.specs.Tree.{namedText}
 use Rattle.tree.proofs.Members.{All, all-append}
-use Rattle.index.specs.Paths.{nameless, piece, joined, pathFrom, canonicalPath}
-use Rattle.index.specs.Definitions.{definitionText, itemsOf, itemTextOf}
+use Rattle.index.specs.Paths.{nameless, piece, joined, pathFrom}
+use Rattle.index.specs.Definitions.{itemsOf, itemTextOf}
 use Rattle.draft.specs.Numbering.{numbering, oldOf}
 use Rattle.encoder.specs.Strings.{pathOf, byPath, textIf, listTexts, fieldTexts, nodeTexts, namedTexts, definitionTexts, uses, distinct, storedTexts}
 use Rattle.encoder.specs.Written.{listOut, payloadOut, writtenWith, written}

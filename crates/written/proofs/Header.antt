@@ -1,11 +1,11 @@
 -- The bytes of an image give back its sections, and break none of the rules 1 to 6. Assumes nothing.
 use Prim.Native.Nat.{ℕ, zero, suc, _+_, _*_, _^_, _≤_, _<_}
-use mathlib.Core.Path.{_≡_, refl, sym, ap, _∙_, subst}
+use mathlib.Core.Path.{_≡_, refl, sym, ap, _∙_}
 use mathlib.Core.List.{List, _++_}
 use mathlib.Core.Bool.{true}
 use native.Mathlib.Omega.{arith}
 use native.Mathlib.Nat.{le-trans}
-use lib.ListN.{length, getD, take, drop, length-append}
+use lib.ListN.{length, getD, take, length-append}
 use lib.Seq.{drop-append-add}
 use borrow.Author.Tests.{eq-eqb, le-leb, ne-eqb}
 use Rattle.laws.specs.Counted.{sumOf, joinOf}
