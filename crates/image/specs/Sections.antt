@@ -2,7 +2,7 @@
 -- Assumes nothing.
 use Prim.Native.Nat.{ℕ, zero, suc, _+_, _*_, _/_}
 use mathlib.Core.List.{List, [], _∷_}
-use mathlib.Core.Bool.{Bool, true, false, _&&_, _||_, not}
+use mathlib.Core.Bool.{Bool, true, false, cond, _&&_, _||_, not}
 use lib.ListN.{length, getD, take, drop}
 use lib.Dec.{leb, ltb, eqb}
 use Rattle.words.specs.Words.{NONE, isNone}
@@ -99,12 +99,19 @@ absent at len = isNone at && isNone len
 unfoldable pub goodIn : List ℕ → ℕ → ℕ → Bool
 goodIn strings at len = present at len && leb (at + len) (length strings) && utf8 (partAt strings at len)
 
+-- optional text is absent only if both words are NONE
+abbrev pub optionalIn : List ℕ → ℕ → ℕ → Bool
+optionalIn strings at len = absent at len || goodIn strings at len
+
 abbrev pub goodText : Sections → ℕ → ℕ → Bool
 goodText s at len = goodIn (s .strings) at len
 
--- optional text is absent only if both words are NONE
 abbrev pub goodOptional : Sections → ℕ → ℕ → Bool
-goodOptional s at len = absent at len || goodText s at len
+goodOptional s at len = optionalIn (s .strings) at len
+
+-- the bytes of a text, none where it is not inside the strings
+unfoldable pub textIn : List ℕ → ℕ → ℕ → List ℕ
+textIn strings at len = cond (leb (at + len) (length strings)) (partAt strings at len) []
 
 -- ---- nodes
 
@@ -120,5 +127,5 @@ insideContainer s n = inside s n && isContainer s n
 
 -- names on an `unfolding` line what a computation with this module needs
 unfoldable pub sections : Unit {0}
-unfolding nodeWord childWord namedWord definitionWord itemWord indexWord partAt goodIn utf8s
+unfolding nodeWord childWord namedWord definitionWord itemWord indexWord partAt goodIn textIn utf8s
 sections = tt

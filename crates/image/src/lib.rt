@@ -1,4 +1,13 @@
 // A story image: its header, the sections that the header bounds, and how records are read out of them.
+ghost use mathlib.Core.Path.{_≡_};
+ghost use Prim.Native.Nat.{_+_, _*_, _≤_};
+ghost use lib.ListN.{length, getD};
+ghost use Rattle.words.specs.Words.{wordsOf};
+ghost use Rattle.image.specs.Sections.{goodIn, optionalIn, textIn};
+ghost use Rattle.image.specs.Header.{sectionBytes};
+ghost use Rattle.image.specs.Entries.{recordOf, textEntryOf, definitionOf};
+
+pub mod refusal;
 
 // Where a section begins, in bytes, and how many entries it has.
 pub struct Section {
@@ -17,4 +26,146 @@ pub struct ImageView {
     pub index: Section,
     pub payload: Section,
     pub strings: Section,
+}
+
+// The words of a node.
+pub struct NodeRecord {
+    pub parent: u32,
+    pub place: u32,
+    pub tag: u32,
+    pub f0: u32,
+    pub f1: u32,
+    pub f2: u32,
+    pub f3: u32,
+    pub f4: u32,
+    pub f5: u32,
+    pub f6: u32,
+}
+
+// An entry of three words: a text, and the node of a named or index entry or the value of an item.
+pub struct TextEntry {
+    pub offset: u32,
+    pub len: u32,
+    pub value: u32,
+}
+
+// A definition: its text, its first item and how many items it has.
+pub struct Definition {
+    pub offset: u32,
+    pub len: u32,
+    pub first: u32,
+    pub count: u32,
+}
+
+// The word that says that a text or a node is absent.
+pub const NONE: u32 = 4294967295;
+
+// The bytes of a section whose entries have the given size; outside the slice a section counts as empty.
+pub fn section_part(bytes: &[u8], section: Section, size: u32) -> &[u8]
+    ensures { λ r. ⌜ now r ≡ sectionBytes (now (bytes .entry)) section size ⌝ }
+{
+    let start = section.offset as usize;
+    let end = start + (section.count as usize) * (size as usize);
+    if end <= bytes.len() {
+        &bytes[start..end]
+    } else {
+        &bytes[..0]
+    }
+}
+
+// Word `k` of a section's bytes.
+pub fn part_word(part: &[u8], k: usize) -> u32
+    requires { ⌜ 4 * k + 4 ≤ length (now part) ⌝ }
+    ensures { λ r. ⌜ r ≡ getD (wordsOf (now (part .entry))) k 0 ⌝ }
+{
+    words::word(part, 4 * k)
+}
+
+// Node `i` of the nodes' bytes.
+pub fn node_record(part: &[u8], i: usize) -> NodeRecord
+    requires { ⌜ 40 * i + 40 ≤ length (now part) ⌝ }
+    ensures { λ r. ⌜ r ≡ recordOf (wordsOf (now (part .entry))) i ⌝ }
+{
+    let at = i * 10;
+    NodeRecord {
+        parent: part_word(part, at),
+        place: part_word(part, at + 1),
+        tag: part_word(part, at + 2),
+        f0: part_word(part, at + 3),
+        f1: part_word(part, at + 4),
+        f2: part_word(part, at + 5),
+        f3: part_word(part, at + 6),
+        f4: part_word(part, at + 7),
+        f5: part_word(part, at + 8),
+        f6: part_word(part, at + 9),
+    }
+}
+
+// Entry `j` of the bytes of the named entries, the items or the index.
+pub fn text_entry(part: &[u8], j: usize) -> TextEntry
+    requires { ⌜ 12 * j + 12 ≤ length (now part) ⌝ }
+    ensures { λ r. ⌜ r ≡ textEntryOf (wordsOf (now (part .entry))) j ⌝ }
+{
+    let at = j * 3;
+    TextEntry {
+        offset: part_word(part, at),
+        len: part_word(part, at + 1),
+        value: part_word(part, at + 2),
+    }
+}
+
+// Definition `j` of the definitions' bytes.
+pub fn definition_at(part: &[u8], j: usize) -> Definition
+    requires { ⌜ 16 * j + 16 ≤ length (now part) ⌝ }
+    ensures { λ r. ⌜ r ≡ definitionOf (wordsOf (now (part .entry))) j ⌝ }
+{
+    let at = j * 4;
+    Definition {
+        offset: part_word(part, at),
+        len: part_word(part, at + 1),
+        first: part_word(part, at + 2),
+        count: part_word(part, at + 3),
+    }
+}
+
+// The bytes of a text, or none where it is not inside the strings. Whether they are UTF-8 is not asked.
+pub fn text_part(strings: &[u8], offset: u32, len: u32) -> &[u8]
+    ensures { λ r. ⌜ now r ≡ textIn (now (strings .entry)) offset len ⌝ }
+{
+    let start = offset as usize;
+    let end = start + len as usize;
+    if end <= strings.len() {
+        &strings[start..end]
+    } else {
+        &strings[..0]
+    }
+}
+
+// Whether a text is present, inside the strings and UTF-8.
+pub fn good_text(strings: &[u8], offset: u32, len: u32) -> bool
+    ensures { λ r. ⌜ r ≡ goodIn (now (strings .entry)) offset len ⌝ }
+{
+    if offset == NONE {
+        return false;
+    }
+    if len == NONE {
+        return false;
+    }
+    let start = offset as usize;
+    let end = start + len as usize;
+    if end <= strings.len() {
+        utf8::valid(&strings[start..end])
+    } else {
+        false
+    }
+}
+
+// Whether an optional text is absent or good; with one word NONE it is neither.
+pub fn good_optional(strings: &[u8], offset: u32, len: u32) -> bool
+    ensures { λ r. ⌜ r ≡ optionalIn (now (strings .entry)) offset len ⌝ }
+{
+    if offset != NONE {
+        return good_text(strings, offset, len);
+    }
+    if len == NONE { true } else { false }
 }

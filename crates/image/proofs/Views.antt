@@ -1,0 +1,99 @@
+-- The sections of a view in bytes: what each is, and how many entries it has where it lies in the bytes. Assumes nothing.
+use Prim.Native.Nat.{ℕ, _+_, _*_, _/_, _≤_}
+use mathlib.Core.Path.{_≡_, refl, sym, ap, _∙_}
+use mathlib.Core.List.{List}
+use native.Mathlib.Omega.{arith}
+use native.Mathlib.Nat.{mul-one, div-one}
+use lib.ListN.{length}
+use Rattle.words.specs.Words.{wordsOf}
+use Rattle.words.proofs.Words.{length-words}
+use Rattle.image.specs.declared.Section.{Section}
+use Rattle.image.specs.declared.ImageView.{ImageView}
+use Rattle.image.specs.Sections.{Sections, nodeCount, childCount, namedCount, definitionCount, itemCount, indexCount}
+use Rattle.image.specs.Header.{nodeWords, sectionBytes, sectionsIn, sectionsBy}
+use Rattle.image.proofs.Parts.{section-length, entry-count}
+
+-- ---- the fields of a view's sections
+
+module _ (bs : List ℕ) (v : ImageView) where
+  pub stride-by : sectionsBy bs v .stride ≡ nodeWords
+  unfolding sectionsIn
+  stride-by = refl
+
+  pub nodes-by : sectionsBy bs v .nodes ≡ wordsOf (sectionBytes bs (v .nodes) 40)
+  unfolding sectionsIn
+  nodes-by = refl
+
+  pub children-by : sectionsBy bs v .children ≡ wordsOf (sectionBytes bs (v .children) 4)
+  unfolding sectionsIn
+  children-by = refl
+
+  pub named-by : sectionsBy bs v .named ≡ wordsOf (sectionBytes bs (v .named) 12)
+  unfolding sectionsIn
+  named-by = refl
+
+  pub definitions-by : sectionsBy bs v .definitions ≡ wordsOf (sectionBytes bs (v .definitions) 16)
+  unfolding sectionsIn
+  definitions-by = refl
+
+  pub items-by : sectionsBy bs v .items ≡ wordsOf (sectionBytes bs (v .items) 12)
+  unfolding sectionsIn
+  items-by = refl
+
+  pub index-by : sectionsBy bs v .index ≡ wordsOf (sectionBytes bs (v .index) 12)
+  unfolding sectionsIn
+  index-by = refl
+
+  pub payload-by : sectionsBy bs v .payload ≡ sectionBytes bs (v .payload) 1
+  unfolding sectionsIn
+  payload-by = refl
+
+  pub strings-by : sectionsBy bs v .strings ≡ sectionBytes bs (v .strings) 1
+  unfolding sectionsIn
+  strings-by = refl
+
+-- ---- counts
+
+-- a section of entries of the given size lies in the bytes
+abbrev pub Within : List ℕ → Section → ℕ → Type 0
+Within bs s size = s .offset + s .count * size ≤ length bs
+
+-- every section of a view does
+pub record Inside (bs : List ℕ) (v : ImageView) : Type 0 where
+  pub nodes : Within bs (v .nodes) 40
+  pub children : Within bs (v .children) 4
+  pub named : Within bs (v .named) 12
+  pub definitions : Within bs (v .definitions) 16
+  pub items : Within bs (v .items) 12
+  pub index : Within bs (v .index) 12
+  pub payload : Within bs (v .payload) 1
+  pub strings : Within bs (v .strings) 1
+
+-- the counts of a view are those of its sections
+pub record Counts (bs : List ℕ) (v : ImageView) : Type 0 where
+  pub nodes : nodeCount (sectionsBy bs v) ≡ v .nodes .count
+  pub children : childCount (sectionsBy bs v) ≡ v .children .count
+  pub named : namedCount (sectionsBy bs v) ≡ v .named .count
+  pub definitions : definitionCount (sectionsBy bs v) ≡ v .definitions .count
+  pub items : itemCount (sectionsBy bs v) ≡ v .items .count
+  pub index : indexCount (sectionsBy bs v) ≡ v .index .count
+  pub payload : length (sectionsBy bs v .payload) ≡ v .payload .count
+  pub strings : length (sectionsBy bs v .strings) ≡ v .strings .count
+
+-- a section of entries of n words
+section-count : (bs : List ℕ) (s : Section) (n : ℕ) → 1 ≤ n → Within bs s (4 * n) → length (wordsOf (sectionBytes bs s (4 * n))) / n ≡ s .count
+section-count bs s n h w = entry-count (sectionBytes bs s (4 * n)) n (s .count) h (section-length bs s (4 * n) w)
+
+pub counts : (bs : List ℕ) (v : ImageView) → Inside bs v → Counts bs v
+unfolding sectionsIn
+counts bs v i =
+    record {
+      nodes = section-count bs (v .nodes) 10 (omega arith) (i .nodes);
+      children = sym (div-one _) ∙ section-count bs (v .children) 1 (omega arith) (i .children);
+      named = section-count bs (v .named) 3 (omega arith) (i .named);
+      definitions = section-count bs (v .definitions) 4 (omega arith) (i .definitions);
+      items = section-count bs (v .items) 3 (omega arith) (i .items);
+      index = section-count bs (v .index) 3 (omega arith) (i .index);
+      payload = section-length bs (v .payload) 1 (i .payload) ∙ mul-one (v .payload .count);
+      strings = section-length bs (v .strings) 1 (i .strings) ∙ mul-one (v .strings .count);
+    }

@@ -1,0 +1,49 @@
+-- Laws of texts that are one piece after the other: what a loop sees that goes from piece to piece. Assumes nothing.
+use Prim.Native.Nat.{ℕ, zero, suc, _+_, _≤_, _<_}
+use mathlib.Core.Path.{_≡_, refl, sym, ap, _∙_}
+use mathlib.Core.List.{List, [], _∷_}
+use mathlib.Core.Bool.{Bool, true, false}
+use native.Mathlib.Omega.{arith}
+use lib.ListN.{length, drop, getD, length-drop, drop-of-length-le}
+use lib.Seq.{drop-cons, drop-drop}
+use Rattle.utf8.specs.Runs.{runFrom, isRun}
+
+module _ (front : List ℕ → ℕ) where
+  pub run-nil : isRun front [] ≡ true
+  unfolding isRun runFrom
+  run-nil = refl
+
+  -- the rest of a piece
+  pub run-rest : (k : ℕ) (t : List ℕ) → k ≤ length t → runFrom front t k ≡ isRun front (drop k t)
+  unfolding isRun runFrom
+  run-rest zero t h = refl
+  run-rest (suc k) [] h = absurd (omega arith)
+  run-rest (suc k) (b ∷ t) h = run-rest k t (omega arith)
+
+  -- one piece
+  pub run-cons : (k b : ℕ) (t : List ℕ) → front (b ∷ t) ≡ suc k → k ≤ length t → isRun front (b ∷ t) ≡ isRun front (drop k t)
+  unfolding isRun runFrom
+  run-cons k b t e h = rw e (run-rest k t h)
+
+  -- no piece
+  pub run-none : (b : ℕ) (t : List ℕ) → front (b ∷ t) ≡ 0 → isRun front (b ∷ t) ≡ false
+  unfolding isRun runFrom
+  run-none b t e = rw e
+
+  -- the same at an index
+  pub run-next : (s : List ℕ) (i k : ℕ) → i < length s → k ≡ front (drop i s) → (k ≡ 0 → ⊥) → i + k ≤ length s → isRun front (drop i s) ≡ isRun front (drop (i + k) s)
+  run-next s i zero h e d l = absurd (d refl)
+  run-next s i (suc k) h e d l =
+      rw (drop-cons s i 0)
+      (run-cons k (getD s i 0) (drop (suc i) s) (sym (rw (drop-cons s i 0) at e)) (simp length-drop (omega arith))
+      ∙ ap (isRun front) (drop-drop k (suc i) s ∙ ap (λ (n : ℕ). drop n s) {x = suc i + k} {y = i + suc k} (omega arith)))
+
+  pub run-stop : (s : List ℕ) (i k : ℕ) → i < length s → k ≡ front (drop i s) → k ≡ 0 → isRun front (drop i s) ≡ false
+  run-stop s i k h e z = rw (drop-cons s i 0) (run-none (getD s i 0) (drop (suc i) s) (sym (rw (drop-cons s i 0) at e) ∙ z))
+
+  pub run-end : (s : List ℕ) (i : ℕ) → length s ≤ i → isRun front (drop i s) ≡ true
+  run-end s i h = rw (drop-of-length-le s h) run-nil
+
+-- a piece ends in the text
+pub piece-end : (front : List ℕ → ℕ) → ((t : List ℕ) → front t ≤ length t) → (s : List ℕ) (i k : ℕ) → i < length s → k ≡ front (drop i s) → i + k ≤ length s
+piece-end front within s i k h e = omega (arith, within (drop i s), length-drop i s)
