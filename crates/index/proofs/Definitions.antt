@@ -1,19 +1,16 @@
 -- Definitions and items where nothing is refused: what each is, that their texts are sorted and differ, and that sections alike in what is read are refused
 -- alike. Assumes nothing.
-use Prim.Native.Nat.{ℕ, zero, suc, _+_, _/_, _≤_, _<_}
-use mathlib.Core.Path.{_≡_, refl, sym, ap, _∙_}
-use mathlib.Core.List.{List, []}
-use mathlib.Core.Bool.{Bool, true, false, _&&_}
-use native.Mathlib.Omega.{arith}
+use Prim.Native.Nat.{ℕ, _+_, _≤_, _<_}
+use mathlib.Core.Path.{_≡_}
+use mathlib.Core.List.{List}
+use mathlib.Core.Bool.{true}
 use lib.Dec.{leb, eqb}
-use lib.ListN.{length}
 use borrow.Author.Tests.{leb-true, eqb-true, le-leb, eq-eqb}
 use Rattle.laws.specs.Refusal.{firstOf, unless, _▸_}
-use Rattle.laws.specs.Counted.{sumOf}
 use Rattle.laws.proofs.First.{both, passed, pass, then, first-all, first-of}
 use Rattle.words.specs.Words.{wordsOf}
 use Rattle.texts.specs.Text.{before, rising}
-use Rattle.image.specs.Sections.{Sections, definitionCount, itemCount, definitionWord, itemWord, textAt, goodText}
+use Rattle.image.specs.Sections.{Sections, definitionCount, itemCount, definitionWord, itemWord}
 use Rattle.image.proofs.Parts.{both-true}
 use Rattle.index.specs.Definitions.{definitionText, firstItem, itemsOf, itemText, itemTextOf, goodDefinition, goodItem, itemsBefore, itemsRight, itemRuleFrom, itemRule, definitionRule, itemsUsedUp, definitionsRule}
 use Rattle.index.specs.Parts.{definitionParts}
@@ -137,9 +134,17 @@ module _ (s r : Sections) (items : s .items ≡ r .items) (strings : s .strings 
     definition-like : (d : ℕ) → definitionRule s d ≡ definitionRule r d
     unfolding definitionRule
     definition-like d =
-        rw (first-like (itemsOf s d) (itemRuleFrom s (firstItem s d)) (itemRuleFrom r (firstItem s d)) (item-like (firstItem s d)),
-          rising-like (definitionText s) (definitionText r) definition-text-like d, before-like d,
-          definition-word-like d 0, definition-word-like d 1, definition-word-like d 2, definition-word-like d 3, strings, items)
+        rw (
+          first-like (itemsOf s d) (itemRuleFrom s (firstItem s d)) (itemRuleFrom r (firstItem s d)) (item-like (firstItem s d)),
+          rising-like (definitionText s) (definitionText r) definition-text-like d,
+          before-like d,
+          definition-word-like d 0,
+          definition-word-like d 1,
+          definition-word-like d 2,
+          definition-word-like d 3,
+          strings,
+          items,
+        )
 
     -- are refused alike
     pub definitions-like : definitionsRule s ≡ definitionsRule r

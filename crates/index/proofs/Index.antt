@@ -1,19 +1,18 @@
 -- The index where nothing is refused: what each entry is, that its texts are sorted and differ, and that sections alike in what it reads are refused alike.
 -- Assumes nothing.
-use Prim.Native.Nat.{ℕ, zero, suc, _+_, _/_, _≤_, _<_}
+use Prim.Native.Nat.{ℕ, zero, suc, _/_, _<_}
 use mathlib.Core.Path.{_≡_, refl, sym, ap, _∙_}
-use mathlib.Core.List.{List, [], _∷_}
-use mathlib.Core.Bool.{Bool, true, false, cond}
-use lib.Dec.{eqb}
+use mathlib.Core.List.{List, _∷_}
+use mathlib.Core.Bool.{true}
 use lib.ListN.{length}
 use Rattle.laws.specs.Refusal.{firstOf, unless, _▸_}
-use Rattle.laws.proofs.First.{both, then, passed, pass, first-all, first-of}
+use Rattle.laws.proofs.First.{both, passed, first-all, first-of}
 use Rattle.words.specs.Words.{wordsOf}
 use Rattle.texts.specs.Text.{before, rising}
 use Rattle.texts.specs.Dots.{dot}
-use Rattle.image.specs.Sections.{Sections, nodeWord, parentOf, placeOf, f, indexWord, indexCount, nodeCount, goodText, insideContainer}
+use Rattle.image.specs.Sections.{Sections, nodeWord, parentOf, indexWord, indexCount, nodeCount, goodText, insideContainer}
 use Rattle.image.specs.Header.{nodeWords}
-use Rattle.index.specs.Paths.{nameless, piece, joined, pathFrom, canonicalPath, topPlace, fitsPath, fits}
+use Rattle.index.specs.Paths.{nameless, piece, pathFrom, canonicalPath, topPlace, fits}
 use Rattle.index.specs.Index.{indexText, indexEntryRule, indexRule}
 use Rattle.index.specs.Parts.{indexParts, pathNodeOf}
 use Rattle.index.proofs.Paths.{fits-plain}
@@ -125,8 +124,16 @@ module _ (s r : Sections) (stride : s .stride ≡ r .stride) (nodes : s .nodes �
     entry-like : (j : ℕ) → indexEntryRule s j ≡ indexEntryRule r j
     unfolding indexEntryRule
     entry-like j =
-        rw (rising-like (indexText s) (indexText r) text-like j, fits-like (indexWord s j 2) (indexText s j), text-like j, container-like s r stride nodes (indexWord s j 2),
-          entry-word-like j 0, entry-word-like j 1, entry-word-like j 2, strings)
+        rw (
+          rising-like (indexText s) (indexText r) text-like j,
+          fits-like (indexWord s j 2) (indexText s j),
+          text-like j,
+          container-like s r stride nodes (indexWord s j 2),
+          entry-word-like j 0,
+          entry-word-like j 1,
+          entry-word-like j 2,
+          strings,
+        )
 
     -- are refused alike
     pub index-like : indexRule s ≡ indexRule r

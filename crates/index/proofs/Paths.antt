@@ -15,12 +15,12 @@ use borrow.Author.Tests.{eq-eqb, ne-eqb}
 use Rattle.texts.specs.Text.{same}
 use Rattle.texts.specs.Dots.{dot}
 use Rattle.texts.proofs.Text.{same-equal, same-unlike}
-use Rattle.image.specs.Sections.{Sections, nodeCount, parentOf, placeOf, f}
+use Rattle.image.specs.Sections.{Sections, nodeCount, parentOf}
 use Rattle.tree.specs.Reach.{climb, Climbs}
 use Rattle.index.specs.declared.PathNode.{PathNode}
 use Rattle.index.specs.Paths.{noName, nameless, pieceOf, piece, joined, pathFrom, canonicalPath, topPlace, fitsPath, fits}
 use Rattle.index.specs.Parts.{pathNodeOf}
-use Rattle.index.proofs.Suffix.{cut, empty-part, fits-front, fits-other, fits-short, fits-empty, fits-either, fits-path}
+use Rattle.index.proofs.Suffix.{cut, fits-front, fits-other, fits-short, fits-empty, fits-either, fits-path}
 
 -- ---- one step
 
@@ -48,6 +48,10 @@ module _ (s : Sections) (n i : ℕ) (away : i ≡ 0 → ⊥) where
 abbrev pub fitsFrom : ℕ → Sections → ℕ → List ℕ → Bool
 fitsFrom n s i t = fitsPath (topPlace n s i) t (pathFrom n s i)
 
+pub whole-fits : (s : Sections) (i : ℕ) (t : List ℕ) → fits s i t ≡ fitsFrom (nodeCount s) s i t
+unfolding fits
+whole-fits s i t = refl
+
 pub fits-bound : (s : Sections) (i : ℕ) (t : List ℕ) → fitsFrom 0 s i t ≡ same t []
 unfolding pathFrom topPlace
 fits-bound s i t = fits-empty t
@@ -61,98 +65,108 @@ fits-root s (suc n) i t e = rw (eq-eqb i 0 e) (fits-empty t)
 abbrev pub pieceBy : Sections → PathNode → List ℕ
 pieceBy s node = pieceOf (s .strings) (node .place) (node .offset) (node .len)
 
-module _ (s : Sections) (at : ℕ) (node : PathNode) (read : node ≡ pathNodeOf s at) where
-  piece-word : piece s at ≡ pieceBy s node
+-- a node that is not the root has been reached and read: the text has been compared from `end` on, and n steps are left above it
+pub record Reached (s : Sections) (t : List ℕ) (n at end : ℕ) (node : PathNode) : Type 0 where
+  pub away : at ≡ 0 → ⊥
+  pub read : node ≡ pathNodeOf s at
+  pub inside : end ≤ length t
+
+-- its piece is what stands before `end`, from a start on
+pub record Matched (s : Sections) (t : List ℕ) (end start : ℕ) (node : PathNode) : Type 0 where
+  pub size : start ≤ end
+  pub long : end - start ≡ length (pieceBy s node)
+  pub like : same (take (end - start) (drop start t)) (pieceBy s node) ≡ true
+
+module _ {s : Sections} {t : List ℕ} {n at end : ℕ} {node : PathNode} (here : Reached s t n at end node) where
+  piece-read : piece s at ≡ pieceBy s node
   unfolding piece
-  piece-word = rw read
+  piece-read = rw (here .read)
 
-  parent-word : node .parent ≡ parentOf s at
-  parent-word = rw read
+  parent-read : node .parent ≡ parentOf s at
+  parent-read = rw (here .read)
 
-  name-word : noName (node .offset) (node .len) ≡ nameless s at
+  name-read : noName (node .offset) (node .len) ≡ nameless s at
   unfolding nameless
-  name-word = rw read
-
--- node `at`, which is not the root, where the text has been compared from `end` on and suc n steps are left
-module _ (s : Sections) (t : List ℕ) (n at end : ℕ) (node : PathNode) (away : at ≡ 0 → ⊥) (read : node ≡ pathNodeOf s at) (inside : end ≤ length t) where
-  -- the part of the text from a start up to `end`
-  abbrev part : ℕ → List ℕ
-  part start = take (end - start) (drop start t)
-
-  part-length : (start : ℕ) → start ≤ end → length (part start) ≡ end - start
-  part-length start h = length-take-le (end - start) (drop start t) (simp length-drop (omega arith))
+  name-read = rw (here .read)
 
   -- the path ends with the piece
   path-ends : (lead : List ℕ) × (pathFrom (suc n) s at ≡ lead ++ pieceBy s node)
   path-ends = by (ℕ-discrete (parentOf s at) 0)
     where
       by : Dec (parentOf s at ≡ 0) → (lead : List ℕ) × (pathFrom (suc n) s at ≡ lead ++ pieceBy s node)
-      by (yes p) = ([], path-top s n at away p ∙ piece-word s at node read)
+      by (yes p) = ([], path-top s n at (here .away) p ∙ piece-read)
       by (no p) = (
         pathFrom n s (parentOf s at) ++ (dot ∷ []),
-        path-below s n at away p ∙ ap (λ (l : List ℕ). pathFrom n s (parentOf s at) ++ (dot ∷ []) ++ l) (piece-word s at node read),
+        path-below s n at (here .away) p ∙ ap (λ (l : List ℕ). pathFrom n s (parentOf s at) ++ (dot ∷ []) ++ l) piece-read,
       )
 
   -- the text is shorter than the piece
   pub step-short : end < length (pieceBy s node) → fitsFrom (suc n) s at (take end t) ≡ false
   step-short h =
-      rw (path-ends .1) (fits-short (topPlace (suc n) s at) (take end t) (path-ends .0) (pieceBy s node) (rw (length-take-le end t inside) h))
+      rw (path-ends .1)
+      (fits-short (topPlace (suc n) s at) (take end t) (path-ends .0) (pieceBy s node) (rw (length-take-le end t (here .inside)) h))
 
-  module _ (start : ℕ) (size : start ≤ end) (long : end - start ≡ length (pieceBy s node)) where
-    -- it ends otherwise
-    pub step-other : same (take (end - start) (drop start t)) (pieceBy s node) ≡ false → fitsFrom (suc n) s at (take end t) ≡ false
-    step-other u =
-        rw (path-ends .1, cut t start end size)
-        (fits-other (topPlace (suc n) s at) (take start t) (part start) (path-ends .0) (pieceBy s node) (part-length start size ∙ long)
-        (same-unlike (part start) (pieceBy s node) u))
+  -- it ends otherwise
+  pub step-other : (start : ℕ) → start ≤ end → end - start ≡ length (pieceBy s node) → same (take (end - start) (drop start t)) (pieceBy s node) ≡ false
+      → fitsFrom (suc n) s at (take end t) ≡ false
+  step-other start size long u =
+      let part = take (end - start) (drop start t) in
+      let inside = here .inside in
+      let l : length part ≡ end - start = length-take-le (end - start) (drop start t) (simp length-drop (omega arith)) in
+      rw (path-ends .1, cut t start end size)
+      (fits-other (topPlace (suc n) s at) (take start t) part (path-ends .0) (pieceBy s node) (l ∙ long) (same-unlike part (pieceBy s node) u))
 
-    module _ (like : same (take (end - start) (drop start t)) (pieceBy s node) ≡ true) where
-      whole : take end t ≡ take start t ++ piece s at
-      whole =
-          cut t start end size
-          ∙ ap (λ (l : List ℕ). take start t ++ l) (same-equal (part start) (pieceBy s node) like ∙ sym (piece-word s at node read))
+  module _ {start : ℕ} (found : Matched s t end start node) where
+    whole : take end t ≡ take start t ++ piece s at
+    whole =
+        cut t start end (found .size)
+        ∙ ap (λ (l : List ℕ). take start t ++ l) (same-equal (take (end - start) (drop start t)) (pieceBy s node) (found .like) ∙ sym piece-read)
 
-      -- the topmost piece
-      pub step-top : node .parent ≡ 0 → fitsFrom (suc n) s at (take end t) ≡ fitsPath (noName (node .offset) (node .len)) (take start t) []
-      step-top p =
-          let q : parentOf s at ≡ 0 = sym (parent-word s at node read) ∙ p in
-          rw (whole, path-top s n at away q, top-step s n at away, eq-eqb (parentOf s at) 0 q, name-word s at node read)
-          (fits-front (nameless s at) (take start t) [] (piece s at))
+    -- the topmost piece
+    pub step-top : node .parent ≡ 0 → fitsFrom (suc n) s at (take end t) ≡ fitsPath (noName (node .offset) (node .len)) (take start t) []
+    step-top p =
+        let q : parentOf s at ≡ 0 = sym parent-read ∙ p in
+        rw (whole, path-top s n at (here .away) q, top-step s n at (here .away), eq-eqb (parentOf s at) 0 q, name-read)
+        (fits-front (nameless s at) (take start t) [] (piece s at))
 
-      module _ (below : node .parent ≡ 0 → ⊥) where
-        lower : parentOf s at ≡ 0 → ⊥
-        lower q = below (parent-word s at node read ∙ q)
+    module _ (below : node .parent ≡ 0 → ⊥) where
+      lower : parentOf s at ≡ 0 → ⊥
+      lower q = below (parent-read ∙ q)
 
-        -- a dot is due before the piece
-        due : fitsFrom (suc n) s at (take end t) ≡ fitsPath (topPlace n s (parentOf s at)) (take start t) (pathFrom n s (parentOf s at) ++ (dot ∷ []))
-        due =
-            rw (whole, path-below s n at away lower, top-step s n at away, ne-eqb (parentOf s at) 0 lower)
-            (fits-front (topPlace n s (parentOf s at)) (take start t) (pathFrom n s (parentOf s at) ++ (dot ∷ [])) (piece s at))
+      -- a dot is due before the piece
+      due : fitsFrom (suc n) s at (take end t) ≡ fitsPath (topPlace n s (parentOf s at)) (take start t) (pathFrom n s (parentOf s at) ++ (dot ∷ []))
+      due =
+          rw (whole, path-below s n at (here .away) lower, top-step s n at (here .away), ne-eqb (parentOf s at) 0 lower)
+          (fits-front (topPlace n s (parentOf s at)) (take start t) (pathFrom n s (parentOf s at) ++ (dot ∷ [])) (piece s at))
 
-        pub step-none : start ≡ 0 → fitsFrom (suc n) s at (take end t) ≡ false
-        step-none e =
-            due
-            ∙ ap (λ (m : ℕ). fitsPath (topPlace n s (parentOf s at)) (take m t) (pathFrom n s (parentOf s at) ++ (dot ∷ []))) e
-            ∙ fits-short (topPlace n s (parentOf s at)) [] (pathFrom n s (parentOf s at)) (dot ∷ []) (omega arith)
+      -- what stands before the piece is given
+      due-of : (l : List ℕ) → take start t ≡ l
+          → fitsFrom (suc n) s at (take end t) ≡ fitsPath (topPlace n s (parentOf s at)) l (pathFrom n s (parentOf s at) ++ (dot ∷ []))
+      due-of l e = due ∙ ap (λ (k : List ℕ). fitsPath (topPlace n s (parentOf s at)) k (pathFrom n s (parentOf s at) ++ (dot ∷ []))) e
 
-        module _ (e : ℕ) (q : start ≡ e + 1) where
-          byte : take start t ≡ take e t ++ (getD t e 0 ∷ [])
-          byte = ap (λ (m : ℕ). take m t) (q ∙ add-one e) ∙ take-suc t e 0 (omega arith)
+      pub step-none : start ≡ 0 → fitsFrom (suc n) s at (take end t) ≡ false
+      step-none e =
+          due-of [] (ap (λ (m : ℕ). take m t) e)
+          ∙ fits-short (topPlace n s (parentOf s at)) [] (pathFrom n s (parentOf s at)) (dot ∷ []) (omega arith)
 
-          pub step-no-dot : (getD t e 0 ≡ dot → ⊥) → fitsFrom (suc n) s at (take end t) ≡ false
-          step-no-dot d =
-              due
-              ∙ ap (λ (l : List ℕ). fitsPath (topPlace n s (parentOf s at)) l (pathFrom n s (parentOf s at) ++ (dot ∷ []))) byte
-              ∙ fits-other (topPlace n s (parentOf s at)) (take e t) (getD t e 0 ∷ []) (pathFrom n s (parentOf s at)) (dot ∷ []) refl
-              (λ r. d (ap (λ (l : List ℕ). getD l 0 0) r))
+      module _ (e : ℕ) (q : start ≡ e + 1) where
+        byte : take start t ≡ take e t ++ (getD t e 0 ∷ [])
+        byte =
+            let inside = here .inside in
+            let size = found .size in
+            ap (λ (m : ℕ). take m t) (q ∙ add-one e) ∙ take-suc t e 0 (omega arith)
 
-          pub step-dot : getD t e 0 ≡ dot → fitsFrom (suc n) s at (take end t) ≡ fitsFrom n s (node .parent) (take e t)
-          step-dot d =
-              due
-              ∙ ap (λ (l : List ℕ). fitsPath (topPlace n s (parentOf s at)) l (pathFrom n s (parentOf s at) ++ (dot ∷ [])))
-              (byte ∙ ap (λ (b : ℕ). take e t ++ (b ∷ [])) d)
-              ∙ fits-front (topPlace n s (parentOf s at)) (take e t) (pathFrom n s (parentOf s at)) (dot ∷ [])
-              ∙ ap (λ (p : ℕ). fitsFrom n s p (take e t)) (sym (parent-word s at node read))
+        pub step-no-dot : (getD t e 0 ≡ dot → ⊥) → fitsFrom (suc n) s at (take end t) ≡ false
+        step-no-dot d =
+            due-of (take e t ++ (getD t e 0 ∷ [])) byte
+            ∙ fits-other (topPlace n s (parentOf s at)) (take e t) (getD t e 0 ∷ []) (pathFrom n s (parentOf s at)) (dot ∷ []) refl
+            (λ r. d (ap (λ (l : List ℕ). getD l 0 0) r))
+
+        pub step-dot : getD t e 0 ≡ dot → fitsFrom (suc n) s at (take end t) ≡ fitsFrom n s (node .parent) (take e t)
+        step-dot d =
+            due-of (take e t ++ (dot ∷ [])) (byte ∙ ap (λ (b : ℕ). take e t ++ (b ∷ [])) d)
+            ∙ fits-front (topPlace n s (parentOf s at)) (take e t) (pathFrom n s (parentOf s at)) (dot ∷ [])
+            ∙ ap (λ (p : ℕ). fitsFrom n s p (take e t)) (sym parent-read)
 
 -- ---- a bound that is large enough makes no difference
 

@@ -1,37 +1,42 @@
 -- What the code reads out of the bytes of nodes, index, definitions and items, in the terms of the rules. Assumes nothing.
-use Prim.Native.Nat.{ℕ, zero, suc, _+_, _-_, _*_, _/_, _≤_, _<_}
+use Prim.Native.Nat.{ℕ, suc, _+_, _-_, _*_, _/_, _≤_, _<_}
 use mathlib.Core.Path.{_≡_, refl, sym, ap, _∙_}
 use mathlib.Core.List.{List, []}
-use mathlib.Core.Bool.{Bool, true, false, _&&_, _||_, not}
+use mathlib.Core.Bool.{Bool, true, false, _&&_, _||_}
 use native.Mathlib.Omega.{arith}
-use native.Mathlib.Nat.{add-zero, zero-add}
+use native.Mathlib.Nat.{zero-add}
 use native.Mathlib.Decide.{decLe}
+use native.Mathlib.Numerals.{add-one}
 use lib.Dec.{eqb, leb, ltb}
 use lib.ListN.{length, getD, take, drop, length-drop, drop-of-length-le, List·getD-eq-default}
 use lib.Seq.{take-all, take-nil}
 use borrow.Author.Tests.{eq-eqb, ne-eqb, le-ltb, lt-ltb}
 use Rattle.laws.specs.Refusal.{unless, _▸_, firstOf}
-use Rattle.words.specs.Words.{NONE, isNone, wordIn, wordsOf}
+use Rattle.laws.specs.Counted.{sumOf}
+use Rattle.laws.proofs.First.{first, second}
+use Rattle.words.specs.Words.{NONE, isNone, wordAt, wordIn, wordsOf}
 use Rattle.words.proofs.Words.{word-in, word-out, word-at, length-words}
 use Rattle.texts.specs.Text.{before, rising}
 use Rattle.image.specs.declared.TextEntry.{TextEntry}
 use Rattle.image.specs.declared.Definition.{Definition}
-use Rattle.image.specs.Sections.{Sections, nodeWord, indexWord, itemWord, definitionWord, partAt, goodIn, insideContainer, itemCount}
-use Rattle.image.specs.Header.{nodeWords}
+use Rattle.image.specs.Sections.{Sections, nodeWord, definitionWord, partAt, goodIn, insideContainer, itemCount}
 use Rattle.image.specs.Entries.{textEntryOf, definitionOf}
 use Rattle.image.proofs.Entries.{index-entry, item-entry, definition-entry}
-use Rattle.index.specs.declared.PathNode.{PathNode}
 use Rattle.index.specs.Paths.{noName, fits}
-use Rattle.index.specs.Index.{indexText, indexEntryRule}
-use Rattle.index.specs.Definitions.{definitionText, itemText, itemsBefore, itemRuleFrom, definitionRule}
-use Rattle.index.specs.Parts.{indexParts, pathNodeOf, entryTextFrom, definitionTextIn}
+use Rattle.index.specs.Index.{indexText, indexEntryRule, indexRule}
+use Rattle.index.specs.Definitions.{definitionText, itemText, itemsOf, itemsBefore, itemRuleFrom, definitionRule, itemsUsedUp, definitionsRule}
+use Rattle.index.specs.Parts.{indexParts, definitionParts, pathNodeOf, entryTextFrom, definitionTextIn}
 use Rattle.index.proofs.Rising.{rising-next, rising-like}
+use Rattle.index.proofs.Runs.{run-stops}
+use Rattle.index.proofs.Definitions.{definition-passed}
 
 -- ---- a text as far as the strings go
 
-pub text-to-end : (bs : List ℕ) (at len : ℕ) → length bs ≤ at + len → partAt bs at len ≡ drop at bs
+pub text-to-end : (bs : List ℕ) (at len : ℕ) → length bs ≤ at + len → partAt bs at len ≡ take (length bs - at) (drop at bs)
 unfolding partAt
-text-to-end bs at len h = take-all len (drop at bs) (simp length-drop (omega arith))
+text-to-end bs at len h =
+    let n : length (drop at bs) ≡ length bs - at = length-drop at bs in
+    take-all len (drop at bs) (omega arith) ∙ sym (take-all (length bs - at) (drop at bs) (omega arith))
 
 pub text-past : (bs : List ℕ) (at len : ℕ) → length bs ≤ at → partAt bs at len ≡ []
 unfolding partAt
@@ -39,19 +44,25 @@ text-past bs at len h = rw (drop-of-length-le bs h) (take-nil len)
 
 -- ---- nodes
 
--- a word, 0 past the end
-pub word-get : (bs : List ℕ) (k : ℕ) → wordIn bs (4 * k) ≡ getD (wordsOf bs) k 0
-word-get bs k = by (decLe (4 * k + 4) (length bs))
+-- word k, which stands at byte 4 * k, or 0 past the end
+word-get : (bs : List ℕ) (k at : ℕ) → at ≡ 4 * k → getD (wordsOf bs) k 0 ≡ wordIn bs at
+word-get bs k at e = by (decLe (at + 4) (length bs))
   where
-    by : Dec (4 * k + 4 ≤ length bs) → wordIn bs (4 * k) ≡ getD (wordsOf bs) k 0
-    by (yes h) = word-in bs (4 * k) h ∙ sym (word-at bs k h)
-    by (no h) = word-out bs (4 * k) (omega arith) ∙ sym (List·getD-eq-default (wordsOf bs) 0 (omega (arith, length-words bs)))
+    by : Dec (at + 4 ≤ length bs) → getD (wordsOf bs) k 0 ≡ wordIn bs at
+    by (yes h) = word-at bs k (omega arith) ∙ ap (wordAt bs) (sym e) ∙ sym (word-in bs at h)
+    by (no h) = List·getD-eq-default (wordsOf bs) 0 (omega (arith, length-words bs)) ∙ sym (word-out bs at (omega arith))
 
 pub node-words : (nodes : List ℕ) (i : ℕ)
     → pathNodeOf (indexParts nodes [] []) i
-    ≡ record { parent = getD (wordsOf nodes) (i * 10) 0; place = getD (wordsOf nodes) (i * 10 + 1) 0; offset = getD (wordsOf nodes) (i * 10 + 3) 0; len = getD (wordsOf nodes) (i * 10 + 4) 0 }
+    ≡ record { parent = wordIn nodes (i * 40); place = wordIn nodes (i * 40 + 4); offset = wordIn nodes (i * 40 + 12); len = wordIn nodes (i * 40 + 16) }
 unfolding nodeWord
-node-words nodes i = rw add-zero
+node-words nodes i =
+    rw (
+      word-get nodes (i * 10 + 0) (i * 40) (omega arith),
+      word-get nodes (i * 10 + 1) (i * 40 + 4) (omega arith),
+      word-get nodes (i * 10 + 3) (i * 40 + 12) (omega arith),
+      word-get nodes (i * 10 + 4) (i * 40 + 16) (omega arith),
+    )
 
 table-length : (nodes : List ℕ) → length (wordsOf nodes) / 10 ≡ length nodes / 40
 table-length nodes = omega (arith, length-words nodes)
@@ -144,3 +155,64 @@ pub definition-by : (s : Sections) (ws : List ℕ) (d used : ℕ) (e : Definitio
     ≡ (unless good 10 ▸ unless rises 17 ▸ unless (leb (e .first + e .count) (itemCount s) && eqb (e .first) used) 11 ▸ firstOf (e .count) (itemRuleFrom s (e .first)))
 unfolding definitionRule
 definition-by s ws d used e good rises q n r g u = rw (g, n, r, definition-entry s ws d q, u, definition-texts s ws q d)
+
+-- ---- runs by the lengths of the bytes
+
+pub index-run : (nodes index strings : List ℕ)
+    → indexRule (indexParts nodes index strings) ≡ firstOf (length index / 12) (indexEntryRule (indexParts nodes index strings))
+unfolding indexRule
+index-run nodes index strings =
+    ap (λ (n : ℕ). firstOf n (indexEntryRule (indexParts nodes index strings))) (omega (arith, length-words index))
+
+pub items-length : (items : List ℕ) → length (wordsOf items) / 3 ≡ length items / 12
+items-length items = omega (arith, length-words items)
+
+-- the refusals of the definitions, then of items that are left over
+pub definitions-run : (definitions items strings : List ℕ)
+    → definitionsRule (definitionParts definitions items strings)
+    ≡ (firstOf (length definitions / 16) (definitionRule (definitionParts definitions items strings))
+    ▸ unless (eqb (itemsBefore (definitionParts definitions items strings) (length definitions / 16)) (length items / 12)) 17)
+unfolding definitionsRule itemsUsedUp
+definitions-run definitions items strings =
+    let s = definitionParts definitions items strings in
+    let n : length (wordsOf definitions) / 4 ≡ length definitions / 16 = omega (arith, length-words definitions) in
+    ap (λ (k : ℕ). firstOf k (definitionRule s) ▸ unless (eqb (itemsBefore s k) (length (wordsOf items) / 3)) 17) n
+    ∙ ap (λ (k : ℕ). firstOf (length definitions / 16) (definitionRule s) ▸ unless (eqb (itemsBefore s (length definitions / 16)) k) 17) (items-length items)
+
+-- the loop over definitions: the one at d is refused; none is; its items, whose count w was read, are added to those used
+module _ (definitions items strings : List ℕ) (d : ℕ) where
+  abbrev parts : Sections
+  parts = definitionParts definitions items strings
+
+  pub definitions-stop : (r : ℕ) → d < length definitions / 16 → firstOf d (definitionRule parts) ≡ 0 → r ≡ definitionRule parts d → (r ≡ 0 → ⊥) → r ≡ definitionsRule parts
+  definitions-stop r h p q z =
+      let n = length definitions / 16 in
+      let e : r ≡ suc (r - 1) = omega arith in
+      e
+      ∙ sym (definitions-run definitions items strings
+      ∙ first (firstOf n (definitionRule parts)) (unless (eqb (itemsBefore parts n) (length items / 12)) 17) (r - 1)
+      (sym (run-stops n d r (definitionRule parts) h p q z) ∙ e))
+
+  pub definitions-end : (used : ℕ) → d ≤ length definitions / 16 → length definitions / 16 ≤ d → used ≡ itemsBefore parts d → firstOf d (definitionRule parts) ≡ 0
+      → definitionsRule parts ≡ unless (eqb used (length items / 12)) 17
+  definitions-end used h g u p =
+      let n = length definitions / 16 in
+      let e : n ≡ d = omega arith in
+      definitions-run definitions items strings
+      ∙ second (firstOf n (definitionRule parts)) (unless (eqb (itemsBefore parts n) (length items / 12)) 17) (ap (λ (k : ℕ). firstOf k (definitionRule parts)) e ∙ p)
+      ∙ ap (λ (k : ℕ). unless (eqb k (length items / 12)) 17) (ap (itemsBefore parts) e ∙ sym u)
+
+  count-read : (w : ℕ) → w ≡ getD (wordsOf definitions) (d * 4 + 3) 0 → w ≡ itemsOf parts d
+  unfolding definitionWord
+  count-read w e = e
+
+  pub used-more : (used w : ℕ) → used ≡ itemsBefore parts d → w ≡ getD (wordsOf definitions) (d * 4 + 3) 0 → used + w ≡ itemsBefore parts (d + 1)
+  unfolding sumOf
+  used-more used w u e = rw (add-one, u, count-read w e)
+
+  pub used-inside : (used w : ℕ) → used ≡ itemsBefore parts d → w ≡ getD (wordsOf definitions) (d * 4 + 3) 0 → definitionRule parts d ≡ 0 → used + w ≤ length items / 12
+  used-inside used w u e p =
+      let q = definition-passed parts d p in
+      let n : itemCount parts ≡ length items / 12 = items-length items in
+      let k : w ≡ itemsOf parts d = count-read w e in
+      rw (u, k, ← q .start, ← n) (q .inside)

@@ -1,6 +1,6 @@
 -- A run of rules: the loop that stops at the first refusal, and rules that refuse alike. Assumes nothing.
 use Prim.Native.Nat.{ℕ, zero, suc, _+_, _-_, _≤_, _<_}
-use mathlib.Core.Path.{_≡_, refl, sym, ap, _∙_, subst}
+use mathlib.Core.Path.{_≡_, refl, sym, _∙_}
 use native.Mathlib.Omega.{arith}
 use native.Mathlib.Numerals.{add-one}
 use Rattle.laws.specs.Refusal.{firstOf, _▸_}
@@ -10,6 +10,10 @@ use Rattle.laws.proofs.First.{first-hit, first-next}
 pub run-starts : (f : ℕ → ℕ) → firstOf 0 f ≡ 0
 unfolding firstOf
 run-starts f = refl
+
+pub sum-starts : (f : ℕ → ℕ) → sumOf 0 f ≡ 0
+unfolding sumOf
+sum-starts f = refl
 
 -- the loop has passed n of m rules and stops at a refusal
 pub run-stops : (m n r : ℕ) (f : ℕ → ℕ) → n < m → firstOf n f ≡ 0 → r ≡ f n → (r ≡ 0 → ⊥) → r ≡ firstOf m f

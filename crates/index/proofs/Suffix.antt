@@ -1,6 +1,6 @@
 -- A text against the end of another: what is left before an end that both have, and the texts that fit a path piece by piece from its end on.
 -- Assumes nothing.
-use Prim.Native.Nat.{ℕ, zero, suc, _+_, _-_, _≤_, _<_}
+use Prim.Native.Nat.{ℕ, _+_, _-_, _≤_, _<_}
 use mathlib.Core.Path.{_≡_, refl, sym, ap, _∙_}
 use mathlib.Core.Logic.{_⊎_, inl, inr}
 use mathlib.Core.List.{List, [], _∷_, _++_}
@@ -9,10 +9,10 @@ use native.Mathlib.Omega.{arith}
 use lib.Dec.{eqb}
 use lib.ListN.{length, getD, take, drop, length-append}
 use lib.Seq.{take-at, drop-at, take-add, length-take-le}
-use borrow.Author.Tests.{eqb-true, eqb-false, eq-eqb, ne-eqb}
+use borrow.Author.Tests.{eqb-true, eqb-false}
 use Rattle.texts.specs.Text.{same}
 use Rattle.texts.specs.Dots.{dot}
-use Rattle.texts.proofs.Text.{same-self, same-equal, equal-same, unlike-same, same-unlike, same-iff, length-same}
+use Rattle.texts.proofs.Text.{same-self, same-equal, equal-same, unlike-same, same-iff, length-same}
 use Rattle.index.specs.Paths.{fitsPath}
 
 -- ---- two texts with ends of one length

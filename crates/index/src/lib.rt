@@ -2,7 +2,7 @@
 ghost use mathlib.Core.Path.{_≡_};
 ghost use mathlib.Core.List.{[]};
 ghost use Prim.Native.Nat.{_+_, _*_, _≤_};
-ghost use lib.ListN.{length, getD};
+ghost use lib.ListN.{length};
 ghost use Rattle.laws.specs.Refusal.{firstOf};
 ghost use Rattle.words.specs.Words.{wordsOf};
 ghost use Rattle.texts.specs.Text.{before, rising, same};
@@ -50,24 +50,16 @@ fn text_bytes(strings: &[u8], offset: u32, len: u32) -> &[u8]
     }
 }
 
-// Word `k` of a section's bytes, 0 past their end.
-fn word_or_zero(part: &[u8], k: usize) -> u32
-    requires { ⌜ k ≤ 429496729600 ⌝ }
-    ensures { λ r. ⌜ r ≡ getD (wordsOf (now (part .entry))) k 0 ⌝ }
-{
-    words::get(part, 4 * k)
-}
-
 // The node at `at`; past the last one its words are 0.
 fn path_node(nodes: &[u8], at: u32) -> PathNode
     ensures { λ r. ⌜ r ≡ pathNodeOf (indexParts (now (nodes .entry)) [] []) at ⌝ }
 {
-    let first = (at as usize) * 10;
+    let first = (at as usize) * 40;
     PathNode {
-        parent: word_or_zero(nodes, first),
-        place: word_or_zero(nodes, first + 1),
-        offset: word_or_zero(nodes, first + 3),
-        len: word_or_zero(nodes, first + 4),
+        parent: words::get(nodes, first),
+        place: words::get(nodes, first + 4),
+        offset: words::get(nodes, first + 12),
+        len: words::get(nodes, first + 16),
     }
 }
 

@@ -1,8 +1,7 @@
 -- `index::definition_rises` meets its contract. Assumes nothing.
-use mathlib.Core.Path.{_∙_, sym}
+use mathlib.Core.Path.{_∙_}
 use Rattle.words.specs.Words.{wordsOf}
 use Rattle.index.proofs.Readers.{definition-rises}
-use Rattle.index.proofs.Rising.{rising-first}
 use borrow.Author.Needs.{needs}
 use Rattle.index.proofs.definition_rises.Statement.{statement}
 use Rattle.index.proofs.definition_rises.Tie as tie
@@ -29,7 +28,7 @@ comes-before-requires : tie.Need-comes-before-requires
 comes-before-requires c κs = search needs
 
 returns-2 : tie.Need-returns-2
-returns-2 c = 
+returns-2 c =
     let at = c .before .before .before .before .before .before .before .before .args in
     c .comes-before .ensures
     ∙ definition-rises (wordsOf (at .definitions .now)) (at .strings .now) (at .d) _ _ _ _ (c .before .before .before .before .before .if1 .left)

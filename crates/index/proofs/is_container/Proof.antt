@@ -23,7 +23,7 @@ part-word-requires : tie.Need-part-word-requires
 part-word-requires c κs = search needs
 
 returns-3 : tie.Need-returns-3
-returns-3 c = 
+returns-3 c =
     let at = c .before .before .before .before .args in
     ap (λ (x : ℕ). eqb x 1) (c .part-word .ensures) ∙ sym (inside-tag (at .nodes .now) (at .node) (c .before .before .if1 .left) (c .before .if2 .left))
 

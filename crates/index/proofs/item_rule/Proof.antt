@@ -1,9 +1,10 @@
 -- `index::item_rule` meets its contract. Assumes nothing.
-use mathlib.Core.Path.{_∙_, sym, refl}
+use mathlib.Core.Path.{_≡_, _∙_, sym, refl}
 use mathlib.Core.List.{[]}
 use borrow.Author.Tests.{not-true, not-false}
 use Rattle.laws.specs.Refusal.{unless, _▸_}
 use Rattle.words.specs.Words.{wordsOf}
+use Rattle.index.specs.Definitions.{itemRuleFrom}
 use Rattle.index.specs.Parts.{definitionParts}
 use Rattle.index.proofs.Readers.{item-by}
 use borrow.Author.Needs.{needs}
@@ -28,17 +29,22 @@ returns c =
 rises-requires : tie.Need-rises-requires
 rises-requires c κs = search needs
 
-returns-2 : tie.Need-returns-2
+-- the text is good
+last-test : (c : tie.After-rises) → itemRuleFrom (definitionParts [] (c .before .before .before .before .before .before .args .items .now) (c .before .before .before .before .before .before .args .strings .now)) (c .before .before .before .before .before .before .args .first) (c .before .before .before .before .before .before .args .place) ≡ unless (c .rises .result) 17
 unfolding unless _▸_
-returns-2 c =
-    let at = c .before .before .before .before .before .before .before .args in
-    sym (item-by (definitionParts [] (at .items .now) (at .strings .now)) (wordsOf (at .items .now)) (at .first) (at .place) (c .before .before .before .before .text-entry .result) (c .before .before .before .good-text .result) (c .before .rises .result) refl (c .before .before .before .before .text-entry .ensures) (c .before .before .before .good-text .ensures) (c .before .rises .ensures) ∙ rw (not-false (c .before .before .before .good-text .result) (c .before .before .if1 .left), c .if2 .taken))
+last-test c =
+    let at = c .before .before .before .before .before .before .args in
+    item-by (definitionParts [] (at .items .now) (at .strings .now)) (wordsOf (at .items .now)) (at .first) (at .place) (c .before .before .before .text-entry .result) (c .before .before .good-text .result) (c .rises .result)
+    refl (c .before .before .before .text-entry .ensures) (c .before .before .good-text .ensures) (c .rises .ensures)
+    ∙ rw (not-false (c .before .before .good-text .result) (c .before .if1 .left))
+
+returns-2 : tie.Need-returns-2
+unfolding unless
+returns-2 c = sym (last-test (c .before) ∙ rw (c .if2 .taken))
 
 returns-3 : tie.Need-returns-3
-unfolding unless _▸_
-returns-3 c =
-    let at = c .before .before .before .before .before .before .before .args in
-    sym (item-by (definitionParts [] (at .items .now) (at .strings .now)) (wordsOf (at .items .now)) (at .first) (at .place) (c .before .before .before .before .text-entry .result) (c .before .before .before .good-text .result) (c .before .rises .result) refl (c .before .before .before .before .text-entry .ensures) (c .before .before .before .good-text .ensures) (c .before .rises .ensures) ∙ rw (not-false (c .before .before .before .good-text .result) (c .before .before .if1 .left), c .if2 .left))
+unfolding unless
+returns-3 c = sym (last-test (c .before) ∙ rw (c .if2 .left))
 
 pub item-rule-spec : {M : Type 1} → statement M
 item-rule-spec =

@@ -1,5 +1,6 @@
 -- `index::piece_len` meets its contract. Assumes nothing.
 use mathlib.Core.Path.{ap}
+use lib.ListN.{length}
 use Rattle.index.specs.Paths.{pieceOf}
 use borrow.Author.Needs.{needs}
 use Rattle.index.proofs.piece_len.Statement.{statement}

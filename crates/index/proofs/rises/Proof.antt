@@ -35,7 +35,7 @@ comes-before-requires : tie.Need-comes-before-requires
 comes-before-requires c κs = search needs
 
 returns-2 : tie.Need-returns-2
-returns-2 c = 
+returns-2 c =
     let at = c .before .before .before .before .before .before .before .before .args in
     c .comes-before .ensures
     ∙ entry-rises (wordsOf (at .entries .now)) (at .strings .now) (at .first) (at .place) _ _ _ _ (c .before .before .before .before .before .if1 .left)
