@@ -1,13 +1,10 @@
 -- What the code reads out of a section's words are the words of that entry: of a node, a named entry, a definition, an item, an index entry.
 -- Assumes nothing.
-use Prim.Native.Nat.{ℕ, _+_, _*_}
-use mathlib.Core.Path.{_≡_, refl, sym, ap, _∙_}
+use Prim.Native.Nat.{ℕ}
+use mathlib.Core.Path.{_≡_, ap, _∙_}
 use mathlib.Core.List.{List}
 use native.Mathlib.Nat.{add-zero}
-use lib.ListN.{getD}
 use Rattle.image.specs.declared.NodeRecord.{NodeRecord}
-use Rattle.image.specs.declared.TextEntry.{TextEntry}
-use Rattle.image.specs.declared.Definition.{Definition}
 use Rattle.image.specs.Sections.{Sections, nodeWord, parentOf, placeOf, tagOf, f, namedWord, definitionWord, itemWord, indexWord}
 use Rattle.image.specs.Header.{nodeWords}
 use Rattle.image.specs.Entries.{recordOf, textEntryOf, definitionOf, nodeIn, namedIn, itemIn, indexIn, definitionIn}

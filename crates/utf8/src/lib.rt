@@ -2,8 +2,11 @@
 ghost use mathlib.Core.Path.{_≡_};
 ghost use mathlib.Core.List.{[], _∷_};
 ghost use mathlib.Core.Bool.{cond};
-ghost use Prim.Native.Nat.{_+_, _<_};
-ghost use lib.ListN.{length, drop};
+ghost use Prim.Native.Nat.{_+_, _<_, _≤_};
+ghost use lib.Dec.{ltb};
+ghost use lib.ListN.{length, drop, getD};
+ghost use Rattle.laws.specs.Counted.{allOf};
+ghost use Rattle.utf8.specs.Runs.{Passes, Advances};
 ghost use Rattle.utf8.specs.Utf8.{_··_, within, rows, fits, sizeIn, utf8};
 
 // Whether b lies from `low` to `high`.
@@ -83,17 +86,78 @@ fn sequence(s: &[u8], at: usize) -> usize
     }
 }
 
+// Whether the 32 bytes from `at` on are ASCII.
+fn all_ascii(s: &[u8], at: usize) -> bool
+    requires { ⌜ at + 32 ≤ length (now s) ⌝ }
+    ensures { λ r. ⌜ r ≡ allOf 32 (λ j. ltb (getD (now (s .entry)) (at + j) 0) 0x80) ⌝ }
+{
+    let mut bits: u8 = 0;
+    let mut j = 0;
+    while j < 32 {
+        bits = bits | s[at + j];
+        j += 1;
+    }
+    bits < 0x80
+}
+
+// An index after `at`, past ASCII alone: quick where there is much of it.
+fn ascii_end(s: &[u8], at: usize) -> usize
+    requires { ⌜ at ≤ length (now s) ⌝ }
+    ensures { λ r. ⌜ Passes (sizeIn rows) (now (s .entry)) at r ⌝ }
+{
+    let mut i = at;
+    while 32 <= s.len() - i {
+        if !all_ascii(s, i) {
+            return i;
+        }
+        i += 32;
+    }
+    i
+}
+
+// An end for a stretch that begins at `at`.
+fn stop(at: usize, n: usize) -> usize
+    requires { ⌜ at < n ⌝ }
+    ensures { λ r. ⌜ (at < r) × (r ≤ n) ⌝ }
+{
+    if n - at <= 64 {
+        return n;
+    }
+    at + 64
+}
+
+// An index after `at`, past whole sequences: a stretch of them. It is `at` if one of the stretch is ill-formed.
+fn stretch_end(s: &[u8], at: usize) -> usize
+    requires { ⌜ at < length (now s) ⌝ }
+    ensures { λ r. ⌜ Advances (sizeIn rows) (now (s .entry)) at r ⌝ }
+{
+    let n = stop(at, s.len());
+    let mut i = at;
+    while i < n {
+        let k = sequence(s, i);
+        if k == 0 {
+            return at;
+        }
+        i += k;
+    }
+    i
+}
+
 // Whether s is well-formed UTF-8.
 pub fn valid(s: &[u8]) -> bool
     ensures { λ r. ⌜ r ≡ utf8 (now (s .entry)) ⌝ }
 {
     let mut i = 0;
     while i < s.len() {
-        let k = sequence(s, i);
-        if k == 0 {
+        let a = ascii_end(s, i);
+        if a == s.len() {
+            return true;
+        }
+        let e = stretch_end(s, a);
+        if e == a {
             return false;
         }
-        i += k;
+        i = e;
     }
     true
 }
