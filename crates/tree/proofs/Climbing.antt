@@ -58,10 +58,11 @@ module _ (s : Sections) where
     over = λ marks due a p. a .0;
     done = λ n marks a p. a .0;
     skip = λ n i marks due a e. (a .0, a .1 .1);
-    enter = λ n i marks due a e p.
-        ((a .1 .0, all-farther (length marks) marks (a .0)),
-        all-append (Climbs s (suc (suc (length marks)))) (backwards s i) due (entries-climb (suc (length marks)) i p (a .1 .0))
-        (all-farther (suc (length marks)) due (a .1 .1)));
+    enter = λ n i marks due a e p. (
+      (a .1 .0, all-farther (length marks) marks (a .0)),
+      all-append (Climbs s (suc (suc (length marks)))) (backwards s i) due (entries-climb (suc (length marks)) i p (a .1 .0))
+          (all-farther (suc (length marks)) due (a .1 .1)),
+    );
     refuse = λ n i r marks due a e p z. absurd (omega arith);
   }
 
@@ -75,7 +76,7 @@ module _ (s : Sections) where
   unfolding loadWalk
   marks-right h p =
       let m = walk-marks (entriesRule s) (backwards s) (λ i. i < nodeCount s)
-          (λ i k e. all-reverse (λ x. x < nodeCount s) (entryNodes s i) (entries-inside s i e)) (turns s) (0 ∷ []) (h, tt) p in
+      (λ i k e. all-reverse (λ x. x < nodeCount s) (entryNodes s i) (entries-inside s i e)) (turns s) (0 ∷ []) (h, tt) p in
       record { distinct = m .0; inside = all-map (loadWalk s .seen) (λ i k. k .0) (m .1) }
 
   pub tree-climbs : 0 < nodeCount s → treeRule s ≡ 0 → (i : ℕ) → i < nodeCount s → Climbs s (nodeCount s) i

@@ -13,11 +13,13 @@ use Rattle.laws.specs.Counted.{sumOf, joinOf}
 use Rattle.laws.specs.Lists.{has}
 use Rattle.laws.proofs.First.{both, then, passed, first-all, first-of}
 use Rattle.texts.specs.Text.{rising}
+use Rattle.image.proofs.Parts.{both-true}
 use Rattle.image.specs.Sections.{Sections, nodeCount, childCount, namedCount, parentOf, placeOf, tagOf, f, goodText, inside, isContainer, insideContainer}
 use Rattle.records.specs.Fields.{Field, fields, kinds, kindOf}
 use Rattle.records.specs.Records.{childrenOf, namedOf, childrenBefore, namedBefore, fieldRule, firstField, nodeRule, usedUp}
 use Rattle.tree.specs.Tree.{childAt, namedAt, namedText, childRule, namedRule, entriesRule, entryNodes, turns}
-use Rattle.tree.proofs.Members.{both-true, or-left, or-right, All, all-append, all-join, has-append, has-join, length-join, sum-ext, sum-add}
+use Rattle.tree.specs.Parts.{Counts, Ranges, Fit}
+use Rattle.tree.proofs.Members.{or-left, or-right, All, all-append, all-join, has-append, has-join, length-join, sum-ext, sum-add}
 
 -- ---- an entry that passes
 
@@ -128,11 +130,6 @@ module _ (s : Sections) (i : ℕ) where
 
 -- ---- what the record rules say of all entries
 
-pub record Counts (s : Sections) : Type 0 where
-  pub some : 0 < nodeCount s
-  pub children : childrenBefore s (nodeCount s) ≡ childCount s
-  pub named : namedBefore s (nodeCount s) ≡ namedCount s
-
 pub counts : (s : Sections) → 0 < nodeCount s → usedUp s ≡ true → Counts s
 unfolding usedUp
 counts s h u =
@@ -147,10 +144,6 @@ entries-counted s c =
     sum-ext (nodeCount s) (λ i. length (entryNodes s i)) (λ i. childrenOf s i + namedOf s i) (λ i h. length-entries s i)
     ∙ sum-add (nodeCount s) (childrenOf s) (namedOf s) ∙ omega (arith, c .children, c .named)
 
-pub record Ranges (s : Sections) (i : ℕ) : Type 0 where
-  pub children : f s i 3 + f s i 4 ≤ childCount s
-  pub named : f s i 5 + f s i 6 ≤ namedCount s
-
 -- a container whose record rules pass
 pub ranges : (s : Sections) (i : ℕ) → nodeRule s i ≡ 0 → isContainer s i ≡ true → Ranges s i
 unfolding nodeRule
@@ -164,3 +157,6 @@ ranges s i p c = parts (subst (λ (tag : ℕ). firstField s i (fields (kindOf ta
           children = leb-true _ _ (both-true (leb (f s i 3 + f s i 4) (childCount s)) _ (passed _ 10 (third .0)) .0);
           named = leb-true _ _ (both-true (leb (f s i 5 + f s i 6) (namedCount s)) _ (passed _ 10 fourth) .0);
         }
+
+pub fit : (s : Sections) → 0 < nodeCount s → firstOf (nodeCount s) (nodeRule s) ≡ 0 → usedUp s ≡ true → Fit s
+fit s h p u = record { counts = counts s h u; ranges = λ i k c. ranges s i (first-all (nodeCount s) (nodeRule s) p i k) c }

@@ -6,3 +6,7 @@ pub mod Climbing
 pub mod Numbers
 pub mod Stack
 pub mod Machine
+pub mod Tests
+pub mod Entering
+pub mod Loading
+pub mod Parts

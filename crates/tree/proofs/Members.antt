@@ -1,6 +1,6 @@
 -- Laws of lists of numbers: what holds of every element, membership, distinct numbers, sums over the numbers below a count.
 -- Assumes nothing.
-use Prim.Native.Nat.{ℕ, zero, suc, _+_, _≤_, _<_, suc-le-suc, zero-le}
+use Prim.Native.Nat.{ℕ, zero, suc, _+_, _-_, _≤_, _<_, suc-le-suc, zero-le}
 use mathlib.Core.Path.{_≡_, refl, sym, ap, _∙_, subst}
 use mathlib.Core.List.{List, [], _∷_, _++_, reverse, reverseAux, reverse-append}
 use mathlib.Core.Bool.{Bool, true, false, cond, _&&_, _||_, not, false≢true}
@@ -12,12 +12,9 @@ use lib.Dec.{eqb}
 use borrow.Author.Tests.{eqb-true, eqb-false, eq-eqb, ne-eqb}
 use Rattle.laws.specs.Counted.{sumOf, allOf, joinOf}
 use Rattle.laws.specs.Lists.{has}
+use Rattle.image.proofs.Parts.{both-true}
 
 -- ---- tests
-
-pub both-true : (a b : Bool) → (a && b) ≡ true → (a ≡ true) × (b ≡ true)
-both-true true b p = (refl, p)
-both-true false b p = absurd (false≢true p)
 
 pub and-true : (a b : Bool) → a ≡ true → b ≡ true → (a && b) ≡ true
 and-true a b p q = rw (p, q) refl
@@ -127,6 +124,27 @@ length-join (suc n) g = length-append (joinOf n (λ j. g j ∷ [])) (g n ∷ [])
 pub reverse-join : (n : ℕ) (g : ℕ → ℕ) → reverse (joinOf (suc n) (λ j. g j ∷ [])) ≡ g n ∷ reverse (joinOf n (λ j. g j ∷ []))
 unfolding joinOf
 reverse-join n g = reverse-append (joinOf n (λ j. g j ∷ [])) (g n ∷ [])
+
+pub join-ext : (n : ℕ) (a b : ℕ → ℕ) → ((i : ℕ) → i < n → a i ≡ b i) → joinOf n (λ j. a j ∷ []) ≡ joinOf n (λ j. b j ∷ [])
+unfolding joinOf
+join-ext zero a b h = refl
+join-ext (suc n) a b h = rw (join-ext n a b (λ i k. h i (omega arith)), h n (omega arith)) refl
+
+join-front : (n : ℕ) (g : ℕ → ℕ) → joinOf (suc n) (λ j. g j ∷ []) ≡ g 0 ∷ joinOf n (λ j. g (suc j) ∷ [])
+unfolding joinOf
+join-front zero g = refl
+join-front (suc n) g = ap (λ (l : List ℕ). l ++ (g (suc n) ∷ [])) (join-front n g)
+
+-- numbers taken from the last to the first, and read backwards, stand in their order
+pub reverse-down : (n : ℕ) (g : ℕ → ℕ) → reverse (joinOf n (λ j. g (n - 1 - j) ∷ [])) ≡ joinOf n (λ j. g j ∷ [])
+reverse-down zero g = unfold joinOf in refl
+reverse-down (suc n) g =
+    let e : suc n - 1 - n ≡ 0 = omega arith in
+    reverse-join n (λ j. g (suc n - 1 - j))
+    ∙ rw e
+    (ap (λ (l : List ℕ). g 0 ∷ l)
+    (ap reverse (join-ext n (λ j. g (suc n - 1 - j)) (λ j. g (suc (n - 1 - j))) (λ j h. ap g (omega arith))) ∙ reverse-down n (λ j. g (suc j)))
+    ∙ sym (join-front n g))
 
 -- ---- distinct numbers
 
@@ -238,6 +256,23 @@ pub all-so : (n : ℕ) (g : ℕ → Bool) → ((i : ℕ) → i < n → g i ≡ t
 unfolding allOf
 all-so zero g h = refl
 all-so (suc n) g h = and-true (allOf n g) (g n) (all-so n g (λ i k. h i (omega arith))) (h n (omega arith))
+
+-- one more number that passes; one that does not
+pub all-next : (n : ℕ) (g : ℕ → Bool) → allOf n g ≡ true → g n ≡ true → allOf (suc n) g ≡ true
+unfolding allOf
+all-next n g p q = and-true (allOf n g) (g n) p q
+
+pub all-fails : (n i : ℕ) (g : ℕ → Bool) → i < n → g i ≡ false → allOf n g ≡ false
+all-fails n i g h e = go (allOf n g) refl
+  where
+    go : (b : Bool) → allOf n g ≡ b → b ≡ false
+    go true q = absurd (false≢true (sym e ∙ all-of n g q i h))
+    go false q = refl
+
+pub all-ext : (n : ℕ) (a b : ℕ → Bool) → ((i : ℕ) → i < n → a i ≡ b i) → allOf n a ≡ allOf n b
+unfolding allOf
+all-ext zero a b h = refl
+all-ext (suc n) a b h = rw (all-ext n a b (λ i k. h i (omega arith)), h n (omega arith)) refl
 
 pub sum-ext : (n : ℕ) (a b : ℕ → ℕ) → ((i : ℕ) → i < n → a i ≡ b i) → sumOf n a ≡ sumOf n b
 unfolding sumOf

@@ -17,9 +17,10 @@ use Rattle.image.specs.Sections.{Sections, nodeCount, childCount, namedCount, p
 use Rattle.records.specs.Records.{childrenOf, namedOf}
 use Rattle.tree.specs.Tree.{childAt, namedAt, entriesRule, entryNodes, Walked, walk, turns, loadWalk, readWalk, allSeen, treeRule}
 use Rattle.tree.specs.Reach.{Reached, root, child, named, climb, Climbs}
+use Rattle.tree.specs.Parts.{Counts}
 use Rattle.tree.proofs.Members.{or-left, All, all-map, all-append, all-reverse, all-at, has-reverse, Distinct, pigeon, all-of, all-so, sum-ext}
 use Rattle.tree.proofs.Walks.{Turns, walk-turns, walk-keeps, walk-passes, walk-marks, walk-closed, walk-first, Behind, Closed, Owed, pending, pushed}
-use Rattle.tree.proofs.Entries.{ChildRight, NamedRight, children-pass, named-pass, child-container, named-container, entry-each, child-entry, named-entry, entries-inside, Counts, entries-counted}
+use Rattle.tree.proofs.Entries.{ChildRight, NamedRight, children-pass, named-pass, child-container, named-container, entry-each, child-entry, named-entry, entries-inside, entries-counted}
 
 -- what the loader's walk pushes
 abbrev pub backwards : Sections → ℕ → List ℕ
@@ -68,9 +69,11 @@ module _ (s : Sections) where
     unfolding loadWalk
     closed =
         walk-closed (nodeCount s) (entriesRule s) (backwards s) (λ i h e. down i h) (turns s) (0 ∷ []) (c .some, tt)
-        (omega
-        (arith, entries-counted s c,
-        sum-ext (nodeCount s) (λ i. length (backwards s i)) (λ i. length (entryNodes s i)) (λ i h. length-reverse (entryNodes s i))))
+        (omega (
+          arith,
+          entries-counted s c,
+          sum-ext (nodeCount s) (λ i. length (backwards s i)) (λ i. length (entryNodes s i)) (λ i h. length-reverse (entryNodes s i)),
+        ))
         never-refused
 
     -- a reached node is marked

@@ -85,6 +85,7 @@ module _ (rule node : ℕ → ℕ) (count base depth : ℕ) (w₀ : List ℕ) wh
         record { answer = rw e at (sym (p .passed)); low = p .low; high = p .high; stack = λ z. rw e at (p .stack) }
 
     -- the next node is refused
-    pub push-stop : (r : ℕ) → j < count → rule j ≡ suc r → Pushed rule node count base depth w₀ w (suc r)
-    push-stop r h z =
-        record { answer = sym (first-hit count j r rule h (p .passed) z); low = p .low; high = p .high; stack = λ q. absurd (omega arith) }
+    pub push-stop : (r : ℕ) → j < count → (r ≡ 0 → ⊥) → rule j ≡ r → Pushed rule node count base depth w₀ w r
+    push-stop r h nz z =
+        let q : r ≡ suc (r - 1) = omega arith in
+        record { answer = q ∙ sym (first-hit count j (r - 1) rule h (p .passed) (z ∙ q)); low = p .low; high = p .high; stack = λ e. absurd (nz e) }
