@@ -1,0 +1,3 @@
+fn main() {
+    println!("{:?}", reference::load(b"abc").err());
+}
