@@ -52,6 +52,13 @@ fn copy(from: &Path, to: &Path) {
     }
 }
 
+/// Every text that a file hands to `invalid`.
+fn reasons(tree: &Path, file: &str) -> Vec<String> {
+    let text = fs::read_to_string(tree.join(file)).unwrap();
+    let calls = text.split("invalid(").skip(1);
+    calls.filter_map(|rest| Some(rest.trim_start().strip_prefix('"')?.split('"').next()?.to_owned())).collect()
+}
+
 fn main() {
     println!("cargo:rerun-if-env-changed=STORY_IMAGE_REFERENCE");
     let here = PathBuf::from(env::var_os("CARGO_MANIFEST_DIR").unwrap());
@@ -73,4 +80,7 @@ fn main() {
         .map(|(name, file)| format!("#[allow(warnings)]\n#[path = {:?}]\nmod {name};\n", tree.join(file)))
         .collect();
     fs::write(tree.join("modules.rs"), modules).unwrap();
+    let reasons = reasons(&tree, "image/mod.rs").into_iter().chain(reasons(&tree, "image/validate.rs"));
+    let list: String = reasons.map(|reason| format!("{reason:?}, ")).collect();
+    fs::write(tree.join("reasons.rs"), format!("&[{list}]")).unwrap();
 }

@@ -23,3 +23,6 @@ mod view;
 
 pub use draft::{Draft, Written, write};
 pub use view::{Image, Kind, ListEntries, ListEntry, Named, NodeView, Step, load};
+
+/// Every reason string in the published loader's source.
+pub const REASONS: &[&str] = include!(concat!(env!("OUT_DIR"), "/published/reasons.rs"));
