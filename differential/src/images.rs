@@ -4,6 +4,7 @@ use crate::library::{Library, View, load_words};
 use crate::queries;
 use crate::random::Random;
 use crate::rows::row_of;
+use crate::strange;
 use crate::tally::Tally;
 
 /// Work words hold this before a call.
@@ -26,6 +27,9 @@ pub fn image(name: &'static str, bytes: &[u8], ours: Option<&dyn Library>, rando
     if let Ok(image) = theirs {
         let asked = ours.zip(view.as_ref());
         queries::all(&image, bytes, asked, random, tally);
+        if let Some((ours, view)) = asked.filter(|(ours, _)| ours.answers_all()) {
+            strange::bytes(bytes, view, ours, random, tally);
+        }
     }
 }
 

@@ -38,6 +38,10 @@ pub trait Library {
     fn resolve_path(&self, bytes: &[u8], view: &View, origin: u32, relative: bool, steps: &[Step]) -> Option<u32>;
     /// The number, and the length written if it is 0.
     fn write(&self, ink: u32, draft: &Draft, work: &mut [u32], output: &mut [u8]) -> (u32, usize);
+    /// Whether it answers where the published Rust does not: unaccepted bytes, broken drafts.
+    fn answers_all(&self) -> bool {
+        true
+    }
 }
 
 pub fn load_words(bytes: &[u8]) -> usize {

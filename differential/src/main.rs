@@ -14,10 +14,12 @@ mod parts;
 mod published;
 mod queries;
 mod random;
+mod record;
 mod rows;
 mod run;
 mod small;
 mod stories;
+mod strange;
 mod tally;
 mod texts;
 mod writes;
@@ -40,6 +42,7 @@ fn main() {
     let failed = match arguments.first().map(String::as_str) {
         Some("self-check") => run::self_check(number(1, 2000)),
         Some("bench") => bench::run(),
+        Some("replay") => record::run(arguments.get(1).map_or("replay.data", String::as_str)),
         _ => run::compare(number(0, 100_000), number(1, 1), OURS),
     };
     std::process::exit(i32::from(failed));

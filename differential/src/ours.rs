@@ -151,9 +151,8 @@ impl Library for Ours {
         let (origin, _) = image.definition(found.definition)?;
         // its number among all items, turned into one among the definition's
         let before = (0..found.definition).map(|index| image.definition(index).map_or(0, |(_, items)| items));
-        let (item, value) = image.definition_item(found.definition, found.item - before.sum::<u32>())?;
-        assert_eq!(value, found.value, "the value of a found item");
-        Some((place(origin), place(item), value))
+        let (item, _) = image.definition_item(found.definition, found.item.checked_sub(before.sum())?)?;
+        Some((place(origin), place(item), found.value))
     }
 
     fn resolve_path(&self, bytes: &[u8], view: &View, origin: u32, relative: bool, steps: &[Step]) -> Option<u32> {

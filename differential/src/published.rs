@@ -73,6 +73,10 @@ fn entries(bytes: &[u8], list: Place) -> Option<ListEntries> {
 }
 
 impl Library for Published {
+    fn answers_all(&self) -> bool {
+        false
+    }
+
     fn load(&self, bytes: &[u8], work: &mut [u32]) -> (u32, View) {
         let row = reference::load(bytes).err().map_or(0, |reason| row_of(&reason).unwrap());
         if (1..=6).contains(&row) {

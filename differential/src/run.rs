@@ -32,8 +32,8 @@ fn all(cases: u64, seed: u64, ours: Option<&dyn Library>, tally: &mut Tally) {
     for family in &FAMILIES {
         let visits = family.size.min(cases);
         for visit in 0..visits {
-            // spread over the family where not all are visited
-            let member = (visit as u128 * family.size as u128 / visits as u128) as u64;
+            // a prime step: spread over the family, and all of it where all are visited
+            let member = (visit as u128 * 2_654_435_761 % family.size as u128) as u64;
             image(family.name, &(family.member)(member), ours, &mut random, tally);
         }
     }

@@ -26,6 +26,10 @@ pub fn draft(case: &Case, ours: Option<&dyn Library>, random: &mut Random, tally
         *tally.written.entry("(of all: broken by the loader's reason)".to_owned()).or_default() += 1;
     }
     let Some(ours) = ours else { return };
+    let numbered = loads || matches!(theirs, Written::Refused(_));
+    if !ours.answers_all() && (broken || !numbered) {
+        return;
+    }
     let number = match &theirs {
         Written::Image(image) if loads => written(case, image, ours, random, tally),
         _ => refused(case, ours, tally),
