@@ -39,13 +39,27 @@ pub enum Written {
 }
 
 pub fn write(ink_version: u32, draft: &Draft) -> Written {
-    let Some(story) = story_of(draft) else {
+    let Some(story) = Story::new(draft) else {
         return Written::NoStory;
     };
-    if parents_circle(&story) {
+    if parents_circle(&story.0) {
         return Written::RunsOn;
     }
-    put_down(ink_version as i32, story);
+    write_story(ink_version, story)
+}
+
+/// A draft as the published writer takes it.
+pub struct Story(StoryData);
+
+impl Story {
+    pub fn new(draft: &Draft) -> Option<Self> {
+        story_of(draft).map(Story)
+    }
+}
+
+/// The published writer alone; it runs on where parents go in a circle.
+pub fn write_story(ink_version: u32, story: Story) -> Written {
+    put_down(ink_version as i32, story.0);
     let image = catch_unwind(AssertUnwindSafe(|| compile_json_to_image(std::io::empty())));
     match image {
         Ok(Ok(image)) => Written::Image(image),

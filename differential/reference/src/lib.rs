@@ -21,8 +21,8 @@ include!(concat!(env!("OUT_DIR"), "/published/modules.rs"));
 mod draft;
 mod view;
 
-pub use draft::{Draft, Written, write};
-pub use view::{Image, Kind, ListEntries, ListEntry, Named, NodeView, Step, load};
+pub use draft::{Draft, Story, Written, write, write_story};
+pub use view::{Image, Kind, ListEntries, ListEntry, Named, NodeView, Step, Walk, load};
 
 /// Every reason string in the published loader's source.
 pub const REASONS: &[&str] = include!(concat!(env!("OUT_DIR"), "/published/reasons.rs"));

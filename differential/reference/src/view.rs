@@ -243,6 +243,30 @@ impl Image<'_> {
     }
 
     pub fn resolve_path(&self, origin: u32, relative: bool, steps: &[Step]) -> Option<u32> {
+        self.walk(origin, &Walk::new(relative, steps))
+    }
+
+    /// The published query alone, for measuring.
+    pub fn walk(&self, origin: u32, walk: &Walk) -> Option<u32> {
+        self.view.resolve_path(NodeId(origin), &walk.0).map(|id| id.0)
+    }
+
+    /// The published query alone, for measuring.
+    pub fn has_view(&self, id: u32) -> bool {
+        std::hint::black_box(self.view.node_view(NodeId(id))).is_some()
+    }
+
+    /// The published query alone, for measuring.
+    pub fn has_list_item(&self, name: &str) -> bool {
+        std::hint::black_box(self.view.list_item(name)).is_some()
+    }
+}
+
+/// A path, made ready for walks.
+pub struct Walk(Path);
+
+impl Walk {
+    pub fn new(relative: bool, steps: &[Step]) -> Self {
         let components: Vec<Component> = steps
             .iter()
             .map(|step| match step {
@@ -251,7 +275,6 @@ impl Image<'_> {
                 Step::Name(name) => Component::new(name),
             })
             .collect();
-        let path = Path::new(&components, relative);
-        self.view.resolve_path(NodeId(origin), &path).map(|id| id.0)
+        Walk(Path::new(&components, relative))
     }
 }
