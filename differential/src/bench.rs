@@ -245,7 +245,8 @@ mod ours {
 
 #[cfg(feature = "ours")]
 mod ours {
-    use super::{Duration, Input, Step, black_box, timed};
+    use super::{Duration, Input, black_box, timed};
+    use crate::library::components;
     use crate::ours::draft_of;
     use story_image::{Image, ffi, load_words};
 
@@ -254,21 +255,6 @@ mod ours {
         image: Image<'a>,
         /// Origin, relative, components, names.
         walks: Vec<(u32, bool, Vec<u32>, Vec<u8>)>,
-    }
-
-    fn components(steps: &[Step]) -> (Vec<u32>, Vec<u8>) {
-        let (mut words, mut names) = (vec![], vec![]);
-        for step in steps {
-            words.extend(match step {
-                Step::Parent => [0, 0, 0],
-                Step::Index(index) => [1, *index, 0],
-                Step::Name(name) => [2, names.len() as u32, name.len() as u32],
-            });
-            if let Step::Name(name) = step {
-                names.extend_from_slice(name.as_bytes());
-            }
-        }
-        (words, names)
     }
 
     impl<'a> Measured<'a> {

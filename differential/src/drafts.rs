@@ -3,6 +3,7 @@
 use crate::damage::{self, tree_fault};
 use crate::parts::{NONE, Parts};
 use crate::random::Random;
+use crate::small;
 use crate::stories::{Shape, Story};
 use reference::Draft;
 
@@ -48,6 +49,12 @@ pub fn random(random: &mut Random) -> Case {
         13 => edited(plain, random),
         _ => damaged(plain, random),
     }
+}
+
+/// A small tree, whatever it is worth.
+pub fn tree_member(number: u64) -> Case {
+    let parts = small::tree(number);
+    Case { image: Some(with_counted_index(&parts)), ..case("small tree", parts, Known::Nothing) }
 }
 
 fn case(name: &'static str, parts: Parts, known: Known) -> Case {

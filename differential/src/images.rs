@@ -29,6 +29,7 @@ pub fn image(name: &'static str, bytes: &[u8], ours: Option<&dyn Library>, rando
         queries::all(&image, bytes, asked, random, tally);
         if let Some((ours, view)) = asked.filter(|(ours, _)| ours.answers_all()) {
             strange::bytes(bytes, view, ours, random, tally);
+            strange::asked(bytes, view, ours, random, tally);
         }
     }
 }

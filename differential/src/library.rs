@@ -36,12 +36,38 @@ pub trait Library {
     /// Name of the origin, name of the item, value.
     fn list_item(&self, bytes: &[u8], view: &View, name: &[u8]) -> Option<(Place, Place, i32)>;
     fn resolve_path(&self, bytes: &[u8], view: &View, origin: u32, relative: bool, steps: &[Step]) -> Option<u32>;
+    /// The same, from a component's three words each and the bytes of names.
+    fn resolve_components(
+        &self,
+        bytes: &[u8],
+        view: &View,
+        origin: u32,
+        relative: bool,
+        components: &[u32],
+        names: &[u8],
+    ) -> Option<u32>;
     /// The number, and the length written if it is 0.
     fn write(&self, ink: u32, draft: &Draft, work: &mut [u32], output: &mut [u8]) -> (u32, usize);
     /// Whether it answers where the published Rust does not: unaccepted bytes, broken drafts.
     fn answers_all(&self) -> bool {
         true
     }
+}
+
+/// Steps as components and names.
+pub fn components(steps: &[Step]) -> (Vec<u32>, Vec<u8>) {
+    let (mut words, mut names) = (vec![], vec![]);
+    for step in steps {
+        words.extend(match step {
+            Step::Parent => [0, 0, 0],
+            Step::Index(index) => [1, *index, 0],
+            Step::Name(name) => [2, names.len() as u32, name.len() as u32],
+        });
+        if let Step::Name(name) = step {
+            names.extend_from_slice(name.as_bytes());
+        }
+    }
+    (words, names)
 }
 
 pub fn load_words(bytes: &[u8]) -> usize {

@@ -167,6 +167,18 @@ impl Library for Ours {
         image(bytes, view).resolve_path(origin, relative, &steps)
     }
 
+    fn resolve_components(
+        &self,
+        bytes: &[u8],
+        view: &View,
+        origin: u32,
+        relative: bool,
+        components: &[u32],
+        names: &[u8],
+    ) -> Option<u32> {
+        image(bytes, view).resolve_components(origin, relative, components, names)
+    }
+
     fn write(&self, ink: u32, draft: &Draft, work: &mut [u32], output: &mut [u8]) -> (u32, usize) {
         match story_image::write(ink, &draft_of(draft), work, output) {
             Ok(length) => (0, length),

@@ -178,6 +178,10 @@ impl Library for Published {
         image.resolve_path(origin, relative, steps)
     }
 
+    fn resolve_components(&self, _: &[u8], _: &View, _: u32, _: bool, _: &[u32], _: &[u8]) -> Option<u32> {
+        unreachable!("the published Rust takes no such words")
+    }
+
     fn write(&self, ink: u32, draft: &Draft, work: &mut [u32], output: &mut [u8]) -> (u32, usize) {
         if !(18..=21).contains(&ink) {
             return (3, 0);

@@ -24,6 +24,7 @@
 
 use crate::damage;
 use crate::drafts;
+use crate::library::components;
 use crate::parts::{NONE, Parts, word_at};
 use crate::random::Random;
 use crate::rows::{row_of, writer_row};
@@ -304,7 +305,7 @@ impl Recorder {
         let strings = word_at(bytes, 76) as usize;
         let origin = random.below(image.node_count() + 1) as u32;
         let relative = random.once_in(2);
-        let (mut steps, mut components, mut names) = (vec![], vec![], vec![]);
+        let mut steps = vec![];
         for _ in 0..random.below(4) {
             let at = image.resolve_path(origin, relative, &steps).unwrap_or(0);
             let named = image.named_child_at(at, 0);
@@ -317,16 +318,9 @@ impl Recorder {
                 (1, None) => Step::Name("a".to_owned()),
                 _ => Step::Index(random.below(3) as u32),
             };
-            components.extend(match &step {
-                Step::Parent => [0, 0, 0],
-                Step::Index(index) => [1, *index, 0],
-                Step::Name(name) => [2, names.len() as u32, name.len() as u32],
-            });
-            if let Step::Name(name) = &step {
-                names.extend_from_slice(name.as_bytes());
-            }
             steps.push(step);
         }
+        let (components, names) = components(&steps);
         let end = image.resolve_path(origin, relative, &steps);
         let number = if end.is_some() { 0 } else { 18 };
         let head = [origin, u32::from(relative), number, end.unwrap_or(0), steps.len() as u32];

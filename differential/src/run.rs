@@ -37,6 +37,10 @@ fn all(cases: u64, seed: u64, ours: Option<&dyn Library>, tally: &mut Tally) {
             image(family.name, &(family.member)(member), ours, &mut random, tally);
         }
     }
+    for visit in 0..small::TREES.min(cases) {
+        let case = drafts::tree_member((visit as u128 * 2_654_435_761 % small::TREES as u128) as u64);
+        writes::draft(&case, ours, &mut random, tally);
+    }
     singly(&small::smallest(), ours, &mut random, tally);
     for _ in 0..1 + cases / 50_000 {
         let shape = Shape { nodes: 2 + random.below(8), ..Shape::random(&mut random) };

@@ -9,9 +9,11 @@ pub struct Family {
     pub member: fn(u64) -> Vec<u8>,
 }
 
-pub const FAMILIES: [Family; 8] = [
-    Family { name: "trees", size: 30 * 30 * 6 * 16 * 5, member: tree },
-    Family { name: "path indexes", size: 4 * 3 * 52 * 52, member: index },
+pub const FAMILIES: [Family; 10] = [
+    Family { name: "trees", size: TREES, member: |number| tree(number).bytes() },
+    Family { name: "named entries", size: 3 * 2 * 45 * 45, member: named },
+    Family { name: "stack orders", size: 6 * 6 * 4 * 2 * 2, member: stack },
+    Family { name: "path indexes", size: 4 * 3 * 60 * 60, member: index },
     Family { name: "definitions", size: 64 * 64 * 9 * 3, member: definitions },
     Family { name: "records", size: 17 * 45 * 16 * 16, member: record },
     Family { name: "headers", size: 20 * 20 * 15 * 15, member: header },
@@ -19,6 +21,8 @@ pub const FAMILIES: [Family; 8] = [
     Family { name: "UTF-8", size: 26 * 26 * 26 * 26, member: utf8 },
     Family { name: "names", size: 57 * 2 * 6, member: names },
 ];
+
+pub const TREES: u64 = 30 * 30 * 6 * 16 * 5;
 
 /// Takes a member's number apart, digit by digit.
 struct Digits(u64);
@@ -49,7 +53,7 @@ fn with_root(strings: &str) -> Parts {
 }
 
 /// Three nodes with all parents, places, kinds and entries. Strings: `x`, `y`, `x.y`, `y.x`.
-fn tree(number: u64) -> Vec<u8> {
+pub fn tree(number: u64) -> Parts {
     let mut digits = Digits(number);
     let mut parts = with_root("x.y.x");
     let mut containers = vec![];
@@ -91,20 +95,113 @@ fn tree(number: u64) -> Vec<u8> {
         parts.index.push([at, length, node]);
     }
     parts.index.sort_by_key(|entry| parts.strings[entry[0] as usize..][..entry[1] as usize].to_vec());
+    parts
+}
+
+/// Places of texts in the strings `ab`, ff: good ones, one that is no text, ones outside or missing.
+const TEXTS: [(u32, u32); 9] =
+    [(0, 1), (1, 1), (0, 2), (3, 0), (2, 1), (3, 1), (NONE, NONE), (NONE, 0), (0, NONE)];
+
+/// Two named entries of the root, of all texts and nodes; node 1 is a container, 2 glue, 3 a container below 1.
+fn named(number: u64) -> Vec<u8> {
+    let mut digits = Digits(number);
+    let mut parts = with_root("ab");
+    parts.strings.push(0xff);
+    let parent = digits.of(&[0, 3, 1]);
+    let ordered = digits.below(2) == 0;
+    parts.children = if ordered { vec![1, 2, 3] } else { vec![2, 3] };
+    parts.nodes[0][7] = parts.children.len() as u32 - 1;
+    parts.nodes[0][9] = 2;
+    let glue = u32::from(ordered);
+    let start = parts.nodes[0][7];
+    parts.nodes.push([parent, if ordered { 0 } else { NONE }, 1, 0, 1, 0, start, 1, 2, 0]);
+    parts.nodes.push([0, glue, 5, NONE, NONE, NONE, NONE, NONE, NONE, NONE]);
+    parts.nodes.push([1, 0, 1, NONE, NONE, 0, start + 1, 0, 2, 0]);
+    for _ in 0..2 {
+        let (at, length) = digits.of(&TEXTS);
+        parts.named.push([at, length, digits.of(&[1, 0, 2, 4, NONE])]);
+    }
+    parts.strings.extend_from_slice(b"a.0");
+    parts.index.extend([[3, 1, 1], [3, 3, 3]]);
     parts.bytes()
+}
+
+/// Two containers below the root with a fault each, in both orders, also named by the root, one level down or not.
+fn stack(number: u64) -> Vec<u8> {
+    let mut digits = Digits(number);
+    let faults = [digits.below(6), digits.below(6)];
+    let names = digits.below(4);
+    let exchanged = digits.below(2) == 1;
+    let deep = digits.below(2) == 1;
+    let mut parts = with_root("ab");
+    parts.strings.push(0xff);
+    parts.children = if exchanged { vec![2, 1] } else { vec![1, 2] };
+    parts.nodes[0][7] = 2;
+    for side in 0..2 {
+        if names >> side & 1 == 1 {
+            parts.named.push([side, 1, side + 1]);
+            parts.nodes[0][9] += 1;
+        }
+    }
+    for side in 0..2_u32 {
+        let place = if exchanged { 1 - side } else { side };
+        parts.nodes.push([0, place, 1, side, 1, 0, 0, 0, 0, 0]);
+    }
+    // below each: a container and glue; the fault lies with the container itself, or with the one below
+    for side in 0..2_u32 {
+        let (container, glue) = (3 + 2 * side, 4 + 2 * side);
+        parts.nodes.push([1 + side, 0, 1, NONE, NONE, 0, 0, 0, 0, 0]);
+        parts.nodes.push([1 + side, 1, 5, NONE, NONE, NONE, NONE, NONE, NONE, NONE]);
+        let holder = if deep { container } else { 1 + side };
+        match faults[side as usize] {
+            1 => parts.nodes[glue as usize][1] = 7,
+            2 => fault(&mut parts, holder, [0, 1, glue]),
+            3 => fault(&mut parts, holder, [2, 1, glue]),
+            4 => fault(&mut parts, holder, [0, 1, 0]),
+            5 => fault(&mut parts, holder, [0, 1, NONE]),
+            _ => {}
+        }
+    }
+    lay_out(&mut parts);
+    parts.bytes()
+}
+
+/// A named entry, to be laid out with its holder.
+fn fault(parts: &mut Parts, holder: u32, entry: [u32; 3]) {
+    parts.nodes[holder as usize][9] = 1;
+    parts.named.push(entry);
+}
+
+/// Starts, children and index of `stack`: named entries of 1 and 2 come before those of 3 and 5 by construction only
+/// if all are equally deep, which they are.
+fn lay_out(parts: &mut Parts) {
+    parts.children.extend([3, 4, 5, 6]);
+    let (mut children, mut named) = (0, 0);
+    for node in 0..parts.nodes.len() {
+        if parts.nodes[node][2] == 1 {
+            let count = if node < 3 { 2 } else { 0 };
+            let names = parts.nodes[node][9];
+            parts.nodes[node][6..10].copy_from_slice(&[children, count, named, names]);
+            (children, named) = (children + count, named + names);
+        }
+    }
+    let at = parts.strings.len() as u32;
+    parts.strings.extend_from_slice(b"a.0b.0");
+    parts.index.extend([[0, 1, 1], [at, 3, 3], [1, 1, 2], [at + 3, 3, 5]]);
 }
 
 /// A root with one container, and two index entries of all texts and targets.
 fn index(number: u64) -> Vec<u8> {
-    const TEXTS: [&str; 13] =
+    const FITS: [&str; 13] =
         ["", "a", "b", ".a", "3", ".3", "..3", "03", "3.", "0", ".", "4294967295", ".4294967295"];
     let mut digits = Digits(number);
-    let strings = TEXTS.concat();
+    let strings = FITS.concat();
     let place = |text: &str| {
-        let at = TEXTS.iter().take_while(|other| **other != text).map(|other| other.len()).sum::<usize>();
+        let at = FITS.iter().take_while(|other| **other != text).map(|other| other.len()).sum::<usize>();
         (at as u32, text.len() as u32)
     };
     let mut parts = with_root(&strings);
+    parts.strings.push(0xff);
     parts.index.clear();
     let name = digits.of(&[None, Some(""), Some("a"), Some("3")]);
     let number = digits.of(&[3, 0, NONE]);
@@ -122,7 +219,9 @@ fn index(number: u64) -> Vec<u8> {
     }
     parts.nodes.push(child);
     for _ in 0..2 {
-        let (at, length) = place(TEXTS[digits.below(13)]);
+        let bad = [(strings.len() as u32, 1), (NONE, NONE)];
+        let text = digits.below(15);
+        let (at, length) = FITS.get(text).map_or_else(|| bad[text - 13], |text| place(text));
         parts.index.push([at, length, digits.of(&[0, 1, 2, NONE])]);
     }
     parts.bytes()

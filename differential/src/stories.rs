@@ -30,6 +30,7 @@ impl Shape {
             0 => 1,
             1..4 => 1 + random.below(4),
             4..9 => 1 + random.below(14),
+            _ if random.once_in(40) => 1 + random.below(1000),
             _ => 1 + random.below(60),
         };
         Shape {

@@ -1,11 +1,12 @@
-//! Queries on bytes that were not accepted, or under another view: they must end, with parts inside the bytes.
+//! What the published Rust cannot be asked: queries on bytes that were not accepted or under another view, which must
+//! end with parts inside the bytes; names that are no text; walks along wrong words.
 
 use crate::library::{Library, View};
 use crate::parts::NONE;
 use crate::random::Random;
 use crate::stories::edge;
 use crate::tally::Tally;
-use reference::{Kind, Step};
+use reference::{Kind, NodeView, Step};
 
 /// The view of an accepted image, over damaged or cut bytes, or itself damaged.
 pub fn bytes(bytes: &[u8], view: &View, ours: &dyn Library, random: &mut Random, tally: &mut Tally) {
@@ -59,4 +60,31 @@ fn ask(bytes: &[u8], view: &View, node: u32, ours: &dyn Library, random: &mut Ra
     let _ = ours.resolve_path(bytes, view, node, true, &[Step::Parent, Step::Index(0), Step::Name(name)]);
     let parts = places.into_iter().filter_map(|place| ours.text(bytes, view, place));
     parts.filter(|(start, length)| start.checked_add(*length).is_none_or(|end| end > bytes.len())).count()
+}
+
+/// On an accepted image: names that are no text name nothing, and a walk ends where its words go wrong.
+pub fn asked(bytes: &[u8], view: &View, ours: &dyn Library, random: &mut Random, tally: &mut Tally) {
+    let node = random.below(view[2] as usize) as u32;
+    let no_text = *random.pick(&[&b"\xff"[..], b"a\x80", b"\xc0\xaf", b"\xed\xa0\x80", b".\xff"]);
+    let nothing = ours.find_named_child(bytes, view, node, no_text).is_none() && ours.list_item(bytes, view, no_text).is_none();
+    tally.check(nothing, || format!("something is named {no_text:?}"), bytes);
+    let Some(NodeView { kind, parent, .. }) = ours.node_view(bytes, view, node) else {
+        return;
+    };
+    let wrong: &[u32] = match random.below(5) {
+        0 => &[3, 0, 0],
+        1 => &[2, 0, 4],
+        2 => &[2, 4, 0],
+        3 => &[NONE, NONE, NONE],
+        _ => &[2, NONE, NONE],
+    };
+    let walk = |components: &[u32]| ours.resolve_components(bytes, view, node, true, components, b"abc");
+    let skipped = !matches!(kind, Kind::Container { .. });
+    let expected = if skipped { parent } else { None };
+    let end = walk(wrong);
+    tally.check(end == expected, || format!("walk of {wrong:?} from {node} ends at {end:?}"), bytes);
+    let twice = walk(&[wrong, wrong].concat());
+    tally.check(twice.is_none(), || format!("walk of {wrong:?} twice from {node} ends at {twice:?}"), bytes);
+    let left_over = walk(&[0, 0, 0, 0][..if skipped { 4 } else { 1 }]);
+    tally.check(left_over.is_none(), || format!("walk with words left over ends at {left_over:?}"), bytes);
 }

@@ -103,6 +103,15 @@ fn refused(case: &Case, ours: &dyn Library, tally: &mut Tally) -> u32 {
     if number != 0 {
         untouched(case, number, &work, &output, tally);
     }
+    // the same with no output at all; with a work word too few 7 comes before 20
+    let mut work = vec![MARK; write_words(&case.draft)];
+    let (again, _) = ours.write(case.ink, &case.draft, &mut work, &mut []);
+    tally.check(again == number, || format!("draft {}: {number}, without output {again}", case.name), &[]);
+    if (20..=22).contains(&number) {
+        let mut few = vec![MARK; write_words(&case.draft) - 1];
+        let (few, _) = ours.write(case.ink, &case.draft, &mut few, &mut []);
+        tally.check(few == 7, || format!("draft {}: {few} with a work word too few", case.name), &[]);
+    }
     number
 }
 
