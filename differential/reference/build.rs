@@ -48,7 +48,9 @@ fn copy(from: &Path, to: &Path) {
     fs::create_dir_all(to.parent().unwrap()).unwrap();
     match fs::read(from) {
         Ok(text) => fs::write(to, text).unwrap(),
-        Err(error) => panic!("{}: {error}; set STORY_IMAGE_REFERENCE to the folder of the published source", from.display()),
+        Err(error) => {
+            panic!("{}: {error}; set STORY_IMAGE_REFERENCE to the folder of the published source", from.display())
+        }
     }
 }
 

@@ -170,7 +170,10 @@ fn duel(name: &str, mut theirs: impl FnMut() -> Duration, mut ours: Option<impl 
     match our.get(middle) {
         Some(mine) => println!(
             "    {name:16} published {:>12.3?} ours {mine:>12.3?} ratio {:.2} ({:.2} to {:.2})",
-            their[middle], ratios[middle], ratios[0], ratios[ratios.len() - 1]
+            their[middle],
+            ratios[middle],
+            ratios[0],
+            ratios[ratios.len() - 1]
         ),
         None => println!("    {name:16} published {:>12.3?}", their[middle]),
     }
@@ -281,9 +284,8 @@ mod ours {
                     let mut answer = ffi::Node::default();
                     let mut has = |node: u32| {
                         // SAFETY: the slice, the view and the answer live through the call.
-                        let number = unsafe {
-                            ffi::story_image_node_view(bytes.as_ptr(), bytes.len(), view, node, &mut answer)
-                        };
+                        let number =
+                            unsafe { ffi::story_image_node_view(bytes.as_ptr(), bytes.len(), view, node, &mut answer) };
                         black_box(&answer);
                         number == 0
                     };
@@ -304,7 +306,9 @@ mod ours {
         }
 
         pub fn items(&self) -> Option<impl FnMut() -> Duration> {
-            Some(move || timed(|| self.input.items.iter().filter_map(|name| self.image.list_item(name.as_bytes())).count()))
+            Some(move || {
+                timed(|| self.input.items.iter().filter_map(|name| self.image.list_item(name.as_bytes())).count())
+            })
         }
 
         pub fn write(&self) -> Option<impl FnMut() -> Duration> {

@@ -22,8 +22,33 @@ pub fn bounds(bytes: &[u8], section: usize) -> (usize, usize) {
 /// Values worth setting a word to, in an image with these counts.
 pub fn values(counts: [usize; 8]) -> Vec<u32> {
     let mut values = vec![
-        0, 1, 2, 3, 4, 5, 6, 8, 12, 13, 15, 16, 17, 18, 19, 20, 21, 22, 23, 24, 31, 32, 88, 0x7fff_ffff, 0x8000_0000,
-        NONE - 1, NONE,
+        0,
+        1,
+        2,
+        3,
+        4,
+        5,
+        6,
+        8,
+        12,
+        13,
+        15,
+        16,
+        17,
+        18,
+        19,
+        20,
+        21,
+        22,
+        23,
+        24,
+        31,
+        32,
+        88,
+        0x7fff_ffff,
+        0x8000_0000,
+        NONE - 1,
+        NONE,
     ];
     for count in counts {
         values.extend([count as u32, count as u32 + 1, (count as u32).wrapping_sub(1)]);
@@ -99,7 +124,8 @@ fn strings_byte(bytes: &[u8], random: &mut Random) -> Vec<u8> {
     let mut damaged = bytes.to_vec();
     if start < end {
         let at = start + random.below(end - start);
-        damaged[at] = *random.pick(&[0x00, b'.', b'0', b'a', 0x7f, 0x80, 0xbf, 0xc0, 0xc3, 0xe0, 0xed, 0xf0, 0xf4, 0xff]);
+        damaged[at] =
+            *random.pick(&[0x00, b'.', b'0', b'a', 0x7f, 0x80, 0xbf, 0xc0, 0xc3, 0xe0, 0xed, 0xf0, 0xf4, 0xff]);
         repair(&mut damaged);
     }
     damaged
@@ -174,7 +200,9 @@ pub fn tree_fault(parts: &mut Parts, random: &mut Random) {
         1 => pick_mut(&mut parts.nodes, random)[1] = *random.pick(&[0, 1, 2, NONE]),
         2 if nodes > 1 => pick_mut(&mut parts.nodes[1..], random)[0] = number,
         3 | 4 if !parts.named.is_empty() => pick_mut(&mut parts.named, random)[2] = number,
-        5 if !parts.named.is_empty() => pick_mut(&mut parts.named, random)[random.below(2)] = *random.pick(&[0, 1, NONE]),
+        5 if !parts.named.is_empty() => {
+            pick_mut(&mut parts.named, random)[random.below(2)] = *random.pick(&[0, 1, NONE])
+        }
         _ if parts.named.len() > 1 => {
             let at = random.below(parts.named.len() - 1);
             let (first, second) = (parts.named[at], parts.named[at + 1]);

@@ -35,7 +35,14 @@ pub fn image(name: &'static str, bytes: &[u8], ours: Option<&dyn Library>, rando
 }
 
 /// Our load: number, view, work words, image bytes.
-fn load(name: &str, bytes: &[u8], row: u32, ours: &dyn Library, random: &mut Random, tally: &mut Tally) -> Option<View> {
+fn load(
+    name: &str,
+    bytes: &[u8],
+    row: u32,
+    ours: &dyn Library,
+    random: &mut Random,
+    tally: &mut Tally,
+) -> Option<View> {
     let words = if (1..=6).contains(&row) { random.below(4) } else { load_words(bytes) };
     let past = random.below(3);
     let mut work = vec![MARK; words + past];

@@ -25,9 +25,8 @@ fn image<'a>(bytes: &'a [u8], view: &View) -> Image<'a> {
 }
 
 fn words(view: &ffi::View) -> View {
-    let sections = [
-        view.nodes, view.children, view.named, view.definitions, view.items, view.index, view.payload, view.strings,
-    ];
+    let sections =
+        [view.nodes, view.children, view.named, view.definitions, view.items, view.index, view.payload, view.strings];
     let mut words = [0; 17];
     words[0] = view.ink_version;
     for (k, section) in sections.into_iter().enumerate() {

@@ -62,7 +62,8 @@ fn image(bytes: &[u8]) -> Option<Image<'_>> {
 /// The place of a text that is known to stand in the strings.
 fn place_of(bytes: &[u8], text: &str) -> Place {
     let strings = &bytes[word_at(bytes, 76) as usize..];
-    let at = if text.is_empty() { Some(0) } else { strings.windows(text.len()).position(|part| part == text.as_bytes()) };
+    let at =
+        if text.is_empty() { Some(0) } else { strings.windows(text.len()).position(|part| part == text.as_bytes()) };
     (at.expect("a stored text") as u32, text.len() as u32)
 }
 

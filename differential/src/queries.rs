@@ -77,7 +77,9 @@ impl Asking<'_> {
         self.same("node view", view, |ours, bytes, view| ours.node_view(bytes, view, node));
         let (children, named) = (image.child_count(node), image.named_child_count(node));
         self.same("child count", children.map(|n| n as u32), |ours, bytes, view| ours.child_count(bytes, view, node));
-        self.same("named count", named.map(|n| n as u32), |ours, bytes, view| ours.named_child_count(bytes, view, node));
+        self.same("named count", named.map(|n| n as u32), |ours, bytes, view| {
+            ours.named_child_count(bytes, view, node)
+        });
         for index in (0..children.unwrap_or(0) as u32 + 1).chain([NONE]) {
             let child = image.child_at(node, index as usize);
             self.same("child", child, |ours, bytes, view| ours.child_at(bytes, view, node, index));
@@ -94,7 +96,9 @@ impl Asking<'_> {
             Kind::Container { name, .. } => [name, None],
             Kind::Divert { path, variable, .. } => [path, variable],
             Kind::Tag(text) | Kind::String(text) | Kind::DivertTarget(text) => [Some(text), None],
-            Kind::Pointer { name, .. } | Kind::Assignment { name, .. } | Kind::Reference { name, .. } => [Some(name), None],
+            Kind::Pointer { name, .. } | Kind::Assignment { name, .. } | Kind::Reference { name, .. } => {
+                [Some(name), None]
+            }
             _ => [None, None],
         };
         let strings = crate::parts::word_at(self.bytes, 76) as usize;
@@ -115,9 +119,8 @@ impl Asking<'_> {
             self.tally.query("list entry", &theirs);
             if let Some((library, view)) = self.ours {
                 let ours = library.list_entry(self.bytes, view, list, index);
-                let ours = ours.map(|entry| {
-                    (entry.origin.map(|origin| text(self, origin)), text(self, entry.name), entry.value)
-                });
+                let ours = ours
+                    .map(|entry| (entry.origin.map(|origin| text(self, origin)), text(self, entry.name), entry.value));
                 self.tally.check(ours == theirs, || format!("list entry: {theirs:?}, ours {ours:?}"), self.bytes);
             }
         }
@@ -183,9 +186,8 @@ impl Asking<'_> {
         self.tally.query("list item", &theirs);
         if let Some((library, view)) = self.ours {
             let ours = library.list_item(self.bytes, view, name.as_bytes());
-            let ours = ours.map(|(origin, item, value)| {
-                (self.text_of(origin).to_owned(), self.text_of(item).to_owned(), value)
-            });
+            let ours = ours
+                .map(|(origin, item, value)| (self.text_of(origin).to_owned(), self.text_of(item).to_owned(), value));
             self.tally.check(ours == theirs, || format!("list item {name:?}: {theirs:?}, ours {ours:?}"), self.bytes);
         }
     }
@@ -245,8 +247,23 @@ fn named_step(name: &str) -> Step {
 }
 
 pub const KINDS: [&str; 17] = [
-    "container", "choice", "command", "divert", "glue", "operator", "tag", "bool", "int", "float", "string", "list",
-    "divert target", "pointer", "assignment", "reference", "void",
+    "container",
+    "choice",
+    "command",
+    "divert",
+    "glue",
+    "operator",
+    "tag",
+    "bool",
+    "int",
+    "float",
+    "string",
+    "list",
+    "divert target",
+    "pointer",
+    "assignment",
+    "reference",
+    "void",
 ];
 
 fn kind_name(kind: &Kind) -> &'static str {

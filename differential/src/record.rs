@@ -229,7 +229,8 @@ impl Recorder {
             }
             for index in 0..image.named_child_count(node).unwrap_or(0) as u32 + 1 {
                 let entry = image.named_child_at(node, index as usize);
-                let name = entry.as_ref().map_or_else(|| texts::name(random).into_bytes(), |entry| text(entry.name).to_vec());
+                let name =
+                    entry.as_ref().map_or_else(|| texts::name(random).into_bytes(), |entry| text(entry.name).to_vec());
                 self.answer(12, &[node, index], entry.map(|entry| [entry.name.0, entry.name.1, entry.node]));
                 let found = image.find_named_child(node, core::str::from_utf8(&name).expect("a name"));
                 self.find(13, &[node, if found.is_some() { 0 } else { 18 }, found.unwrap_or(0)], &name);
@@ -355,7 +356,9 @@ impl Recorder {
         for _ in 0..4000 {
             let case = drafts::random(random);
             let (number, image) = match reference::write(case.ink, &case.draft) {
-                Written::Image(image) if case.known == drafts::Known::Sound && reference::load(&image).is_ok() => (0, image),
+                Written::Image(image) if case.known == drafts::Known::Sound && reference::load(&image).is_ok() => {
+                    (0, image)
+                }
                 Written::Refused(message) if case.known == drafts::Known::Number(writer_row(&message).unwrap()) => {
                     (writer_row(&message).unwrap(), vec![])
                 }

@@ -108,7 +108,10 @@ fn coverage(tally: &mut Tally) {
         need(tally.kinds.contains_key(kind), format!("kind {kind}"));
     }
     for (name, [found, nothing]) in &tally.queries {
-        need(*found > 0 && (*nothing > 0 || *name == "text"), format!("query {name}, found {found}, nothing {nothing}"));
+        need(
+            *found > 0 && (*nothing > 0 || *name == "text"),
+            format!("query {name}, found {found}, nothing {nothing}"),
+        );
     }
     for (message, row) in WRITER {
         need(row == 23 || tally.written.contains_key(message), format!("writer: {message}"));

@@ -99,8 +99,7 @@ pub fn tree(number: u64) -> Parts {
 }
 
 /// Places of texts in the strings `ab`, ff: good ones, one that is no text, ones outside or missing.
-const TEXTS: [(u32, u32); 9] =
-    [(0, 1), (1, 1), (0, 2), (3, 0), (2, 1), (3, 1), (NONE, NONE), (NONE, 0), (0, NONE)];
+const TEXTS: [(u32, u32); 9] = [(0, 1), (1, 1), (0, 2), (3, 0), (2, 1), (3, 1), (NONE, NONE), (NONE, 0), (0, NONE)];
 
 /// Two named entries of the root, of all texts and nodes; node 1 is a container, 2 glue, 3 a container below 1.
 fn named(number: u64) -> Vec<u8> {
@@ -192,8 +191,7 @@ fn lay_out(parts: &mut Parts) {
 
 /// A root with one container, and two index entries of all texts and targets.
 fn index(number: u64) -> Vec<u8> {
-    const FITS: [&str; 13] =
-        ["", "a", "b", ".a", "3", ".3", "..3", "03", "3.", "0", ".", "4294967295", ".4294967295"];
+    const FITS: [&str; 13] = ["", "a", "b", ".a", "3", ".3", "..3", "03", "3.", "0", ".", "4294967295", ".4294967295"];
     let mut digits = Digits(number);
     let strings = FITS.concat();
     let place = |text: &str| {
@@ -322,8 +320,8 @@ fn list(number: u64) -> Vec<u8> {
 /// A string value of up to four bytes.
 fn utf8(number: u64) -> Vec<u8> {
     const BYTES: [u8; 25] = [
-        0x00, 0x41, 0x7f, 0x80, 0x8f, 0x90, 0x9f, 0xa0, 0xbf, 0xc0, 0xc1, 0xc2, 0xdf, 0xe0, 0xe1, 0xec, 0xed, 0xee, 0xef,
-        0xf0, 0xf1, 0xf3, 0xf4, 0xf5, 0xff,
+        0x00, 0x41, 0x7f, 0x80, 0x8f, 0x90, 0x9f, 0xa0, 0xbf, 0xc0, 0xc1, 0xc2, 0xdf, 0xe0, 0xe1, 0xec, 0xed, 0xee,
+        0xef, 0xf0, 0xf1, 0xf3, 0xf4, 0xf5, 0xff,
     ];
     let mut digits = Digits(number);
     let text: Vec<u8> = (0..4).filter_map(|_| BYTES.get(digits.below(26)).copied()).collect();

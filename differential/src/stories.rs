@@ -311,9 +311,12 @@ impl Filler {
 
     fn definitions(&mut self, random: &mut Random) {
         const ITEMS: [&str; 8] = ["low", "high", "a", "b.c", "é", "", " ", "red"];
-        let names: BTreeSet<String> = (0..random.below(4))
-            .map(|_| if random.once_in(2) { texts::name(random) } else { random.pick(&["red", "size", "a"]).to_string() })
-            .collect();
+        let names: BTreeSet<String> =
+            (0..random.below(4))
+                .map(|_| {
+                    if random.once_in(2) { texts::name(random) } else { random.pick(&["red", "size", "a"]).to_string() }
+                })
+                .collect();
         for name in names {
             let items: BTreeSet<&str> = (0..random.below(5)).map(|_| *random.pick(&ITEMS)).collect();
             let (at, length) = self.put(&name, random);
@@ -352,15 +355,13 @@ impl Filler {
 
 /// Any word, mostly near an edge.
 pub fn edge(random: &mut Random) -> u32 {
-    const EDGES: [u32; 12] =
-        [0, 1, 2, 3, 7, 24, 255, 0x7fff_ffff, 0x8000_0000, 0x8000_0001, 0xffff_fffe, 0xffff_ffff];
+    const EDGES: [u32; 12] = [0, 1, 2, 3, 7, 24, 255, 0x7fff_ffff, 0x8000_0000, 0x8000_0001, 0xffff_fffe, 0xffff_ffff];
     if random.once_in(3) { random.word() } else { *random.pick(&EDGES) }
 }
 
 /// The bits of any float, NaNs with all sorts of payloads among them.
 fn float(random: &mut Random) -> u32 {
-    const BITS: [u32; 9] = [
-        0, 0x8000_0000, 0x3f80_0000, 0x7f80_0000, 0xff80_0000, 0x7fc0_0000, 0x7f80_0001, 0xffc0_1234, 0x7fa0_0000,
-    ];
+    const BITS: [u32; 9] =
+        [0, 0x8000_0000, 0x3f80_0000, 0x7f80_0000, 0xff80_0000, 0x7fc0_0000, 0x7f80_0001, 0xffc0_1234, 0x7fa0_0000];
     if random.once_in(2) { random.word() } else { *random.pick(&BITS) }
 }

@@ -37,7 +37,9 @@ fn ask(bytes: &[u8], view: &View, node: u32, ours: &dyn Library, random: &mut Ra
         Some(Kind::Container { name, .. }) => places.extend(name),
         Some(Kind::Divert { path, variable, .. }) => places.extend(path.into_iter().chain(variable)),
         Some(Kind::Tag(text) | Kind::String(text) | Kind::DivertTarget(text)) => places.push(text),
-        Some(Kind::Pointer { name, .. } | Kind::Assignment { name, .. } | Kind::Reference { name, .. }) => places.push(name),
+        Some(Kind::Pointer { name, .. } | Kind::Assignment { name, .. } | Kind::Reference { name, .. }) => {
+            places.push(name)
+        }
         Some(Kind::List(list)) => {
             for index in [0, 1, 2, 3, NONE] {
                 let entry = ours.list_entry(bytes, view, list, index);
@@ -66,7 +68,8 @@ fn ask(bytes: &[u8], view: &View, node: u32, ours: &dyn Library, random: &mut Ra
 pub fn asked(bytes: &[u8], view: &View, ours: &dyn Library, random: &mut Random, tally: &mut Tally) {
     let node = random.below(view[2] as usize) as u32;
     let no_text = *random.pick(&[&b"\xff"[..], b"a\x80", b"\xc0\xaf", b"\xed\xa0\x80", b".\xff"]);
-    let nothing = ours.find_named_child(bytes, view, node, no_text).is_none() && ours.list_item(bytes, view, no_text).is_none();
+    let nothing =
+        ours.find_named_child(bytes, view, node, no_text).is_none() && ours.list_item(bytes, view, no_text).is_none();
     tally.check(nothing, || format!("something is named {no_text:?}"), bytes);
     let Some(NodeView { kind, parent, .. }) = ours.node_view(bytes, view, node) else {
         return;

@@ -104,11 +104,29 @@ pub struct ListItem {
 }
 
 unsafe extern "C" {
-    pub fn story_image_load(bytes: *const u8, length: usize, work: *mut u32, work_length: usize, view: *mut View) -> u32;
+    pub fn story_image_load(
+        bytes: *const u8,
+        length: usize,
+        work: *mut u32,
+        work_length: usize,
+        view: *mut View,
+    ) -> u32;
 
-    pub fn story_image_node_view(bytes: *const u8, length: usize, view: *const View, node: u32, answer: *mut Node) -> u32;
+    pub fn story_image_node_view(
+        bytes: *const u8,
+        length: usize,
+        view: *const View,
+        node: u32,
+        answer: *mut Node,
+    ) -> u32;
 
-    pub fn story_image_child_count(bytes: *const u8, length: usize, view: *const View, node: u32, answer: *mut u32) -> u32;
+    pub fn story_image_child_count(
+        bytes: *const u8,
+        length: usize,
+        view: *const View,
+        node: u32,
+        answer: *mut u32,
+    ) -> u32;
 
     pub fn story_image_child_at(
         bytes: *const u8,

@@ -77,9 +77,8 @@ impl<'a> Image<'a> {
     pub fn load(bytes: &'a [u8], work: &mut [u32]) -> Result<Self, Refusal> {
         let mut view = View::default();
         // SAFETY: slices and view are ours and live through the call.
-        let number = unsafe {
-            ffi::story_image_load(bytes.as_ptr(), bytes.len(), work.as_mut_ptr(), work.len(), &mut view)
-        };
+        let number =
+            unsafe { ffi::story_image_load(bytes.as_ptr(), bytes.len(), work.as_mut_ptr(), work.len(), &mut view) };
         if number == 0 { Ok(Image { bytes, view }) } else { Err(Refusal(number)) }
     }
 
@@ -166,14 +165,7 @@ impl<'a> Image<'a> {
     pub fn list_entry(&self, list: Text, index: u32) -> Option<ListEntry> {
         let (payload, strings) = (self.part(self.view.payload, list), self.strings());
         let answer: ffi::ListEntry = ask(|answer| unsafe {
-            ffi::story_image_list_entry(
-                payload.as_ptr(),
-                payload.len(),
-                strings.as_ptr(),
-                strings.len(),
-                index,
-                answer,
-            )
+            ffi::story_image_list_entry(payload.as_ptr(), payload.len(), strings.as_ptr(), strings.len(), index, answer)
         })?;
         Some(ListEntry {
             origin: optional_text(answer.origin, answer.origin_length),

@@ -19,8 +19,14 @@ pub enum PushType {
 
 #[derive(Clone, Copy, Debug, PartialEq)]
 pub enum Kind {
-    Container { flags: i32, name: Option<Text> },
-    Choice { flags: i32, target: Option<u32> },
+    Container {
+        flags: i32,
+        name: Option<Text>,
+    },
+    Choice {
+        flags: i32,
+        target: Option<u32>,
+    },
     /// The command's number, 0 to 25.
     Command(u32),
     Divert {
@@ -45,9 +51,19 @@ pub enum Kind {
     /// Its place in the payload.
     List(Text),
     DivertTarget(Text),
-    Pointer { name: Text, context: i32 },
-    Assignment { name: Text, global: bool, new_declaration: bool },
-    Reference { name: Text, target: Option<u32> },
+    Pointer {
+        name: Text,
+        context: i32,
+    },
+    Assignment {
+        name: Text,
+        global: bool,
+        new_declaration: bool,
+    },
+    Reference {
+        name: Text,
+        target: Option<u32>,
+    },
     Void,
 }
 

@@ -200,7 +200,9 @@ fn kind_of(draft: &Draft, texts: &Texts<'_>, record: &[u32]) -> Option<NodeKind>
             path: texts.path(f[0], f[1])?,
             target: optional(f[2]).map(NodeId),
         }),
-        14 => NodeKind::Value(StaticValue::VariablePointer { name: texts.text(f[0], f[1])?, context_index: f[2] as i32 }),
+        14 => {
+            NodeKind::Value(StaticValue::VariablePointer { name: texts.text(f[0], f[1])?, context_index: f[2] as i32 })
+        }
         16 if f[2] <= 3 => NodeKind::VariableAssignment {
             name: texts.text(f[0], f[1])?,
             global: f[2] & 1 != 0,

@@ -15,7 +15,10 @@ pub mod story {
             NEXT.with(|next| *next.borrow_mut() = Some((ink_version, story)));
         }
 
-        pub(crate) fn load_from_reader(_: impl Read, _: &mut impl LoadObserver) -> Result<(i32, StoryData), StoryError> {
+        pub(crate) fn load_from_reader(
+            _: impl Read,
+            _: &mut impl LoadObserver,
+        ) -> Result<(i32, StoryData), StoryError> {
             NEXT.with(|next| next.borrow_mut().take())
                 .ok_or_else(|| StoryError::BadJson("no story was put down".to_owned()))
         }

@@ -19,8 +19,14 @@ pub struct NodeView {
 
 #[derive(Clone, Debug, PartialEq)]
 pub enum Kind {
-    Container { flags: i32, name: Option<Place> },
-    Choice { flags: i32, target: Option<u32> },
+    Container {
+        flags: i32,
+        name: Option<Place>,
+    },
+    Choice {
+        flags: i32,
+        target: Option<u32>,
+    },
     Command(u32),
     Divert {
         path: Option<Place>,
@@ -42,9 +48,19 @@ pub enum Kind {
     String(Place),
     List(Place),
     DivertTarget(Place),
-    Pointer { name: Place, context: i32 },
-    Assignment { name: Place, global: bool, new_declaration: bool },
-    Reference { name: Place, target: Option<u32> },
+    Pointer {
+        name: Place,
+        context: i32,
+    },
+    Assignment {
+        name: Place,
+        global: bool,
+        new_declaration: bool,
+    },
+    Reference {
+        name: Place,
+        target: Option<u32>,
+    },
     Void,
 }
 
