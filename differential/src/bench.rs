@@ -8,9 +8,8 @@ use reference::{Draft, Step, Walk, Written};
 use std::hint::black_box;
 use std::time::{Duration, Instant};
 
-/// At most so many rounds, and no more after so long, but at least three.
+/// At most so many rounds, and at least three.
 const ROUNDS: usize = 15;
-const LONG: Duration = Duration::from_secs(4);
 
 /// A draft, the image that it becomes, and what is asked of it.
 struct Input {
@@ -21,13 +20,15 @@ struct Input {
     items: Vec<String>,
 }
 
-pub fn run() -> bool {
+/// Measures each thing for so many seconds, or until all rounds are done.
+pub fn run(seconds: u64) -> bool {
+    let long = Duration::from_secs(seconds);
     let mut random = Random::new(5);
     println!("median of up to {ROUNDS} rounds; ratio of ours to the published Rust: median (lowest to highest)");
     let mut measured = 0;
     for input in inputs(&mut random) {
         println!("{}: {} bytes, {} nodes", input.name, input.image.len(), input.draft.nodes.len() / 10);
-        measured += measure(&input);
+        measured += measure(&input, long);
     }
     println!("{measured} passed, 0 failed");
     false
@@ -56,7 +57,9 @@ fn input(name: &'static str, parts: Parts, random: &mut Random) -> Input {
         panic!("{name}: a sound draft");
     };
     let view = reference::load(&image).expect_view();
-    let walks = (0..10_000).map(|_| walk(&view, &image, random)).collect();
+    // a published step up tests the node's texts again, so few walks where few nodes hold much text
+    let count = (50 * view.node_count()).min(10_000);
+    let walks = (0..count).map(|_| walk(&view, &image, random)).collect();
     let items = (0..1_000).map(|turn| format!("{}item {turn}", if turn % 2 == 0 { "list 3." } else { "" })).collect();
     Input { name, draft, image, walks, items }
 }
@@ -148,11 +151,16 @@ fn one_text(random: &mut Random) -> Parts {
 }
 
 /// Times of both sides, taken in turns.
-fn duel(name: &str, mut theirs: impl FnMut() -> Duration, mut ours: Option<impl FnMut() -> Duration>) -> u64 {
+fn duel(
+    name: &str,
+    long: Duration,
+    mut theirs: impl FnMut() -> Duration,
+    mut ours: Option<impl FnMut() -> Duration>,
+) -> u64 {
     let (mut their, mut our, mut ratios) = (vec![], vec![], vec![]);
     let start = Instant::now();
     for round in 0..ROUNDS {
-        if round >= 3 && start.elapsed() > LONG {
+        if round >= 3 && start.elapsed() > long {
             break;
         }
         let time = theirs();
@@ -196,7 +204,7 @@ impl<'a> ExpectView<'a> for Result<reference::Image<'a>, String> {
     }
 }
 
-fn measure(input: &Input) -> u64 {
+fn measure(input: &Input, long: Duration) -> u64 {
     let image = &input.image[..];
     let nodes = input.draft.nodes.len() as u32 / 10;
     let theirs = reference::load(image).expect_view();
@@ -211,11 +219,11 @@ fn measure(input: &Input) -> u64 {
         timed(|| reference::write_story(21, story))
     };
     let ours = ours::Measured::new(input);
-    duel("load", load, ours.load())
-        + duel("node views", views, ours.views())
-        + duel("walks", walked, ours.walks())
-        + duel("list look-ups", looked, ours.items())
-        + duel("write", write, ours.write())
+    duel("load", long, load, ours.load())
+        + duel("node views", long, views, ours.views())
+        + duel("walks", long, walked, ours.walks())
+        + duel("list look-ups", long, looked, ours.items())
+        + duel("write", long, write, ours.write())
 }
 
 #[cfg(not(feature = "ours"))]

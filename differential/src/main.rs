@@ -1,7 +1,8 @@
 //! Compares the verified story-image library with the published Rust on generated images and drafts.
 //!
 //! `run [CASES [SEED]]` compares; `run self-check` plants mistakes and sees that they are noticed; `run replay FILE`
-//! records a sample of the published answers; `run bench` measures both sides.
+//! records a sample of the published answers; `run bench [SECONDS]` measures both
+//! sides.
 
 mod bench;
 mod damage;
@@ -41,7 +42,7 @@ fn main() {
     };
     let failed = match arguments.first().map(String::as_str) {
         Some("self-check") => run::self_check(number(1, 2000)),
-        Some("bench") => bench::run(),
+        Some("bench") => bench::run(number(1, 4)),
         Some("replay") => record::run(arguments.get(1).map_or("replay.data", String::as_str)),
         _ => run::compare(number(0, 100_000), number(1, 1), OURS),
     };

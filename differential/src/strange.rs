@@ -64,13 +64,22 @@ fn ask(bytes: &[u8], view: &View, node: u32, ours: &dyn Library, random: &mut Ra
     parts.filter(|(start, length)| start.checked_add(*length).is_none_or(|end| end > bytes.len())).count()
 }
 
-/// On an accepted image: names that are no text name nothing, and a walk ends where its words go wrong.
+/// On an accepted image: names that are no text name nothing, texts outside are not there, and a walk finds nothing
+/// where its words go wrong.
 pub fn asked(bytes: &[u8], view: &View, ours: &dyn Library, random: &mut Random, tally: &mut Tally) {
     let node = random.below(view[2] as usize) as u32;
     let no_text = *random.pick(&[&b"\xff"[..], b"a\x80", b"\xc0\xaf", b"\xed\xa0\x80", b".\xff"]);
     let nothing =
         ours.find_named_child(bytes, view, node, no_text).is_none() && ours.list_item(bytes, view, no_text).is_none();
     tally.check(nothing, || format!("something is named {no_text:?}"), bytes);
+    let count = view[16];
+    for place in [(count + 1, 0), (0, count + 1), (NONE, 0), (0, NONE), (NONE, NONE), (1, NONE - 1)] {
+        let part = ours.text(bytes, view, place);
+        tally.check(part.is_none(), || format!("a text at {place:?} of {count} bytes: {part:?}"), bytes);
+    }
+    let end = (view[15] as usize + count as usize, 0);
+    let part = ours.text(bytes, view, (count, 0));
+    tally.check(part == Some(end), || format!("the empty text at the end: {part:?}"), bytes);
     let Some(NodeView { kind, parent, .. }) = ours.node_view(bytes, view, node) else {
         return;
     };

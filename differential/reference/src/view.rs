@@ -5,7 +5,6 @@ use crate::path::{Component, Path};
 use crate::push_pop::PushPopType;
 use crate::story_content::{ContainerId, ListView, NodeId, NodeKindView, PathView, StaticStoryView, ValueView};
 use crate::value_type::ValueType;
-use std::marker::PhantomData;
 
 /// Offset and length in the strings, or in the payload for a list.
 pub type Place = (u32, u32);
@@ -95,7 +94,6 @@ pub enum Step {
 pub struct Image<'a> {
     bytes: &'a [u8],
     view: ImageView,
-    life: PhantomData<&'a [u8]>,
 }
 
 /// The image, or the reason string with which it is refused.
@@ -103,7 +101,7 @@ pub fn load(bytes: &[u8]) -> Result<Image<'_>, String> {
     // SAFETY: the view stays inside `Image`, which lives no longer than the bytes and gives out no reference.
     let lasting: &'static [u8] = unsafe { std::mem::transmute(bytes) };
     match ImageView::new_validated(lasting) {
-        Ok(view) => Ok(Image { bytes, view, life: PhantomData }),
+        Ok(view) => Ok(Image { bytes, view }),
         Err(error) => Err(error.get_message()),
     }
 }
