@@ -2,6 +2,7 @@
 use Prim.Native.Nat.{ℕ, zero, suc, _+_, _/_, _%_}
 use mathlib.Core.List.{List, [], _∷_}
 use mathlib.Core.Bool.{Bool, true, false, cond, _&&_, _||_, not}
+use mathlib.Core.Option.{Option, none, some}
 use lib.ListN.{length, getD}
 use lib.IntN.{ℤ}
 use lib.Ieee.{binary32, ofBits}
@@ -9,10 +10,8 @@ use lib.Dec.{leb, eqb}
 use mir.Val.{toZ}
 use mir.Syntax.{w32}
 use Rattle.words.specs.Words.{NONE, isNone}
-use Rattle.names.specs.declared.control_command.Command.{Command}
-use Rattle.names.specs.declared.control_command.Command.the-variants as command
-use Rattle.names.specs.declared.native_function_call.Operator.{Operator}
-use Rattle.names.specs.declared.native_function_call.Operator.the-variants as operator
+use Rattle.names.specs.declared.control_command.CommandType.{CommandType}
+use Rattle.names.specs.declared.native_function_call.Op.{Op}
 use Rattle.names.specs.ControlCommand.{commandNamed}
 use Rattle.names.specs.NativeFunctionCall.{operatorNamed}
 use Rattle.names.specs.Names.{names}
@@ -59,13 +58,13 @@ optionalWord w = cond (isNone w) word.Absent (word.Present w)
 unfoldable pub pushType : ℕ → PushPopType
 pushType n = cond (eqb n 0) push.Tunnel (cond (eqb n 1) push.Function push.FunctionEvaluationFromGame)
 
-abbrev pub ofCommand : Command → KindAnswer
-ofCommand (command.Known c) = kindly.Kind (kind.ControlCommand c)
-ofCommand command.Unknown = kindly.NotFound
+abbrev pub ofCommand : Option CommandType → KindAnswer
+ofCommand none = kindly.NotFound
+ofCommand (some c) = kindly.Kind (kind.ControlCommand c)
 
-abbrev pub ofOperator : Operator → KindAnswer
-ofOperator (operator.Known o) = kindly.Kind (kind.NativeFunction o)
-ofOperator operator.Unknown = kindly.NotFound
+abbrev pub ofOperator : Option Op → KindAnswer
+ofOperator none = kindly.NotFound
+ofOperator (some o) = kindly.Kind (kind.NativeFunction o)
 
 -- the view of a record: its words 0 to 9 are parent, place, tag, f0 to f6. It needs the strings, and the payload's length
 module _ (strings : List ℕ) (payload : ℕ) (w : ℕ → ℕ) where
@@ -127,5 +126,5 @@ viewNumber node.NotFound = 18
 
 -- names on an `unfolding` line what a computation with this module needs
 unfoldable pub views : Unit {0}
-unfolding optionalText optionalWord pushType withText kindView recordView nodeView commandNamed operatorNamed schema sections names
+unfolding optionalText optionalWord pushType withText kindView recordView nodeView schema sections names
 views = tt
