@@ -63,12 +63,16 @@ fn crcs() {
     crc(b"The quick brown fox jumps over the lazy dog");
 }
 
-// The first and the last sequence of each row of the Unicode Standard's table 3-7.
-fn rows() {
+// The first and the last sequence of each row of the Unicode Standard's table 3-7: one and two bytes.
+fn rows_of_two() {
     utf8(b"\x00");
     utf8(b"\x7f");
     utf8(b"\xc2\x80");
     utf8(b"\xdf\xbf");
+}
+
+// Three bytes.
+fn rows_of_three() {
     utf8(b"\xe0\xa0\x80");
     utf8(b"\xe0\xbf\xbf");
     utf8(b"\xe1\x80\x80");
@@ -77,6 +81,10 @@ fn rows() {
     utf8(b"\xed\x9f\xbf");
     utf8(b"\xee\x80\x80");
     utf8(b"\xef\xbf\xbf");
+}
+
+// Four bytes.
+fn rows_of_four() {
     utf8(b"\xf0\x90\x80\x80");
     utf8(b"\xf0\xbf\xbf\xbf");
     utf8(b"\xf1\x80\x80\x80");
@@ -85,7 +93,7 @@ fn rows() {
     utf8(b"\xf4\x8f\xbf\xbf");
 }
 
-// Longer forms than a character needs.
+// Longer forms than a character needs: two and three bytes.
 fn overlong() {
     utf8(b"\xc0\x80");
     utf8(b"\xc0\xaf");
@@ -93,6 +101,10 @@ fn overlong() {
     utf8(b"\xe0\x80\x80");
     utf8(b"\xe0\x80\xaf");
     utf8(b"\xe0\x9f\xbf");
+}
+
+// Four bytes and more.
+fn overlong_fours() {
     utf8(b"\xf0\x80\x80\x80");
     utf8(b"\xf0\x80\x80\xaf");
     utf8(b"\xf0\x8f\xbf\xbf");
@@ -100,7 +112,7 @@ fn overlong() {
     utf8(b"\xfc\x84\x80\x80\x80\x80");
 }
 
-// Surrogates, alone and in pairs, and their neighbours.
+// Surrogates and their neighbours.
 fn surrogates() {
     utf8(b"\xed\x9f\xbf");
     utf8(b"\xed\xa0\x80");
@@ -110,6 +122,10 @@ fn surrogates() {
     utf8(b"\xed\xb0\x80");
     utf8(b"\xed\xbe\x80");
     utf8(b"\xed\xbf\xbf");
+}
+
+// Surrogates in pairs, and what follows them.
+fn surrogate_pairs() {
     utf8(b"\xed\xa0\x80\xed\xb0\x80");
     utf8(b"\xed\xaf\xbf\xed\xbf\xbf");
     utf8(b"\xee\x80\x80");
@@ -128,8 +144,8 @@ fn above() {
     utf8(b"\xfe\xfe\xff\xff");
 }
 
-// Sequences that end too soon, at the end of the text or before another character.
-fn cut() {
+// Sequences of two and three bytes that the text cuts off.
+fn cut_threes() {
     utf8(b"\xc2");
     utf8(b"\xdf");
     utf8(b"\xe0");
@@ -137,16 +153,25 @@ fn cut() {
     utf8(b"\xe1");
     utf8(b"\xef");
     utf8(b"\xef\xbf");
+}
+
+// Sequences of four.
+fn cut_fours() {
     utf8(b"\xf0");
     utf8(b"\xf0\x90");
     utf8(b"\xf0\x90\x80");
     utf8(b"\xf4");
     utf8(b"\xf4\x8f");
     utf8(b"\xf4\x8f\xbf");
+}
+
+// Sequences that end before another character.
+fn interrupted() {
     utf8(b"\xc2A");
     utf8(b"\xe0\xa0A");
     utf8(b"\xf0\x90\x80A");
     utf8(b"\xe0\xa0\xc2\x80");
+    utf8(b"\xe0A");
 }
 
 // Continuation bytes that go on nothing.
@@ -158,11 +183,10 @@ fn lone() {
     utf8(b"\xc2\x80\x80");
     utf8(b"\xe0\xa0\x80\x80");
     utf8(b"\xf0\x90\x80\x80\xbf");
-    utf8(b"\xe0A");
 }
 
-// Second bytes at the ends of their ranges.
-fn second() {
+// Second bytes beside their ranges: two and three bytes.
+fn second_of_three() {
     utf8(b"\xc2\x7f");
     utf8(b"\xc2\xc0");
     utf8(b"\xe0\x9f\x80");
@@ -172,6 +196,10 @@ fn second() {
     utf8(b"\xe1\xc0\x80");
     utf8(b"\xed\x9f\xc0");
     utf8(b"\xed\xa0\xbf");
+}
+
+// Four bytes.
+fn second_of_four() {
     utf8(b"\xf0\x8f\x80\x80");
     utf8(b"\xf0\xc0\x80\x80");
     utf8(b"\xf1\x7f\x80\x80");
@@ -190,8 +218,8 @@ fn mixed() {
     utf8(b"\xc0\xaf\x80");
 }
 
-// The 25 characters with the property White_Space.
-fn whites() {
+// The 25 characters with the property White_Space: up to 1680.
+fn white_low() {
     blank(b"\x09");
     blank(b"\x0a");
     blank(b"\x0b");
@@ -201,14 +229,14 @@ fn whites() {
     blank(b"\xc2\x85");
     blank(b"\xc2\xa0");
     blank(b"\xe1\x9a\x80");
+}
+
+// From 2000 to 200a.
+fn white_spaces() {
     blank(b"\xe2\x80\x80");
     blank(b"\xe2\x80\x81");
     blank(b"\xe2\x80\x82");
     blank(b"\xe2\x80\x83");
-}
-
-// The rest of them.
-fn more_whites() {
     blank(b"\xe2\x80\x84");
     blank(b"\xe2\x80\x85");
     blank(b"\xe2\x80\x86");
@@ -216,6 +244,10 @@ fn more_whites() {
     blank(b"\xe2\x80\x88");
     blank(b"\xe2\x80\x89");
     blank(b"\xe2\x80\x8a");
+}
+
+// From 2028.
+fn white_high() {
     blank(b"\xe2\x80\xa8");
     blank(b"\xe2\x80\xa9");
     blank(b"\xe2\x80\xaf");
@@ -224,7 +256,7 @@ fn more_whites() {
 }
 
 // Characters without it, near those that have it.
-fn not_whites() {
+fn other_low() {
     blank(b"\x08");
     blank(b"\x0e");
     blank(b"\x1c");
@@ -234,12 +266,20 @@ fn not_whites() {
     blank(b"\xc2\x86");
     blank(b"\xc2\x9f");
     blank(b"\xc2\xa1");
+}
+
+// The Mongolian vowel separator, the zero-width space, and others.
+fn other_middle() {
     blank(b"\xe1\xa0\x8e");
     blank(b"\xe1\xbf\xbf");
     blank(b"\xe2\x80\x8b");
     blank(b"\xe2\x80\x8d");
     blank(b"\xe2\x80\xa7");
     blank(b"\xe2\x80\xaa");
+}
+
+// The word joiner, the byte order mark, and others.
+fn other_high() {
     blank(b"\xe2\x80\xb0");
     blank(b"\xe2\x81\x9e");
     blank(b"\xe2\x81\xa0");
@@ -259,18 +299,43 @@ fn blank_texts() {
     blank(b"\xe3\x80\x80\xe3\x80\x81");
 }
 
+// The table's rows, longer forms, surrogates, and what lies above.
+fn encodings() {
+    rows_of_two();
+    rows_of_three();
+    rows_of_four();
+    overlong();
+    overlong_fours();
+    surrogates();
+    surrogate_pairs();
+    above();
+}
+
+// Sequences cut off, interrupted or with a wrong byte, and whole texts.
+fn sequences() {
+    cut_threes();
+    cut_fours();
+    interrupted();
+    lone();
+    second_of_three();
+    second_of_four();
+    mixed();
+}
+
+// White_Space.
+fn white() {
+    white_low();
+    white_spaces();
+    white_high();
+    other_low();
+    other_middle();
+    other_high();
+    blank_texts();
+}
+
 fn main() {
     crcs();
-    rows();
-    overlong();
-    surrogates();
-    above();
-    cut();
-    lone();
-    second();
-    mixed();
-    whites();
-    more_whites();
-    not_whites();
-    blank_texts();
+    encodings();
+    sequences();
+    white();
 }
