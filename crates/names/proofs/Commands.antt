@@ -14,7 +14,7 @@ use Rattle.names.specs.Spelling.{elementAt, hashOf}
 use Rattle.names.specs.declared.control_command.CommandType.{CommandType}
 use Rattle.names.specs.declared.control_command.CommandType.the-variants.{EvalStart, EvalOutput, EvalEnd, Duplicate, PopEvaluatedValue, PopFunction, PopTunnel, BeginString, EndString, NoOp, ChoiceCount, Turns, TurnsSince, ReadCount, Random, SeedRandom, VisitIndex, SequenceShuffleIndex, StartThread, Done, End, ListFromInt, ListRange, ListRandom, BeginTag, EndTag}
 use Rattle.names.specs.ControlCommand.{commandNumber, commandTypes}
-use Rattle.names.proofs.Distinct.{distinct, Placed, number-placed, place-number, compared-yes, compared-no}
+use Rattle.names.proofs.Distinct.{distinct, number-placed, place-number, compared-yes, compared-no}
 use Rattle.names.proofs.Numbered.{Numbered, inOrder, every, number-below}
 use Rattle.names.proofs.Packed.{lies, Lies, from-test}
 

@@ -1,9 +1,9 @@
 -- Kinds that distinct names name in order: what a text or a number stands for. Assumes nothing.
 use Prim.Native.Nat.{ℕ, zero, suc, _+_, _≤_, _<_}
-use mathlib.Core.Path.{_≡_, refl, sym, ap, _∙_}
+use mathlib.Core.Path.{_≡_, refl, ap}
 use mathlib.Core.List.{List, [], _∷_}
 use mathlib.Core.Bool.{Bool, true, false, _&&_, false≢true}
-use mathlib.Core.Option.{Option, none, some, Option·map}
+use mathlib.Core.Option.{Option, none, some}
 use native.Mathlib.Omega.{arith}
 use native.Mathlib.Nat.{not-suc-le-zero, le-of-suc-le-suc}
 use lib.Dec.{eqb}
@@ -13,7 +13,7 @@ use Rattle.laws.specs.Refusal.{unless, firstOf}
 use Rattle.laws.proofs.First.{passed, first-all}
 use Rattle.names.specs.Names.{numberIn}
 use Rattle.names.specs.Spelling.{elementAt, elementOf, namedIn}
-use Rattle.names.proofs.Distinct.{distinct, Placed, number-placed, place-number}
+use Rattle.names.proofs.Distinct.{distinct, number-placed, place-number}
 
 -- one computed test, at each number below n
 pub every : (n : ℕ) (f : ℕ → Bool) → firstOf n (λ k. unless (f k) 1) ≡ 0 → (k : ℕ) → k < n → f k ≡ true

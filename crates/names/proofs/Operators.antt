@@ -14,7 +14,7 @@ use Rattle.names.specs.Spelling.{elementAt, hashOf}
 use Rattle.names.specs.declared.native_function_call.Op.{Op}
 use Rattle.names.specs.declared.native_function_call.Op.the-variants.{Add, Subtract, Divide, Multiply, Mod, Negate, Equal, Greater, Less, GreaterThanOrEquals, LessThanOrEquals, NotEquals, Not, And, Or, Min, Max, Pow, Floor, Ceiling, Int, Float, Has, Hasnt, Intersect, ListMin, ListMax, All, Count, ValueOfList, Invert}
 use Rattle.names.specs.NativeFunctionCall.{operatorNumber, ops}
-use Rattle.names.proofs.Distinct.{distinct, Placed, number-placed, place-number, compared-yes, compared-no}
+use Rattle.names.proofs.Distinct.{distinct, number-placed, place-number, compared-yes, compared-no}
 use Rattle.names.proofs.Numbered.{Numbered, inOrder, every, number-below}
 use Rattle.names.proofs.Packed.{lies, Lies, from-test}
 
