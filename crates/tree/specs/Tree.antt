@@ -22,8 +22,12 @@ namedText s i j = textAt s (namedAt s i j 0) (namedAt s i j 1)
 
 -- ---- rules of entries
 
+-- node x is an ordered child of container i, at place j
+abbrev pub rightChild : Sections → ℕ → ℕ → ℕ → Bool
+rightChild s x i j = inside s x && eqb (parentOf s x) i && eqb (placeOf s x) j
+
 unfoldable pub childRule : Sections → ℕ → ℕ → ℕ
-childRule s i j = unless (inside s (childAt s i j) && eqb (parentOf s (childAt s i j)) i && eqb (placeOf s (childAt s i j)) j) 14
+childRule s i j = unless (rightChild s (childAt s i j) i j) 14
 
 unfoldable pub namedRule : Sections → ℕ → ℕ → ℕ
 namedRule s i j =

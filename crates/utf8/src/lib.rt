@@ -101,7 +101,7 @@ fn all_ascii(s: &[u8], at: usize) -> bool
     bits < 0x80
 }
 
-// An index after `at`, past ASCII alone: quick where there is much of it.
+// Goes on from `at` past ASCII, in blocks: quick where there is much of it. How far is its own choice.
 fn ascii_end(s: &[u8], at: usize) -> usize
     requires { ⌜ at ≤ length (now s) ⌝ }
     ensures { λ r. ⌜ Passes (sizeIn rows) (now (s .entry)) at r ⌝ }
@@ -116,7 +116,7 @@ fn ascii_end(s: &[u8], at: usize) -> usize
     i
 }
 
-// An end for a stretch that begins at `at`.
+// An end for a stretch that begins at `at`, of its own choice: 64 bytes on, or n.
 fn stop(at: usize, n: usize) -> usize
     requires { ⌜ at < n ⌝ }
     ensures { λ r. ⌜ (at < r) × (r ≤ n) ⌝ }
@@ -127,7 +127,7 @@ fn stop(at: usize, n: usize) -> usize
     at + 64
 }
 
-// An index after `at`, past whole sequences: a stretch of them. It is `at` if one of the stretch is ill-formed.
+// Goes on from `at` past a stretch of whole sequences, of a length of its own choice. It stays at `at` if one of them is ill-formed.
 fn stretch_end(s: &[u8], at: usize) -> usize
     requires { ⌜ at < length (now s) ⌝ }
     ensures { λ r. ⌜ Advances (sizeIn rows) (now (s .entry)) at r ⌝ }
@@ -185,7 +185,7 @@ fn white_third(d: u8) -> usize
     }
 }
 
-// The same with e2, c, d.
+// The same for the bytes e2, c, d.
 fn white_second(c: u8, d: u8) -> usize
     ensures { λ r. ⌜ r ≡ frontOf whites (0xe2 ∷ c ∷ d ∷ []) ⌝ }
 {
@@ -201,7 +201,7 @@ fn white_second(c: u8, d: u8) -> usize
     3
 }
 
-// The same with c2, c.
+// The same for the bytes c2, c.
 fn white_latin(c: u8) -> usize
     ensures { λ r. ⌜ r ≡ frontOf whites (0xc2 ∷ c ∷ []) ⌝ }
 {
@@ -227,7 +227,7 @@ fn white_pair(c: u8, d: u8, second: u8, third: u8) -> usize
     3
 }
 
-// The same with b, c, d.
+// How many bytes the White_Space character has that begins with the bytes b, c, d, or 0.
 fn white(b: u8, c: u8, d: u8) -> usize
     ensures { λ r. ⌜ r ≡ frontOf whites (b ∷ c ∷ d ∷ []) ⌝ }
 {
