@@ -13,7 +13,7 @@ use Rattle.laws.specs.Counted.{sumOf, joinOf}
 use Rattle.laws.specs.Lists.{has}
 use Rattle.laws.proofs.First.{both, then, passed, first-all, first-of}
 use Rattle.texts.specs.Text.{rising}
-use Rattle.image.proofs.Parts.{both-true}
+use Rattle.image.proofs.Tests.{both-true}
 use Rattle.image.specs.Sections.{Sections, nodeCount, childCount, namedCount, parentOf, placeOf, tagOf, f, goodText, inside, isContainer, insideContainer}
 use Rattle.records.specs.Fields.{Field, fields, kinds, kindOf}
 use Rattle.records.specs.Records.{childrenOf, namedOf, childrenBefore, namedBefore, fieldRule, firstField, nodeRule, usedUp}

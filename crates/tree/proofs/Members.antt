@@ -12,7 +12,7 @@ use lib.Dec.{eqb}
 use borrow.Author.Tests.{eqb-true, eqb-false, eq-eqb, ne-eqb}
 use Rattle.laws.specs.Counted.{sumOf, allOf, joinOf}
 use Rattle.laws.specs.Lists.{has}
-use Rattle.image.proofs.Parts.{both-true}
+use Rattle.image.proofs.Tests.{both-true}
 
 -- ---- tests
 
