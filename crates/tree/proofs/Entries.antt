@@ -1,23 +1,23 @@
 -- What the rules of entries say, one fact at a time, and what the record rules say of the entries' ranges. Assumes nothing.
-use Prim.Native.Nat.{ℕ, zero, suc, _+_, _≤_, _<_}
-use mathlib.Core.Path.{_≡_, refl, sym, ap, _∙_, subst}
-use mathlib.Core.List.{List, [], _∷_, _++_, reverse}
-use mathlib.Core.Bool.{Bool, true, false, cond, _&&_, _||_, not, false≢true}
+use Prim.Native.Nat.{ℕ, _+_, _<_}
+use mathlib.Core.Path.{_≡_, refl, _∙_, subst}
+use mathlib.Core.List.{[], _∷_}
+use mathlib.Core.Bool.{Bool, true, false, cond, _&&_}
 use native.Mathlib.Omega.{arith}
 use native.Mathlib.Nat.{not-suc-le-zero}
-use lib.ListN.{length, length-append, length-reverse}
+use lib.ListN.{length, length-append}
 use lib.Dec.{eqb, leb, ltb}
 use borrow.Author.Tests.{eqb-true, ltb-true, leb-true}
-use Rattle.laws.specs.Refusal.{_▸_, firstOf, unless}
+use Rattle.laws.specs.Refusal.{firstOf}
 use Rattle.laws.specs.Counted.{sumOf, joinOf}
 use Rattle.laws.specs.Lists.{has}
 use Rattle.laws.proofs.First.{both, then, passed, first-all, first-of}
 use Rattle.texts.specs.Text.{rising}
 use Rattle.image.proofs.Parts.{both-true}
-use Rattle.image.specs.Sections.{Sections, nodeCount, childCount, namedCount, parentOf, placeOf, tagOf, f, goodText, inside, isContainer, insideContainer}
-use Rattle.records.specs.Fields.{Field, fields, kinds, kindOf}
+use Rattle.image.specs.Sections.{Sections, nodeCount, childCount, namedCount, parentOf, placeOf, tagOf, f, goodText, inside, isContainer}
+use Rattle.records.specs.Fields.{fields, kinds, kindOf}
 use Rattle.records.specs.Records.{childrenOf, namedOf, childrenBefore, namedBefore, fieldRule, firstField, nodeRule, usedUp}
-use Rattle.tree.specs.Tree.{childAt, namedAt, namedText, childRule, namedRule, entriesRule, entryNodes, turns}
+use Rattle.tree.specs.Tree.{childAt, namedAt, namedText, childRule, namedRule, entriesRule, entryNodes}
 use Rattle.tree.specs.Parts.{Counts, Ranges, Fit}
 use Rattle.tree.proofs.Members.{or-left, or-right, All, all-append, all-join, has-append, has-join, length-join, sum-ext, sum-add}
 

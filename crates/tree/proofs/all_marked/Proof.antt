@@ -1,6 +1,6 @@
 -- `tree::all_marked` meets its contract. Assumes nothing.
 use Prim.Native.Nat.{_≤_, _-_}
-use mathlib.Core.Path.{_≡_, refl, sym, _∙_, ap}
+use mathlib.Core.Path.{_≡_, refl, sym, ap}
 use mathlib.Core.Bool.{true, not}
 use native.Mathlib.Omega.{arith}
 use native.Mathlib.Numerals.{add-one}
