@@ -8,7 +8,7 @@ use native.Mathlib.Omega.{arith}
 use lib.ListN.{length, getD, take, drop, set, drop-of-length-le, length-take, length-drop, length-append}
 use lib.Seq.{drop-cons, take-all, take-nil, drop-nil, take-at, drop-at, getD-take, getD-drop, take-set-le, drop-set-lt, length-take-le, ext-getD}
 use native.Mathlib.Nat.{zero-min, suc-min-suc}
-use Rattle.checksum.specs.Crc.{ones, byteStep, crcFrom, crc32, skipFrom, skipTo, checksumOf}
+use Rattle.checksum.specs.Crc.{ones, byteStep, crcFrom, crc32, skipFrom, skipTo, checksumOf, crcs}
 
 -- ---- a loop over the bytes
 
@@ -93,3 +93,9 @@ checksum-filled s w h e =
     checksum-agree (take skipFrom s ++ w ++ drop skipTo s) s
     (ap (take skipFrom) (append-assoc (take skipFrom s) w (drop skipTo s)) ∙ take-at (take skipFrom s) (w ++ drop skipTo s) skipFrom l)
     (drop-at (take skipFrom s ++ w) (drop skipTo s) skipTo (simp length-append (omega arith)))
+
+-- ---- the published check value: CRC-32 of the digits 1 to 9
+
+pub check-value : crc32 (49 ∷ 50 ∷ 51 ∷ 52 ∷ 53 ∷ 54 ∷ 55 ∷ 56 ∷ 57 ∷ []) ≡ 0xcbf4_3926
+unfolding crcs
+check-value = refl

@@ -1,15 +1,14 @@
 -- The sections of a view in bytes: what each is, and how many entries it has where it lies in the bytes. Assumes nothing.
 use Prim.Native.Nat.{ℕ, _+_, _*_, _/_, _≤_}
-use mathlib.Core.Path.{_≡_, refl, sym, ap, _∙_}
+use mathlib.Core.Path.{_≡_, refl, sym, _∙_}
 use mathlib.Core.List.{List}
 use native.Mathlib.Omega.{arith}
 use native.Mathlib.Nat.{mul-one, div-one}
 use lib.ListN.{length}
 use Rattle.words.specs.Words.{wordsOf}
-use Rattle.words.proofs.Words.{length-words}
 use Rattle.image.specs.declared.Section.{Section}
 use Rattle.image.specs.declared.ImageView.{ImageView}
-use Rattle.image.specs.Sections.{Sections, nodeCount, childCount, namedCount, definitionCount, itemCount, indexCount}
+use Rattle.image.specs.Sections.{nodeCount, childCount, namedCount, definitionCount, itemCount, indexCount}
 use Rattle.image.specs.Header.{nodeWords, sectionBytes, sectionsIn, sectionsBy}
 use Rattle.image.proofs.Parts.{section-length, entry-count}
 

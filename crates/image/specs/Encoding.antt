@@ -1,5 +1,5 @@
 -- The bytes of an image: header and sections, one after the other, with the checksum. Assumes nothing.
-use Prim.Native.Nat.{ℕ, zero, suc, _+_}
+use Prim.Native.Nat.{ℕ, _+_}
 use mathlib.Core.List.{List, [], _∷_, _++_}
 use lib.ListN.{length, getD}
 use Rattle.laws.specs.Counted.{sumOf, joinOf, counted}

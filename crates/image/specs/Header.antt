@@ -1,8 +1,8 @@
 -- The header: the view that it gives, the sections that a view bounds in bytes, and rows 1 to 5. Assumes nothing.
 use Prim.Native.Nat.{ℕ, zero, suc, _+_, _*_}
 use mathlib.Core.List.{List, [], _∷_}
-use mathlib.Core.Bool.{Bool, true, false, cond, _&&_, not}
-use lib.ListN.{length, getD, take, drop}
+use mathlib.Core.Bool.{Bool, cond, _&&_, not}
+use lib.ListN.{length, getD, take}
 use lib.Dec.{leb, eqb}
 use Rattle.laws.specs.Refusal.{unless, _▸_, refusals}
 use Rattle.laws.specs.Counted.{sumOf, allOf, counted}
@@ -10,6 +10,8 @@ use Rattle.words.specs.Words.{wordAt, wordsOf, words}
 use Rattle.texts.specs.Text.{ascii, same, texts}
 use Rattle.image.specs.declared.Section.{Section}
 use Rattle.image.specs.declared.ImageView.{ImageView}
+use Rattle.image.specs.declared.Opened.{Opened}
+use Rattle.image.specs.declared.Opened.the-variants.{View, Refused}
 use Rattle.image.specs.Sections.{Sections, partAt, sections}
 
 unfoldable pub magic : List ℕ
@@ -83,25 +85,41 @@ sizes = 4 * nodeWords ∷ 4 ∷ 12 ∷ 16 ∷ 12 ∷ 12 ∷ 1 ∷ 1 ∷ []
 unfoldable pub startBy : List ℕ → ℕ → ℕ
 startBy bs k = headerLength + sumOf k (λ j. sectionAt bs j .count * getD sizes j 0)
 
--- each section begins where the one before it ends, and ends in the slice; the last ends with it; there is a node
+-- section k begins where the one before it ends, and ends in the slice
+unfoldable pub sectionRight : List ℕ → ℕ → Bool
+sectionRight bs k = eqb (sectionAt bs k .offset) (startBy bs k) && leb (startBy bs (suc k)) (length bs)
+
+-- so does each section; the last ends with the slice; there is a node
 unfoldable pub laidOut : List ℕ → Bool
-laidOut bs =
-    allOf 8 (λ k. eqb (sectionAt bs k .offset) (startBy bs k) && leb (startBy bs (suc k)) (length bs)) && eqb (startBy bs 8) (length bs)
-    && not (eqb (sectionAt bs 0 .count) 0)
+laidOut bs = allOf 8 (sectionRight bs) && eqb (startBy bs 8) (length bs) && not (eqb (sectionAt bs 0 .count) 0)
 
 -- signed, but 18 to 21 on the word are the same numbers
 abbrev pub inkRight : ℕ → Bool
 inkRight v = leb 18 v && leb v 21
 
+-- a whole header, with the magic
+abbrev pub headed : List ℕ → Bool
+headed bs = leb headerLength (length bs) && same (take 8 bs) magic
+
 unfoldable pub headerRule : List ℕ → ℕ
 headerRule bs =
-    unless (leb headerLength (length bs) && same (take 8 bs) magic) 1
+    unless (headed bs) 1
     ▸ unless (eqb (wordAt bs 8) version) 2
     ▸ unless (inkRight (wordAt bs 12)) 3
     ▸ unless (eqb (wordAt bs 16) (length bs)) 4
     ▸ unless (laidOut bs) 5
 
+-- ---- opening an image
+
+-- the view where nothing was refused
+unfoldable pub openedBy : ℕ → ImageView → Opened
+openedBy zero v = View v
+openedBy (suc r) v = Refused (suc r)
+
+unfoldable pub openedOf : List ℕ → Opened
+openedOf bs = openedBy (headerRule bs) (viewOf bs)
+
 -- names on an `unfolding` line what a computation with this module needs
 unfoldable pub headers : Unit {0}
-unfolding magic viewOf sectionBytes sectionsIn sizes startBy laidOut headerRule sections refusals counted words texts
+unfolding magic viewOf sectionBytes sectionsIn sizes startBy sectionRight laidOut headerRule openedBy openedOf sections refusals counted words texts
 headers = tt

@@ -1,11 +1,11 @@
 -- The sections that an image and a draft both have: words of entries, payload and strings as bytes; their entries and texts.
 -- Assumes nothing.
-use Prim.Native.Nat.{ℕ, zero, suc, _+_, _*_, _/_}
-use mathlib.Core.List.{List, [], _∷_}
-use mathlib.Core.Bool.{Bool, true, false, cond, _&&_, _||_, not}
+use Prim.Native.Nat.{ℕ, _+_, _*_, _/_}
+use mathlib.Core.List.{List, []}
+use mathlib.Core.Bool.{Bool, cond, _&&_, _||_, not}
 use lib.ListN.{length, getD, take, drop}
 use lib.Dec.{leb, ltb, eqb}
-use Rattle.words.specs.Words.{NONE, isNone}
+use Rattle.words.specs.Words.{isNone}
 use Rattle.utf8.specs.Utf8.{utf8, utf8s}
 
 pub record Sections : Type 0 where

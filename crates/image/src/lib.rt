@@ -4,9 +4,10 @@ ghost use Prim.Native.Nat.{_+_, _*_, _≤_};
 ghost use lib.ListN.{length, getD};
 ghost use Rattle.words.specs.Words.{wordsOf};
 ghost use Rattle.image.specs.Sections.{goodIn, optionalIn, textIn};
-ghost use Rattle.image.specs.Header.{sectionBytes};
+ghost use Rattle.image.specs.Header.{sectionBytes, openedOf};
 ghost use Rattle.image.specs.Entries.{recordOf, textEntryOf, definitionOf};
 
+mod header;
 pub mod refusal;
 
 // Where a section begins, in bytes, and how many entries it has.
@@ -26,6 +27,62 @@ pub struct ImageView {
     pub index: Section,
     pub payload: Section,
     pub strings: Section,
+}
+
+// What a constructor of a view answers: the view, or the number of the row of refusals that the header falls under.
+pub enum Opened {
+    View(ImageView),
+    Refused(u32),
+}
+
+impl ImageView {
+    pub const MAGIC: [u8; 8] = *b"BLINKIMG";
+
+    pub const VERSION: u32 = 2;
+
+    // In bytes.
+    pub const HEADER_LENGTH: usize = 88;
+
+    pub const NODE_WORDS: usize = 10;
+
+    // Bytes an entry, by section.
+    pub const NODE_SIZE: u32 = 40;
+
+    pub const CHILD_SIZE: u32 = 4;
+
+    pub const NAMED_SIZE: u32 = 12;
+
+    pub const DEFINITION_SIZE: u32 = 16;
+
+    pub const ITEM_SIZE: u32 = 12;
+
+    pub const INDEX_SIZE: u32 = 12;
+
+    pub const PAYLOAD_SIZE: u32 = 1;
+
+    pub const STRINGS_SIZE: u32 = 1;
+
+    pub const SECTION_SIZES: [u32; 8] = [
+        ImageView::NODE_SIZE,
+        ImageView::CHILD_SIZE,
+        ImageView::NAMED_SIZE,
+        ImageView::DEFINITION_SIZE,
+        ImageView::ITEM_SIZE,
+        ImageView::INDEX_SIZE,
+        ImageView::PAYLOAD_SIZE,
+        ImageView::STRINGS_SIZE,
+    ];
+
+    // The view that the header gives, if the header breaks none of rows 1 to 5. The checksum is not asked.
+    pub fn new(bytes: &[u8]) -> Opened
+        ensures { λ r. ⌜ r ≡ openedOf (now (bytes .entry)) ⌝ }
+    {
+        let refusal = header::refusal_of(bytes);
+        if refusal != 0 {
+            return Opened::Refused(refusal);
+        }
+        Opened::View(header::view_at(bytes))
+    }
 }
 
 // The words of a node.
@@ -86,7 +143,7 @@ pub fn node_record(part: &[u8], i: usize) -> NodeRecord
     requires { ⌜ 40 * i + 40 ≤ length (now part) ⌝ }
     ensures { λ r. ⌜ r ≡ recordOf (wordsOf (now (part .entry))) i ⌝ }
 {
-    let at = i * 10;
+    let at = i * ImageView::NODE_WORDS;
     NodeRecord {
         parent: part_word(part, at),
         place: part_word(part, at + 1),

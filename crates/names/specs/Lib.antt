@@ -1,1 +1,4 @@
 pub mod Names
+pub mod Spelling
+pub mod ControlCommand
+pub mod NativeFunctionCall

@@ -1,1 +1,64 @@
 // The names of 26 commands and 31 operators.
+pub mod control_command; // control_command.rt: the commands
+pub mod native_function_call; // native_function_call.rt: the operators
+
+ghost use mathlib.Core.Path.{_≡_};
+ghost use Prim.Native.Nat.{_≤_, _<_};
+ghost use lib.ListN.{length};
+ghost use Rattle.texts.specs.Text.{same};
+ghost use Rattle.names.specs.Spelling.{nameOf, spelled, slotOf};
+
+// A name's bytes, with zeros behind them.
+pub struct Name {
+    pub len: usize,
+    pub bytes: [u8; 11],
+}
+
+// The number of a text, where it is a known name.
+pub enum Number {
+    Known(u8),
+    Unknown,
+}
+
+fn wide(b: u8) -> usize
+    ensures { λ r. ⌜ (r ≡ b) × (r < 256) ⌝ }
+{
+    b as usize
+}
+
+fn name_of(text: &[u8]) -> Name
+    requires { ⌜ length (now text) ≤ 11 ⌝ }
+    ensures { λ r. ⌜ r ≡ nameOf (now (text .entry)) ⌝ }
+{
+    let len = text.len();
+    let mut bytes = [0u8; 11];
+    let mut i = 0;
+    while i < len {
+        bytes[i] = text[i];
+        i += 1;
+    }
+    Name { len, bytes }
+}
+
+// The text is the name's bytes.
+fn is_spelled(name: Name, text: &[u8]) -> bool
+    requires { ⌜ name .len ≤ length (name .bytes) ⌝ }
+    ensures { λ r. ⌜ r ≡ same (now (text .entry)) (spelled name) ⌝ }
+{
+    let len = name.len;
+    let bytes = name.bytes;
+    texts::equal(text, &bytes[..len])
+}
+
+// A number below 128 in which no two commands agree, and no two operators.
+fn slot(text: &[u8]) -> usize
+    ensures { λ r. ⌜ r ≡ slotOf (now (text .entry)) ⌝ }
+{
+    let len = text.len();
+    if len == 0 {
+        return 0;
+    }
+    let first = wide(text[0]);
+    let last = wide(text[len - 1]);
+    (first * 8 + last * 6 + len % 16 * 5) % 128
+}

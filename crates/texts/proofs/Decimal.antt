@@ -8,10 +8,11 @@ use native.Mathlib.Omega.{arith}
 use native.Mathlib.Decide.{decLt}
 use native.Mathlib.Nat.{le-refl, pow-suc}
 use native.Mathlib.Numerals.{add-one}
-use lib.Dec.{eqb, ltb}
-use lib.ListN.{length, getD, take, drop, set, length-append, length-take, List·getD-append}
+use lib.Dec.{eqb}
+use lib.ListN.{length, getD, take, drop, set, length-append, List·getD-append}
 use lib.Seq.{take-suc, take-at, take-append-seam, getD-append-seam, getD-at, drop-cons, drop-set-lt, getD-set-same, lt-length-set, length-take-le}
-use borrow.Author.Tests.{lt-ltb, le-ltb, eqb-true, eqb-false, eq-eqb, ne-eqb}
+use borrow.Author.Tests.{lt-ltb, le-ltb, eqb-true, eqb-false}
+use Rattle.laws.specs.Lists.{Below}
 use Rattle.texts.specs.Text.{same}
 use Rattle.texts.specs.Decimal.{digit, digits, decimal}
 use Rattle.texts.specs.Dots.{dot, firstDot}
@@ -89,6 +90,9 @@ decimal-digits =
   where
     last : (d x : ℕ) → d < 10 → List·Memᴰ x (digit d ∷ []) → (48 ≤ x) × (x ≤ 57)
     last d x h m = let e = List·Memᴰ·eq-of-singleton m in (omega arith, omega arith)
+
+pub decimal-below : (n : ℕ) → Below 256 (decimal n)
+decimal-below n x m = omega (arith, decimal-digits n x m .1)
 
 pub decimal-no-dot : (n : ℕ) → firstDot (decimal n) ≡ length (decimal n)
 decimal-no-dot n = dot-none (decimal n) (λ m. omega (arith, decimal-digits n dot m .0))

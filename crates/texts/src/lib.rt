@@ -88,21 +88,21 @@ pub fn is_decimal(t: &[u8], n: u32) -> bool
     ensures { λ r. ⌜ r ≡ same (now (t .entry)) (decimal n) ⌝ }
 {
     let mut i = t.len();
-    let mut left = n;
-    while 10 <= left {
+    let mut rest = n;
+    while 10 <= rest {
         if i == 0 {
             return false;
         }
         i -= 1;
-        if t[i] != digit_of(left % 10) {
+        if t[i] != digit_of(rest % 10) {
             return false;
         }
-        left = left / 10;
+        rest = rest / 10;
     }
     if i != 1 {
         return false;
     }
-    t[0] == digit_of(left)
+    t[0] == digit_of(rest)
 }
 
 // The number of digits.

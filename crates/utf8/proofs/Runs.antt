@@ -2,11 +2,11 @@
 use Prim.Native.Nat.{ℕ, zero, suc, _+_, _≤_, _<_}
 use mathlib.Core.Path.{_≡_, refl, sym, ap, _∙_}
 use mathlib.Core.List.{List, [], _∷_}
-use mathlib.Core.Bool.{Bool, true, false}
+use mathlib.Core.Bool.{true, false}
 use native.Mathlib.Omega.{arith}
 use lib.ListN.{length, drop, getD, length-drop, drop-of-length-le}
 use lib.Seq.{drop-cons, drop-drop}
-use Rattle.utf8.specs.Runs.{runFrom, isRun}
+use Rattle.utf8.specs.Runs.{runFrom, isRun, Passes, Advances}
 
 module _ (front : List ℕ → ℕ) where
   pub run-nil : isRun front [] ≡ true
@@ -47,3 +47,30 @@ module _ (front : List ℕ → ℕ) where
 -- a piece ends in the text
 pub piece-end : (front : List ℕ → ℕ) → ((t : List ℕ) → front t ≤ length t) → (s : List ℕ) (i k : ℕ) → i < length s → k ≡ front (drop i s) → i + k ≤ length s
 piece-end front within s i k h e = omega (arith, within (drop i s), length-drop i s)
+
+-- ---- whole pieces between two indexes
+
+module _ {front : List ℕ → ℕ} {s : List ℕ} where
+  pub passes-none : (i : ℕ) → i ≤ length s → Passes front s i i
+  passes-none i h = record { from = omega arith; to = h; same = refl }
+
+  pub passes-next : {i e : ℕ} (k : ℕ) → Passes front s i e → e < length s → k ≡ front (drop e s) → (k ≡ 0 → ⊥) → e + k ≤ length s → Passes front s i (e + k)
+  passes-next {i} {e} k p h q d l = record { from = omega arith; to = l; same = p .same ∙ run-next front s e k h q d l }
+
+  pub passes-on : {i e k : ℕ} → Passes front s i e → Passes front s e k → Passes front s i k
+  passes-on p q = record { from = omega arith; to = q .to; same = p .same ∙ q .same }
+
+  -- a piece is missing at e
+  pub advances-not : {i e : ℕ} (k : ℕ) → Passes front s i e → e < length s → k ≡ front (drop e s) → k ≡ 0 → Advances front s i i
+  advances-not {i} {e} k p h q z = record { passes = passes-none i (omega arith); stays = λ r. p .same ∙ run-stop front s e k h q z }
+
+  pub advances : {i e : ℕ} → Passes front s i e → i < e → Advances front s i e
+  advances p h = record { passes = p; stays = λ r. absurd (omega arith) }
+
+  -- pieces from the start to the end
+  pub run-all : {e : ℕ} → Passes front s 0 e → length s ≤ e → true ≡ isRun front s
+  run-all {e} p h = sym (p .same ∙ run-end front s e h)
+
+  -- pieces from the start to where one is missing
+  pub run-not : {i e : ℕ} → Passes front s 0 i → Advances front s i e → e ≡ i → false ≡ isRun front s
+  run-not p q z = sym (p .same ∙ q .stays z)

@@ -51,6 +51,6 @@ pub fn put(out: &mut [u8], at: usize, w: u32)
         return;
     }
     if at <= n - 4 {
-        put_word(&mut out[..], at, w);
+        put_word(out, at, w);
     }
 }

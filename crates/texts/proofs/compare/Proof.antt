@@ -3,7 +3,7 @@ use borrow.Author.Needs.{needs}
 use native.Mathlib.Omega.{arith}
 use Prim.Native.Nat.{_≤_, _-_}
 use mathlib.Core.Path.{_≡_, refl, sym, _∙_}
-use lib.ListN.{length, drop}
+use lib.ListN.{drop}
 use Rattle.texts.specs.Text.{orderOf}
 use Rattle.texts.proofs.Text.{byte-like, byte-less, byte-more, first-longer, second-longer, both-end}
 use Rattle.texts.proofs.compare.Statement.{statement}

@@ -1,8 +1,8 @@
 -- `texts::decimal_len` meets its contract. The invariant: the digits of what is left, and k - 1 more, are those of n. Assumes nothing.
 use borrow.Author.Needs.{needs}
 use native.Mathlib.Omega.{arith}
-use Prim.Native.Nat.{_≤_, _+_}
-use mathlib.Core.Path.{_≡_, sym}
+use Prim.Native.Nat.{_+_}
+use mathlib.Core.Path.{_≡_}
 use lib.ListN.{length}
 use Rattle.texts.specs.Decimal.{decimal}
 use Rattle.texts.proofs.Decimal.{decimal-some, length-one, length-more, word-length}

@@ -12,10 +12,10 @@ use Rattle.texts.proofs.is_decimal.Statement.{statement}
 use Rattle.texts.proofs.is_decimal.Tie as tie
 
 abbrev Inv-loop : tie.InvT-loop
-Inv-loop t n i₀ left₀ i left = (i ≤ length t) × (same t (decimal n) ≡ same (take i t) (decimal left))
+Inv-loop t n i₀ rest₀ i rest = (i ≤ length t) × (same t (decimal n) ≡ same (take i t) (decimal rest))
 
 abbrev μ-loop : tie.MeasureT-loop
-μ-loop t n i₀ left₀ i left = left
+μ-loop t n i₀ rest₀ i rest = rest
 
 loop-holds : tie.Need-loop-holds Inv-loop μ-loop
 loop-holds c = (search needs, rw take-length)
@@ -24,7 +24,7 @@ returns : tie.Need-returns Inv-loop μ-loop
 returns c =
     let at = c .before .before in
     let t = at .before .before .args .t .now in
-    sym (at .loop .inv .1 ∙ digits-unlike t (at .loop .i) (at .loop .left) (at .loop .inv .0) (λ e. omega (arith, decimal-some (at .loop .left))))
+    sym (at .loop .inv .1 ∙ digits-unlike t (at .loop .i) (at .loop .rest) (at .loop .inv .0) (λ e. omega (arith, decimal-some (at .loop .rest))))
 
 sub-i : tie.Need-sub-i Inv-loop μ-loop
 sub-i c = search needs
@@ -39,7 +39,7 @@ returns-2 : tie.Need-returns-2 Inv-loop μ-loop
 returns-2 c =
     let at = c .before .before .before .before .before in
     let t = at .before .before .args .t .now in
-    sym (at .loop .inv .1 ∙ digit-unlike t (at .loop .i - 1) (at .loop .i) (at .loop .left) (omega arith) (omega arith) (c .before .before .before .before .loop-test .taken) (λ e. c .if2 .taken (e ∙ sym (c .before .digit-of .ensures))))
+    sym (at .loop .inv .1 ∙ digit-unlike t (at .loop .i - 1) (at .loop .i) (at .loop .rest) (omega arith) (omega arith) (c .before .before .before .before .loop-test .taken) (λ e. c .if2 .taken (e ∙ sym (c .before .digit-of .ensures))))
 
 loop-less : tie.Need-loop-less Inv-loop μ-loop
 loop-less c = search needs
@@ -49,13 +49,13 @@ loop-again c =
     let at = c .before .before .before .before .before in
     let t = at .before .before .args .t .now in
     let like = c .if2 .left ∙ c .before .digit-of .ensures in
-    (omega arith, at .loop .inv .1 ∙ digit-like t (at .loop .i - 1) (at .loop .i) (at .loop .left) (omega arith) (omega arith) (c .before .before .before .before .loop-test .taken) like)
+    (omega arith, at .loop .inv .1 ∙ digit-like t (at .loop .i - 1) (at .loop .i) (at .loop .rest) (omega arith) (omega arith) (c .before .before .before .before .loop-test .taken) like)
 
 returns-3 : tie.Need-returns-3 Inv-loop μ-loop
 returns-3 c =
     let at = c .before .before in
     let t = at .before .before .args .t .now in
-    sym (at .loop .inv .1 ∙ digits-unlike t (at .loop .i) (at .loop .left) (at .loop .inv .0) (λ e. c .if3 .taken (e ∙ length-one (at .loop .left) (c .before .loop-test .left))))
+    sym (at .loop .inv .1 ∙ digits-unlike t (at .loop .i) (at .loop .rest) (at .loop .inv .0) (λ e. c .if3 .taken (e ∙ length-one (at .loop .rest) (c .before .loop-test .left))))
 
 shared-slice-read-result : tie.Need-shared-slice-read-result Inv-loop μ-loop
 shared-slice-read-result c = search needs
@@ -68,7 +68,7 @@ returns-4 c =
     let at = c .before .before .before .before in
     let t = at .before .before .args .t .now in
     let one : at .loop .i ≡ 1 = c .before .before .if3 .left in
-    sym (at .loop .inv .1 ∙ rw (one, c .digit-of2 .ensures) (digit-alone t (at .loop .left) (omega arith) (c .before .before .before .loop-test .left)))
+    sym (at .loop .inv .1 ∙ rw (one, c .digit-of2 .ensures) (digit-alone t (at .loop .rest) (omega arith) (c .before .before .before .loop-test .left)))
 
 pub is-decimal-spec : {M : Type 1} → statement M
 is-decimal-spec =

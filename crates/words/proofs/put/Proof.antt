@@ -1,6 +1,5 @@
 -- `words::put` meets its contract. Assumes nothing.
 use native.Mathlib.Omega.{arith}
-use mathlib.Core.Path.{_∙_, sym}
 use Rattle.words.proofs.Words.{put-in, put-out}
 use borrow.Author.Needs.{needs}
 use Rattle.words.proofs.put.Statement.{statement}

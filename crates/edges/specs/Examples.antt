@@ -1,0 +1,87 @@
+-- Small images and drafts that the tables speak of. Assumes nothing.
+use Prim.Native.Nat.{ℕ, zero, suc, _+_, _*_}
+use mathlib.Core.List.{List, [], _∷_, _++_}
+use lib.ListN.{take, replicate}
+use Rattle.words.specs.Words.{NONE}
+use Rattle.texts.specs.Text.{ascii}
+use Rattle.image.specs.Sections.{Sections}
+
+-- the smallest image, and 88 bytes with no sections, byte by byte
+unfoldable pub smallestImage : List ℕ
+smallestImage =
+    66 ∷ 76 ∷ 73 ∷ 78 ∷ 75 ∷ 73 ∷ 77 ∷ 71 ∷ 2 ∷ 0 ∷ 0 ∷ 0 ∷ 21 ∷ 0 ∷ 0 ∷ 0 ∷ 140 ∷ 0 ∷ 0 ∷ 0 ∷ 88 ∷ 0 ∷ 0 ∷ 0 ∷ 1 ∷ 0 ∷ 0 ∷ 0 ∷
+    128 ∷ 0 ∷ 0 ∷ 0 ∷ 0 ∷ 0 ∷ 0 ∷ 0 ∷ 128 ∷ 0 ∷ 0 ∷ 0 ∷ 0 ∷ 0 ∷ 0 ∷ 0 ∷ 128 ∷ 0 ∷ 0 ∷ 0 ∷ 0 ∷ 0 ∷ 0 ∷ 0 ∷ 128 ∷ 0 ∷ 0 ∷ 0 ∷ 0 ∷ 0
+    ∷ 0 ∷ 0 ∷ 128 ∷ 0 ∷ 0 ∷ 0 ∷ 1 ∷ 0 ∷ 0 ∷ 0 ∷ 140 ∷ 0 ∷ 0 ∷ 0 ∷ 0 ∷ 0 ∷ 0 ∷ 0 ∷ 140 ∷ 0 ∷ 0 ∷ 0 ∷ 0 ∷ 0 ∷ 0 ∷ 0 ∷ 44 ∷ 22 ∷ 251
+    ∷ 221 ∷ 255 ∷ 255 ∷ 255 ∷ 255 ∷ 255 ∷ 255 ∷ 255 ∷ 255 ∷ 1 ∷ 0 ∷ 0 ∷ 0 ∷ 255 ∷ 255 ∷ 255 ∷ 255 ∷ 255 ∷ 255 ∷ 255 ∷ 255 ∷ 0 ∷ 0
+    ∷ 0 ∷ 0 ∷ 0 ∷ 0 ∷ 0 ∷ 0 ∷ 0 ∷ 0 ∷ 0 ∷ 0 ∷ 0 ∷ 0 ∷ 0 ∷ 0 ∷ 0 ∷ 0 ∷ 0 ∷ 0 ∷ 0 ∷ 0 ∷ 0 ∷ 0 ∷ 0 ∷ 0 ∷ 0 ∷ 0 ∷ 0 ∷ 0 ∷ 0 ∷ 0 ∷ []
+
+unfoldable pub headerAlone : List ℕ
+headerAlone =
+    66 ∷ 76 ∷ 73 ∷ 78 ∷ 75 ∷ 73 ∷ 77 ∷ 71 ∷ 2 ∷ 0 ∷ 0 ∷ 0 ∷ 21 ∷ 0 ∷ 0 ∷ 0 ∷ 88 ∷ 0 ∷ 0 ∷ 0 ∷ 88 ∷ 0 ∷ 0 ∷ 0 ∷ 0 ∷ 0 ∷ 0 ∷ 0 ∷ 88
+    ∷ 0 ∷ 0 ∷ 0 ∷ 0 ∷ 0 ∷ 0 ∷ 0 ∷ 88 ∷ 0 ∷ 0 ∷ 0 ∷ 0 ∷ 0 ∷ 0 ∷ 0 ∷ 88 ∷ 0 ∷ 0 ∷ 0 ∷ 0 ∷ 0 ∷ 0 ∷ 0 ∷ 88 ∷ 0 ∷ 0 ∷ 0 ∷ 0 ∷ 0 ∷ 0 ∷ 0
+    ∷ 88 ∷ 0 ∷ 0 ∷ 0 ∷ 0 ∷ 0 ∷ 0 ∷ 0 ∷ 88 ∷ 0 ∷ 0 ∷ 0 ∷ 0 ∷ 0 ∷ 0 ∷ 0 ∷ 88 ∷ 0 ∷ 0 ∷ 0 ∷ 0 ∷ 0 ∷ 0 ∷ 0 ∷ 39 ∷ 196 ∷ 49 ∷ 85 ∷ []
+
+-- a container: parent, place, its name, children's count, named children's start and count; its children start at the given place
+unfoldable pub containerWords : ℕ → ℕ → ℕ → ℕ → ℕ → ℕ → List ℕ
+containerWords parent place nameAt nameLength start count = parent ∷ place ∷ 1 ∷ nameAt ∷ nameLength ∷ 0 ∷ start ∷ count ∷ 0 ∷ 0 ∷ []
+
+-- a node whose fields start with the given ones and are else NONE
+unfoldable pub nodeWords : ℕ → ℕ → ℕ → List ℕ → List ℕ
+nodeWords parent place tag fs = parent ∷ place ∷ tag ∷ take 7 (fs ++ replicate 7 NONE)
+
+unfoldable pub plainSections : List ℕ → List ℕ → List ℕ → List ℕ → Sections
+plainSections nodes children index strings =
+    record {
+      stride = 10;
+      nodes = nodes;
+      children = children;
+      named = [];
+      definitions = [];
+      items = [];
+      index = index;
+      payload = [];
+      strings = strings;
+    }
+
+-- a root alone, with the name that the two words say
+unfoldable pub rootNamed : ℕ → ℕ → Sections
+rootNamed at len = plainSections (containerWords NONE NONE at len 0 0) [] (0 ∷ 0 ∷ 0 ∷ []) []
+
+-- a root with one ordered child, which is no container
+unfoldable pub withChild : ℕ → List ℕ → Sections
+withChild tag fs = plainSections (containerWords NONE NONE NONE NONE 0 1 ++ nodeWords 0 0 tag fs) (1 ∷ []) (0 ∷ 0 ∷ 0 ∷ []) []
+
+abbrev pub withDivert : ℕ → Sections
+withDivert flags = withChild 4 (NONE ∷ NONE ∷ NONE ∷ NONE ∷ NONE ∷ 0 ∷ flags ∷ [])
+
+-- a root with three glues and, in place 3, a nameless container, node 4; the index has the root and that container at the given text
+unfoldable pub withPlace3 : List ℕ → ℕ → Sections
+withPlace3 strings len =
+    plainSections
+    (containerWords NONE NONE NONE NONE 0 4 ++ nodeWords 0 0 5 [] ++ nodeWords 0 1 5 [] ++ nodeWords 0 2 5 []
+    ++ containerWords 0 3 NONE NONE 4 0)
+    (1 ∷ 2 ∷ 3 ∷ 4 ∷ []) (0 ∷ 0 ∷ 0 ∷ 0 ∷ len ∷ 4 ∷ []) strings
+
+-- a root with a container named a, node 1
+unfoldable pub withA : List ℕ → ℕ → ℕ → Sections
+withA strings at len =
+    plainSections (containerWords NONE NONE NONE NONE 0 1 ++ containerWords 0 0 0 1 1 0) (1 ∷ []) (0 ∷ 0 ∷ 0 ∷ at ∷ len ∷ 1 ∷ []) strings
+
+-- a root, and definitions red and size that both hold low
+unfoldable pub withLists : Sections
+withLists =
+    record {
+      stride = 10;
+      nodes = containerWords NONE NONE NONE NONE 0 0;
+      children = [];
+      named = [];
+      definitions = 0 ∷ 3 ∷ 0 ∷ 1 ∷ 6 ∷ 4 ∷ 1 ∷ 1 ∷ [];
+      items = 3 ∷ 3 ∷ 1 ∷ 3 ∷ 3 ∷ 2 ∷ [];
+      index = 0 ∷ 0 ∷ 0 ∷ [];
+      payload = [];
+      strings = ascii "redlowsize";
+    }
+
+unfoldable pub examples : Unit {0}
+unfolding smallestImage headerAlone containerWords nodeWords plainSections rootNamed withChild withPlace3 withA withLists
+examples = tt

@@ -1,0 +1,100 @@
+// The header of an image: what it says, and rows 1 to 5 of the refusals.
+ghost use mathlib.Core.Path.{_≡_};
+ghost use Prim.Native.Nat.{_≤_, _<_};
+ghost use lib.ListN.{length};
+ghost use Rattle.image.specs.Header.{headerLength, sectionAt, viewOf, inkRight, laidOut, headerRule};
+use crate::ImageView;
+use crate::Section;
+use crate::refusal;
+
+// Offset and count of section `k`.
+fn section_at(bytes: &[u8], k: usize) -> Section
+    requires { ⌜ (headerLength ≤ length (now bytes)) × (k < 8) ⌝ }
+    ensures { λ r. ⌜ r ≡ sectionAt (now (bytes .entry)) k ⌝ }
+{
+    Section {
+        offset: words::word(bytes, 20 + 8 * k),
+        count: words::word(bytes, 24 + 8 * k),
+    }
+}
+
+// The view that a header gives.
+pub fn view_at(bytes: &[u8]) -> ImageView
+    requires { ⌜ headerLength ≤ length (now bytes) ⌝ }
+    ensures { λ r. ⌜ r ≡ viewOf (now (bytes .entry)) ⌝ }
+{
+    ImageView {
+        ink_version: words::word(bytes, 12),
+        nodes: section_at(bytes, 0),
+        children: section_at(bytes, 1),
+        named: section_at(bytes, 2),
+        definitions: section_at(bytes, 3),
+        items: section_at(bytes, 4),
+        index: section_at(bytes, 5),
+        payload: section_at(bytes, 6),
+        strings: section_at(bytes, 7),
+    }
+}
+
+fn ink_right(version: u32) -> bool
+    ensures { λ r. ⌜ r ≡ inkRight version ⌝ }
+{
+    if version < 18 {
+        return false;
+    }
+    if version <= 21 { true } else { false }
+}
+
+// Whether the sections follow each other from the header to the end of the bytes, with a node in the first.
+fn laid_out(bytes: &[u8]) -> bool
+    requires { ⌜ headerLength ≤ length (now bytes) ⌝ }
+    ensures { λ r. ⌜ r ≡ laidOut (now (bytes .entry)) ⌝ }
+{
+    let sizes = ImageView::SECTION_SIZES;
+    let mut end = ImageView::HEADER_LENGTH;
+    let mut k = 0;
+    while k < 8 {
+        let section = section_at(bytes, k);
+        let offset = section.offset as usize;
+        if offset != end {
+            return false;
+        }
+        end = offset + (section.count as usize) * (sizes[k] as usize);
+        if bytes.len() < end {
+            return false;
+        }
+        k += 1;
+    }
+    if end != bytes.len() {
+        return false;
+    }
+    let nodes = section_at(bytes, 0);
+    if nodes.count == 0 { false } else { true }
+}
+
+// The first of rows 1 to 5 that the header breaks, or 0.
+pub fn refusal_of(bytes: &[u8]) -> u32
+    ensures { λ r. ⌜ r ≡ headerRule (now (bytes .entry)) ⌝ }
+{
+    if bytes.len() < ImageView::HEADER_LENGTH {
+        return refusal::BAD_HEADER;
+    }
+    let magic = ImageView::MAGIC;
+    if !texts::equal(&bytes[..8], &magic) {
+        return refusal::BAD_HEADER;
+    }
+    if words::word(bytes, 8) != ImageView::VERSION {
+        return refusal::BAD_VERSION;
+    }
+    if !ink_right(words::word(bytes, 12)) {
+        return refusal::BAD_INK_VERSION;
+    }
+    if words::word(bytes, 16) as usize != bytes.len() {
+        return refusal::BAD_LENGTH;
+    }
+    if laid_out(bytes) {
+        0
+    } else {
+        refusal::BAD_SECTIONS
+    }
+}

@@ -1,0 +1,62 @@
+-- `names::slot` meets its contract. Assumes nothing.
+use mathlib.Core.Path.{refl}
+use native.Mathlib.Omega.{arith}
+use borrow.Author.Needs.{needs}
+use lib.ListN.{length, getD}
+use Rattle.names.specs.Spelling.{slotOf}
+use Rattle.names.proofs.Slots.{slot-none, slot-some}
+use Rattle.names.proofs.slot.Statement.{statement}
+use Rattle.names.proofs.slot.Tie as tie
+
+returns : tie.Need-returns
+returns c = slot-none _ (omega arith)
+
+shared-slice-read-wide : tie.Need-shared-slice-read-wide
+shared-slice-read-wide c = search needs
+
+wide-requires : tie.Need-wide-requires
+wide-requires c κs = search needs
+
+sub-wide : tie.Need-sub-wide
+sub-wide c = search needs
+
+shared-slice-read-wide-2 : tie.Need-shared-slice-read-wide-2
+shared-slice-read-wide-2 c = search needs
+
+wide-requires-2 : tie.Need-wide-requires-2
+wide-requires-2 c κs = search needs
+
+mul-result : tie.Need-mul-result
+mul-result c = search needs
+
+mul-result-2 : tie.Need-mul-result-2
+mul-result-2 c = search needs
+
+add-result : tie.Need-add-result
+add-result c = search needs
+
+mul-result-3 : tie.Need-mul-result-3
+mul-result-3 c = search needs
+
+add-result-2 : tie.Need-add-result-2
+add-result-2 c = search needs
+
+returns-2 : tie.Need-returns-2
+returns-2 c = slot-some _ _ _ (c .before .before .wide .ensures .0) (c .wide2 .ensures .0)
+
+pub slot-spec : {M : Type 1} → statement M
+slot-spec =
+    tie.close
+    (tie.spec
+    returns
+    shared-slice-read-wide
+    wide-requires
+    sub-wide
+    shared-slice-read-wide-2
+    wide-requires-2
+    mul-result
+    mul-result-2
+    add-result
+    mul-result-3
+    add-result-2
+    returns-2)

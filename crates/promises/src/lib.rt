@@ -1,0 +1,1 @@
+// What holds of every image that a load accepts. No code.

@@ -1,0 +1,67 @@
+-- Ordered and named children, counts, texts. Assumes nothing.
+use Prim.Native.Nat.{ℕ, zero, suc, _+_}
+use mathlib.Core.List.{List, []}
+use mathlib.Core.Bool.{Bool, true, false, cond, _&&_, _||_, not}
+use mathlib.Core.Option.{Option, none, some}
+use lib.ListN.{length}
+use lib.Dec.{leb, ltb, eqb}
+use Rattle.image.specs.Sections.{Sections, nodeCount, childCount, namedCount, nodeWord, tagOf, f, childWord, namedWord, present, partAt, textAt, inside, isContainer, insideContainer, sections}
+use Rattle.tree.specs.Tree.{childAt, namedAt}
+use Rattle.views.specs.declared.Span.{Span}
+use Rattle.views.specs.declared.Found.{Found}
+use Rattle.views.specs.declared.Found.the-variants as found
+use Rattle.views.specs.declared.Count.{Count}
+use Rattle.views.specs.declared.Count.the-variants as count
+use Rattle.views.specs.declared.NamedAnswer.{NamedAnswer}
+use Rattle.views.specs.declared.NamedAnswer.the-variants as named
+use Rattle.views.specs.declared.TextAnswer.{TextAnswer}
+use Rattle.views.specs.declared.TextAnswer.the-variants as text
+use Rattle.views.specs.View.{span, shown, views}
+
+-- how many ordered children, named children a container has
+unfoldable pub childCountOf : Sections → ℕ → Count
+childCountOf s i = cond (insideContainer s i) (count.Of (f s i 4)) count.NotFound
+
+unfoldable pub namedCountOf : Sections → ℕ → Count
+namedCountOf s i = cond (insideContainer s i) (count.Of (f s i 6)) count.NotFound
+
+-- the j-th ordered child
+unfoldable pub childQuery : Sections → ℕ → ℕ → Found
+childQuery s i j = cond (insideContainer s i && ltb j (f s i 4) && ltb (f s i 3 + j) (childCount s)) (found.Node (childAt s i j)) found.NotFound
+
+-- the j-th named child: text and node
+unfoldable pub namedQuery : Sections → ℕ → ℕ → NamedAnswer
+namedQuery s i j =
+    cond
+    (insideContainer s i && ltb j (f s i 6) && ltb (f s i 5 + j) (namedCount s) && shown (length (s .strings)) (namedAt s i j 0) (namedAt s i j 1))
+    (named.Named (record { name = span (namedAt s i j 0) (namedAt s i j 1); node = namedAt s i j 2 })) named.NotFound
+
+-- a text that is present and inside
+unfoldable pub textQuery : Sections → Span → TextAnswer
+textQuery s t = cond (shown (length (s .strings)) (t .offset) (t .len)) (text.Text t) text.NotFound
+
+-- the part of the strings that holds it; no part where the query finds none
+unfoldable pub textPart : List ℕ → ℕ → ℕ → List ℕ
+textPart strings at len = cond (shown (length strings) at len) (partAt strings at len) []
+
+-- document 01's number for an answer
+abbrev pub foundNumber : Found → ℕ
+foundNumber (found.Node n) = 0
+foundNumber found.NotFound = 18
+
+abbrev pub countNumber : Count → ℕ
+countNumber (count.Of n) = 0
+countNumber count.NotFound = 18
+
+abbrev pub namedNumber : NamedAnswer → ℕ
+namedNumber (named.Named e) = 0
+namedNumber named.NotFound = 18
+
+abbrev pub textNumber : TextAnswer → ℕ
+textNumber (text.Text t) = 0
+textNumber text.NotFound = 18
+
+-- names on an `unfolding` line what a computation with this module needs
+unfoldable pub childrens : Unit {0}
+unfolding childCountOf namedCountOf childQuery namedQuery textQuery textPart views sections
+childrens = tt

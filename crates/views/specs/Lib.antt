@@ -1,0 +1,4 @@
+pub mod View
+pub mod Children
+pub mod Lists
+pub mod Lookup
