@@ -46,14 +46,14 @@ module _ (s : Sections) (i j : ℕ) where
 -- ---- rows 8 to 17
 
 -- the rules one by one
-record Passed (s : Sections) : Type 0 where
-  root-right : rootRight s ≡ true
-  nodes : firstOf (nodeCount s) (nodeRule s) ≡ 0
-  used : usedUp s ≡ true
-  containers : containersBefore s (nodeCount s) ≡ indexCount s
-  tree : treeRule s ≡ 0
-  index : indexRule s ≡ 0
-  definitions : definitionsRule s ≡ 0
+pub record Passed (s : Sections) : Type 0 where
+  pub root-right : rootRight s ≡ true
+  pub nodes : firstOf (nodeCount s) (nodeRule s) ≡ 0
+  pub used : usedUp s ≡ true
+  pub containers : containersBefore s (nodeCount s) ≡ indexCount s
+  pub tree : treeRule s ≡ 0
+  pub index : indexRule s ≡ 0
+  pub definitions : definitionsRule s ≡ 0
 
 module _ (s : Sections) where
   rows : sectionsRule s ≡ 0 → Passed s
@@ -129,7 +129,7 @@ module _ (s : Sections) where
         items-used = defined .used-up;
       }
 
-  right-sections : 0 < nodeCount s → SectionsRight s → Passed s
+  pub right-sections : 0 < nodeCount s → SectionsRight s → Passed s
   right-sections some r =
       record {
         root-right = unfold rootRight in rw (eq-eqb _ _ (r .root-parent), eq-eqb _ _ (r .root-place), eq-eqb _ _ (r .root-container));

@@ -1,2 +1,8 @@
 pub mod Fields
 pub mod Acceptance
+pub mod Views
+pub mod Counting
+pub mod Nodes
+pub mod Entries
+pub mod Index
+pub mod Sound

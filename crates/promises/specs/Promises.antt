@@ -12,6 +12,7 @@ use Rattle.image.specs.Header.{sectionsOf}
 use Rattle.records.specs.Fields.{kindOf, Field, text, optional, command, operator, node, optionalNode, container, optionalContainer, plain, atMost, children, named, payload, wrong}
 use Rattle.records.specs.Records.{targetOf, fieldsAt, listItems, listOrigins, listWord, listItemWord, listOriginWord}
 use Rattle.tree.specs.Tree.{childAt, namedAt}
+use Rattle.tree.specs.Reach.{climb}
 use Rattle.texts.specs.Dots.{dot}
 use Rattle.index.specs.Paths.{canonicalPath}
 use Rattle.index.specs.Index.{indexText}
@@ -20,11 +21,7 @@ use Rattle.views.specs.View.{nodeView, viewNumber}
 
 -- ---- parent steps
 
--- the node after k parent steps: each goes to the node in the parent word
-unfoldable pub climb : Sections → ℕ → ℕ → ℕ
-climb s zero i = i
-climb s (suc k) i = climb s k (parentOf s i)
-
+-- a parent step goes to the node in the parent word
 pub record ReachesRoot (s : Sections) (i : ℕ) : Type 0 where
   pub steps : ℕ
   -- fewer steps than nodes
