@@ -6,3 +6,5 @@ pub mod Nodes
 pub mod Entries
 pub mod Index
 pub mod Sound
+pub mod Whole
+pub mod Readers

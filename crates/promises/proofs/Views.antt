@@ -60,7 +60,7 @@ given-operator (some c) d = tt
 
 module _ (s : Sections) (i : ℕ) where
   -- the fields of a kind are right
-  abbrev Right : Kind → Type 0
+  abbrev pub Right : Kind → Type 0
   Right k = (x : Field) → List·Memᴰ x (fields k) → FieldRight s i x
 
   with-text : (g : Span → KindAnswer) → TextRight s (f s i 0) (f s i 1) → Given (g (span (f s i 0) (f s i 1)))
