@@ -1,33 +1,28 @@
 -- Acceptance in plain words: a load with enough work words accepts exactly the bytes that break none of its rules. Assumes nothing.
-use Prim.Native.Nat.{ℕ, zero, suc, _+_, _≤_, _<_}
-use mathlib.Core.Path.{_≡_, refl, sym, ap, _∙_, subst}
-use mathlib.Core.List.{List, [], _∷_}
-use mathlib.Core.Bool.{Bool, true, false, _&&_, not}
+use Prim.Native.Nat.{ℕ, _≤_, _<_}
+use mathlib.Core.Path.{_≡_}
+use mathlib.Core.List.{List}
+use mathlib.Core.Bool.{true}
 use native.Mathlib.Omega.{arith}
-use lib.ListN.{length}
 use lib.Dec.{eqb, leb}
 use borrow.Author.Tests.{eq-eqb, le-leb, eqb-true, leb-true}
-use Rattle.laws.specs.Refusal.{unless, _▸_, firstOf}
-use Rattle.laws.proofs.First.{both, then, second, passed, pass, first-all, first-of}
-use Rattle.words.specs.Words.{NONE, isNone, wordAt}
-use Rattle.checksum.specs.Crc.{checksumOf}
-use Rattle.image.specs.Sections.{Sections, nodeCount, childCount, namedCount, definitionCount, indexCount, parentOf, placeOf, tagOf, inside, isContainer}
+use Rattle.laws.specs.Refusal.{unless, firstOf}
+use Rattle.laws.proofs.First.{both, then, passed, pass, first-all, first-of}
+use Rattle.image.specs.Sections.{Sections, nodeCount, indexCount, tagOf, inside}
 use Rattle.image.specs.Header.{headerRule, sectionsOf}
 use Rattle.image.proofs.Tests.{both-true}
 use Rattle.image.proofs.Opening.{Opens, opens, opens-of, view-counts, view-node}
-use Rattle.records.specs.Records.{childrenOf, namedOf, containersBefore, nodeRule, parentRule, fieldsRule, rootRight, usedUp}
-use Rattle.records.proofs.Passed.{root, used-up, used-up-of, UsedUp}
-use Rattle.tree.specs.Tree.{childAt, namedAt, childRule, namedRule, entriesRule, treeRule}
-use Rattle.tree.specs.Reach.{Reached}
-use Rattle.tree.specs.Parts.{Counts}
+use Rattle.records.specs.Records.{containersBefore, nodeRule, parentRule, fieldsRule, rootRight, usedUp}
+use Rattle.records.proofs.Passed.{root, used-up, used-up-of}
+use Rattle.tree.specs.Tree.{childAt, namedAt, childRule, namedRule, treeRule}
 use Rattle.tree.proofs.Entries.{children-pass, named-pass, entries-pass}
-use Rattle.tree.proofs.Reading.{Right, tree-right, right-tree}
+use Rattle.tree.proofs.Reading.{tree-right, right-tree}
 use Rattle.index.specs.Index.{indexRule}
-use Rattle.index.specs.Definitions.{itemsOf, definitionsRule}
+use Rattle.index.specs.Definitions.{definitionsRule}
 use Rattle.index.proofs.Index.{index-passed, index-passes}
 use Rattle.index.proofs.Definitions.{definitions-passed, definitions-pass}
 use Rattle.load.specs.Load.{checksumRule, leftoverRule, sectionsRule, loadWords, loadRule, Accepted}
-use Rattle.promises.specs.Rules.{TextRight, NodeRight, ContainerRight, ChildRight, NamedRight, IndexRight, ItemRight, DefinitionRight, SectionsRight, BreaksNone, Iff, AcceptedExactly, LoadsExactly, LoadsEnough}
+use Rattle.promises.specs.Rules.{ChildRight, NamedRight, SectionsRight, BreaksNone, AcceptedExactly, LoadsExactly, LoadsEnough}
 use Rattle.promises.proofs.Fields.{text-right, right-text, node-right, right-node, container-right, right-container, fields-right, right-fields, parent-right, right-parent}
 
 -- ---- a container's entries

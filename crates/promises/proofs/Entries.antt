@@ -1,19 +1,18 @@
 -- Every named entry belongs to a container and every item to a definition; the entries of all sections lie inside. Assumes nothing.
-use Prim.Native.Nat.{ℕ, zero, suc, _+_, _≤_, _<_}
-use mathlib.Core.Path.{_≡_, refl, sym, ap, _∙_, subst}
+use Prim.Native.Nat.{ℕ, _+_, _<_}
+use mathlib.Core.Path.{_≡_, sym, ap, _∙_, subst}
 use native.Mathlib.Omega.{arith}
-use Rattle.laws.specs.Counted.{sumOf}
-use Rattle.image.specs.Sections.{Sections, nodeCount, namedCount, definitionCount, itemCount, indexCount, f, namedWord, itemWord}
-use Rattle.records.specs.Records.{namedOf, namedBefore}
-use Rattle.tree.specs.Tree.{namedAt}
+use Rattle.image.specs.Sections.{Sections, nodeCount, namedCount, definitionCount, itemCount, f, namedWord, itemWord}
+use Rattle.records.specs.Records.{namedOf}
 use Rattle.tree.proofs.Entries.{named-container}
-use Rattle.index.specs.Definitions.{firstItem, itemsOf, itemsBefore}
-use Rattle.promises.specs.Rules.{TextRight, NamedRight, ItemRight, SectionsRight}
-use Rattle.promises.specs.Promises.{EntriesInside, TargetInside, TextInside}
-use Rattle.promises.proofs.Counting.{Owner, owner}
+use Rattle.index.specs.Definitions.{firstItem, itemsOf}
+use Rattle.promises.specs.Rules.{NamedRight, ItemRight}
+use Rattle.promises.specs.Promises.{EntriesInside, TextInside}
+use Rattle.promises.proofs.Kept.{Kept}
+use Rattle.promises.proofs.Counting.{owner}
 use Rattle.promises.proofs.Nodes.{text-inside, named-range}
 
-module _ (s : Sections) (some : 0 < nodeCount s) (r : SectionsRight s) where
+module _ (s : Sections) (g : Kept s) where
   -- ---- named entries
 
   -- entry j of the section is entry k of container i
@@ -25,13 +24,13 @@ module _ (s : Sections) (some : 0 < nodeCount s) (r : SectionsRight s) where
 
   pub named-owner : (j : ℕ) → j < namedCount s → NamedOwner j
   named-owner j h =
-      let o = owner (nodeCount s) (namedOf s) j (omega (arith, r .named-used)) in
+      let o = owner (nodeCount s) (namedOf s) j (omega (arith, g .rules .named-used)) in
       let c = named-container s (o .at) (o .place) (o .place-below) in
       record {
         i = o .at;
         k = o .place;
-        there = o .there ∙ ap (λ (n : ℕ). n + o .place) (sym (named-range s some r (o .at) (o .at-below) c .1));
-        right = r .entry (o .at) (o .at-below) (o .place) (o .place-below);
+        there = o .there ∙ ap (λ (n : ℕ). n + o .place) (sym (named-range s g (o .at) (o .at-below) c .1));
+        right = g .rules .entry (o .at) (o .at-below) (o .place) (o .place-below);
       }
 
   -- ---- items
@@ -45,8 +44,8 @@ module _ (s : Sections) (some : 0 < nodeCount s) (r : SectionsRight s) where
 
   pub item-owner : (j : ℕ) → j < itemCount s → ItemOwner j
   item-owner j h =
-      let o = owner (definitionCount s) (itemsOf s) j (omega (arith, r .items-used)) in
-      let q = r .definitions (o .at) (o .at-below) in
+      let o = owner (definitionCount s) (itemsOf s) j (omega (arith, g .rules .items-used)) in
+      let q = g .rules .definitions (o .at) (o .at-below) in
       record {
         d = o .at;
         k = o .place;
@@ -63,9 +62,9 @@ module _ (s : Sections) (some : 0 < nodeCount s) (r : SectionsRight s) where
         named-text = λ j h.
             let o = named-owner j h in
             subst (λ (x : ℕ). TextInside s (namedWord s x 0) (namedWord s x 1)) (sym (o .there)) (text-inside s _ _ (o .right .text));
-        index-node = λ j h d. r .index j h .container .node .below;
-        index-text = λ j h. text-inside s _ _ (r .index j h .text);
-        definition-text = λ d h. text-inside s _ _ (r .definitions d h .text);
+        index-node = λ j h d. g .rules .index j h .container .node .below;
+        index-text = λ j h. text-inside s _ _ (g .rules .index j h .text);
+        definition-text = λ d h. text-inside s _ _ (g .rules .definitions d h .text);
         item-text = λ j h.
             let o = item-owner j h in
             subst (λ (x : ℕ). TextInside s (itemWord s x 0) (itemWord s x 1)) (sym (o .there)) (text-inside s _ _ (o .right .text));

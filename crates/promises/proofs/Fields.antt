@@ -1,26 +1,20 @@
 -- The tests of texts, nodes and fields in plain words, both ways. Assumes nothing.
-use Prim.Native.Nat.{ℕ, zero, suc, _+_, _*_, _≤_, _<_}
-use mathlib.Core.Path.{_≡_, refl, sym, ap, _∙_, subst}
+use Prim.Native.Nat.{ℕ, _<_}
+use mathlib.Core.Path.{_≡_, refl, sym, _∙_}
 use mathlib.Core.Logic.{_≢_, _⊎_, inl, inr}
-use mathlib.Core.List.{List, [], _∷_, List·Memᴰ}
-use mathlib.Core.Bool.{Bool, true, false, _&&_, _||_, not, true≢false, false≢true}
+use mathlib.Core.List.{List·Memᴰ}
+use mathlib.Core.Bool.{Bool, true, false, _||_, not, true≢false}
 use native.Mathlib.Omega.{arith}
 use native.Mathlib.Decide.{ℕ-discrete}
-use lib.ListN.{length}
-use lib.Dec.{eqb, leb, ltb}
-use borrow.Author.Tests.{eq-eqb, ne-eqb, le-leb, lt-ltb, eqb-true, leb-true, ltb-true, not-true}
-use Rattle.laws.specs.Refusal.{unless, _▸_, firstOf}
-use Rattle.laws.proofs.First.{both, then, passed, pass, first-all, first-of}
+use borrow.Author.Tests.{eq-eqb, ne-eqb, le-leb, lt-ltb, eqb-true}
+use Rattle.laws.proofs.First.{then, pass, first-of}
 use Rattle.words.specs.Words.{NONE, isNone}
-use Rattle.utf8.specs.Utf8.{utf8}
-use Rattle.texts.specs.Text.{holds}
-use Rattle.names.specs.Names.{commands, operators}
-use Rattle.image.specs.Sections.{Sections, nodeCount, childCount, namedCount, parentOf, tagOf, f, textAt, partAt, present, goodText, goodOptional, inside, isContainer, insideContainer}
+use Rattle.image.specs.Sections.{Sections, nodeCount, parentOf, tagOf, f, present, goodText, goodOptional, inside, isContainer, insideContainer}
 use Rattle.image.proofs.Tests.{both-true}
-use Rattle.image.proofs.Parts.{Good, good, good-inside, optional-present, optional-absent, optional-half, no-length}
+use Rattle.image.proofs.Parts.{good, good-inside, optional-present, optional-absent, optional-half}
 use Rattle.records.specs.Fields.{Field, text, optional, command, operator, node, optionalNode, container, optionalContainer, plain, atMost, children, named, payload, wrong}
-use Rattle.records.specs.Records.{fieldsAt, childrenBefore, namedBefore, payloadBefore, listItems, listOrigins, listItemWord, listOriginWord, listItemRule, listOriginRule, payloadRule, fieldRule, fieldsRule, parentRule, nodeRule}
-use Rattle.records.proofs.Passed.{Node, node-of, Parent, parent, list-passed, text-passed, optional-passed, command-passed, operator-passed, node-passed, container-passed, optional-node-passed, optional-container-passed, at-most-passed, children-passed, named-passed, payload-passed, each-field, all-fields-pass}
+use Rattle.records.specs.Records.{fieldsAt, listItems, listOrigins, listItemRule, listOriginRule, payloadRule, fieldRule, fieldsRule, parentRule}
+use Rattle.records.proofs.Passed.{node-of, parent, list-passed, text-passed, optional-passed, command-passed, operator-passed, node-passed, container-passed, optional-node-passed, optional-container-passed, at-most-passed, children-passed, named-passed, payload-passed, each-field, all-fields-pass}
 use Rattle.promises.specs.Rules.{TextRight, OptionalRight, NodeRight, ContainerRight, PayloadRight, FieldRight, ParentRight}
 
 -- ---- texts

@@ -1,5 +1,6 @@
 pub mod Fields
 pub mod Acceptance
+pub mod Kept
 pub mod Views
 pub mod Counting
 pub mod Nodes

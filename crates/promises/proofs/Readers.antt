@@ -1,13 +1,10 @@
 -- What the queries answer on an accepted image. Assumes nothing.
 use Prim.Native.Nat.{ℕ, zero, suc, _+_, _≤_, _<_}
-use mathlib.Core.Path.{_≡_, refl, sym, ap, _∙_, subst}
+use mathlib.Core.Path.{_≡_, refl, sym, ap, _∙_}
 use mathlib.Core.Logic.{_≢_}
-use mathlib.Core.List.{List}
-use mathlib.Core.Bool.{Bool, true, false, cond, _&&_}
+use mathlib.Core.Bool.{Bool, true, false, cond}
 use native.Mathlib.Omega.{arith}
 use native.Mathlib.Decide.{ℕ-discrete}
-use lib.ListN.{length}
-use lib.Dec.{ltb}
 use borrow.Author.Tests.{eq-eqb, ne-eqb, lt-ltb}
 use Rattle.words.specs.Words.{NONE}
 use Rattle.image.specs.Sections.{Sections, nodeCount, childCount, namedCount, parentOf, placeOf, tagOf, f, inside, isContainer, insideContainer}
@@ -16,21 +13,16 @@ use Rattle.image.proofs.Tests.{both-true}
 use Rattle.records.specs.Fields.{kindOf}
 use Rattle.tree.specs.Tree.{childAt, namedAt}
 use Rattle.tree.specs.Reach.{climb}
-use Rattle.views.specs.declared.OptionalWord.{OptionalWord}
 use Rattle.views.specs.declared.OptionalWord.the-variants as word
 use Rattle.views.specs.declared.NodeView.{NodeView}
-use Rattle.views.specs.declared.NodeAnswer.the-variants as node
-use Rattle.views.specs.declared.Count.{Count}
 use Rattle.views.specs.declared.Count.the-variants as count
 use Rattle.views.specs.View.{span, optionalWord, nodeView}
 use Rattle.views.specs.Children.{childCountOf, namedCountOf, childQuery, namedQuery}
-use Rattle.promises.specs.Rules.{NodeRight, ChildRight, NamedRight, ParentRight, SectionsRight, BreaksNone}
 use Rattle.promises.specs.Readers.{stepUp, ascend, ChildRead, NamedRead, Reads, AcceptedReads}
 use Rattle.promises.proofs.Fields.{right-node}
-use Rattle.promises.proofs.Acceptance.{some-node, accepted-right, load-accepted}
 use Rattle.promises.proofs.Views.{Seen, seen, shown-right}
 use Rattle.promises.proofs.Nodes.{reaches, child-range, named-range, child-right, named-right}
-use Rattle.promises.proofs.Sound.{Small, small, a-node}
+use Rattle.promises.proofs.Kept.{Kept, load-kept, a-node}
 use Rattle.promises.proofs.Whole.{right-whole, view-whole, view-read}
 
 -- ---- words that may be absent
@@ -52,27 +44,24 @@ counted : (b : Bool) (m n : ℕ) → cond b (count.Of m) count.NotFound ≡ coun
 counted true m n e = (refl, cc)
 counted false m n e = absurd (let z : _≡_ {A = ℕ} 0 1 = cc in omega arith)
 
-module _ (s : Sections) (some : 0 < nodeCount s) (few : Small s) (r : SectionsRight s) where
-  node-at : (i : ℕ) → i < nodeCount s → NodeRight s i
-  node-at = a-node s some (few .nodes) r
-
+module _ (s : Sections) (g : Kept s) where
   -- the view of node i
   see : (i : ℕ) → i < nodeCount s → Seen s i
-  see i h = seen s i (node-at i h) (r .fields i h)
+  see i h = seen s i (a-node g i h) (g .rules .fields i h)
 
   abbrev viewAt : (i : ℕ) → i < nodeCount s → NodeView
   viewAt i h = record { parent = optionalWord (parentOf s i); «child_index» = optionalWord (placeOf s i); kind = see i h .kind }
 
   container-inside : (i : ℕ) → i < nodeCount s → isContainer s i ≡ true → insideContainer s i ≡ true
-  container-inside i h c = rw (right-node s i (node-at i h), c)
+  container-inside i h c = rw (right-node s i (a-node g i h), c)
 
   -- ---- climbing
 
   step-up : (i : ℕ) → (h : i < nodeCount s) → i ≢ 0 → stepUp i (nodeView s i) ≡ parentOf s i
-  step-up i h d = rw (see i h .view-is, word-given (parentOf s i) (r .parents i h (omega arith) .container .node .given))
+  step-up i h d = rw (see i h .view-is, word-given (parentOf s i) (g .rules .parents i h (omega arith) .container .node .given))
 
   stay : stepUp 0 (nodeView s 0) ≡ 0
-  stay = rw (see 0 some .view-is, word-none (parentOf s 0) (r .root-parent))
+  stay = rw (see 0 (g .some) .view-is, word-none (parentOf s 0) (g .rules .root-parent))
 
   at-root : (k : ℕ) → ascend s k 0 ≡ 0
   unfolding ascend
@@ -86,34 +75,34 @@ module _ (s : Sections) (some : 0 < nodeCount s) (few : Small s) (r : SectionsRi
   ascends-to (suc m) i h e (suc k) l =
       elim (ℕ-discrete i 0) [
         | yes z ↦ ap (ascend s (suc k)) z ∙ at-root (suc k)
-        | no d ↦ ap (ascend s k) (step-up i h d) ∙ ascends-to m (parentOf s i) (r .parents i h (omega arith) .container .node .below) e k (omega arith)
+        | no d ↦ ap (ascend s k) (step-up i h d) ∙ ascends-to m (parentOf s i) (g .rules .parents i h (omega arith) .container .node .below) e k (omega arith)
       ]
 
   -- ---- children
 
   module _ (i : ℕ) (h : i < nodeCount s) where
     parent-shown : (x : ℕ) → parentOf s x ≡ i → optionalWord (parentOf s x) ≡ word.Present i
-    parent-shown x e = ap optionalWord e ∙ word-given i (node-at i h .given)
+    parent-shown x e = ap optionalWord e ∙ word-given i (a-node g i h .given)
 
     child-read : isContainer s i ≡ true → (j : ℕ) → j < f s i 4 → ChildRead s i j
     unfolding childQuery
     child-read c j k =
-        let q = child-right s some r i h c j k in
-        let range : f s i 3 + f s i 4 ≤ childCount s = child-range s some r i h c .0 in
+        let q = child-right s g i h c j k in
+        let range : f s i 3 + f s i 4 ≤ childCount s = child-range s g i h c .0 in
         record {
           child = childAt s i j;
           found = rw (container-inside i h c, lt-ltb j (f s i 4) k, lt-ltb (f s i 3 + j) (childCount s) (omega arith));
           view = viewAt (childAt s i j) (q .node .below);
           viewed = see (childAt s i j) (q .node .below) .view-is;
           parent = parent-shown (childAt s i j) (q .parent);
-          place = ap optionalWord (q .place) ∙ word-given j (λ e. omega (arith, few .children));
+          place = ap optionalWord (q .place) ∙ word-given j (λ e. omega (arith, g .children));
         }
 
     named-read : isContainer s i ≡ true → (j : ℕ) → j < f s i 6 → NamedRead s i j
     unfolding namedQuery
     named-read c j k =
-        let q = named-right s some r i h c j k in
-        let range : f s i 5 + f s i 6 ≤ namedCount s = named-range s some r i h c .0 in
+        let q = named-right s g i h c j k in
+        let range : f s i 5 + f s i 6 ≤ namedCount s = named-range s g i h c .0 in
         record {
           child = record { name = span (namedAt s i j 0) (namedAt s i j 1); node = namedAt s i j 2 };
           found =
@@ -135,16 +124,16 @@ module _ (s : Sections) (some : 0 < nodeCount s) (few : Small s) (r : SectionsRi
     unfolding childCountOf namedCountOf
     reads =
         let v = see i h in
-        let up = reaches s some r i h in
+        let up = reaches s g i h in
         record {
           view = viewAt i h;
           viewed = v .view-is;
           texts = view-whole s i (kindOf (tagOf s i)) (v .kind) (v .kind-is);
-          lists = view-read s i (kindOf (tagOf s i)) (v .kind) (r .fields i h) (v .kind-is);
+          lists = view-read s i (kindOf (tagOf s i)) (v .kind) (g .rules .fields i h) (v .kind-is);
           ascends = λ k l. ascends-to (up .steps) i h (up .arrives) k (omega (arith, up .few));
           parentless = λ e. elim (ℕ-discrete i 0) [
             | yes z ↦ z
-            | no d ↦ absurd (apart (parentOf s i) (sym (word-given (parentOf s i) (r .parents i h (omega arith) .container .node .given)) ∙ e))
+            | no d ↦ absurd (apart (parentOf s i) (sym (word-given (parentOf s i) (g .rules .parents i h (omega arith) .container .node .given)) ∙ e))
           ];
           child-count = λ c. rw (container-inside i h c);
           named-count = λ c. rw (container-inside i h c);
@@ -157,6 +146,4 @@ module _ (s : Sections) (some : 0 < nodeCount s) (few : Small s) (r : SectionsRi
         }
 
 pub accepted-reads : AcceptedReads
-accepted-reads bs work b p =
-    let r = accepted-right bs (load-accepted bs work p) in
-    reads (sectionsOf bs) (some-node bs (r .header)) (small bs b (r .header)) (r .sections)
+accepted-reads bs work b p = reads (sectionsOf bs) (load-kept bs work b p)

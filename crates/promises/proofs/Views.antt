@@ -1,36 +1,32 @@
 -- A node whose rules are kept has a view, whatever its kind. Assumes nothing.
-use Prim.Native.Nat.{ℕ, zero, suc, _+_, _/_, _≤_, _<_}
-use mathlib.Core.Path.{_≡_, refl, sym, ap, _∙_, subst}
-use mathlib.Core.List.{List, [], _∷_, List·Memᴰ, List·Memᴰ·head, List·Memᴰ·tail}
-use mathlib.Core.Bool.{Bool, true, false, cond, true≢false}
+use Prim.Native.Nat.{ℕ, _+_, _/_, _≤_}
+use mathlib.Core.Path.{_≡_, refl, sym, ap, _∙_}
+use mathlib.Core.List.{List, List·Memᴰ, List·Memᴰ·head, List·Memᴰ·tail}
+use mathlib.Core.Bool.{true, true≢false}
 use mathlib.Core.Option.{Option, none, some}
 use native.Mathlib.Omega.{arith}
 use lib.ListN.{length}
-use lib.Dec.{leb}
 use borrow.Author.Tests.{ne-eqb, le-leb}
 use Rattle.words.specs.Words.{NONE}
 use Rattle.texts.specs.Text.{holds}
 use Rattle.names.specs.declared.control_command.CommandType.{CommandType}
 use Rattle.names.specs.declared.native_function_call.Op.{Op}
-use Rattle.names.specs.Names.{commands, operators, numberIn}
 use Rattle.names.specs.Spelling.{namedIn}
-use Rattle.names.specs.ControlCommand.{commandNumber, commandTypes, commandNamed}
-use Rattle.names.specs.NativeFunctionCall.{operatorNumber, ops, operatorNamed}
+use Rattle.names.specs.ControlCommand.{commandNamed}
+use Rattle.names.specs.NativeFunctionCall.{operatorNamed}
 use Rattle.names.proofs.Distinct.{isSome, number-held}
 use Rattle.names.proofs.Numbered.{Numbered, unnamed-number}
 use Rattle.names.proofs.Commands.{commandsNumbered}
 use Rattle.names.proofs.Operators.{operatorsNumbered}
-use Rattle.image.specs.Sections.{Sections, nodeCount, nodeWord, parentOf, placeOf, tagOf, f, textAt, inside}
+use Rattle.image.specs.Sections.{Sections, nodeWord, parentOf, placeOf, tagOf, f, textAt, inside}
 use Rattle.records.specs.Fields.{Kind, Container, Choice, Command, Divert, Glue, Operator, Tag, BoolValue, IntValue, FloatValue, StringValue, ListValue, TargetValue, PointerValue, Assignment, Reference, Void, Unknown, Field, kindOf, fields}
 use Rattle.views.specs.declared.Span.{Span}
 use Rattle.views.specs.declared.NodeKindView.{NodeKindView}
 use Rattle.views.specs.declared.KindAnswer.{KindAnswer}
 use Rattle.views.specs.declared.KindAnswer.the-variants as kindly
-use Rattle.views.specs.declared.NodeView.{NodeView}
-use Rattle.views.specs.declared.NodeAnswer.{NodeAnswer}
 use Rattle.views.specs.declared.NodeAnswer.the-variants as node
-use Rattle.views.specs.View.{span, shown, optionalWord, ofCommand, ofOperator, withText, kindView, withKind, recordView, nodeView, viewNumber}
-use Rattle.promises.specs.Rules.{TextRight, NodeRight, PayloadRight, FieldRight}
+use Rattle.views.specs.View.{span, shown, optionalWord, ofCommand, ofOperator, withText, kindView, recordView, nodeView, viewNumber}
+use Rattle.promises.specs.Rules.{TextRight, NodeRight, FieldRight}
 use Rattle.promises.proofs.Fields.{right-node}
 
 pub shown-right : (s : Sections) (at len : ℕ) → TextRight s at len → shown (length (s .strings)) at len ≡ true

@@ -1,13 +1,13 @@
 -- Texts and list values of a view whose node keeps the rules are handed back whole. Assumes nothing.
-use Prim.Native.Nat.{ℕ, zero, suc, _+_, _*_, _/_, _≤_, _<_}
-use mathlib.Core.Path.{_≡_, refl, sym, ap, _∙_, subst}
+use Prim.Native.Nat.{ℕ, _+_, _*_, _/_, _≤_, _<_}
+use mathlib.Core.Path.{_≡_, refl, sym, subst}
 use mathlib.Core.Logic.{⊎-elim}
 use mathlib.Core.List.{List, [], _∷_, _++_, List·Memᴰ, List·Memᴰ·head, List·Memᴰ·not-nil, List·Memᴰ·eq-of-singleton, List·Memᴰ·append-cases}
-use mathlib.Core.Bool.{Bool, true, false, cond, _&&_}
+use mathlib.Core.Bool.{Bool, true, false, cond}
 use mathlib.Core.Option.{Option, none, some}
 use native.Mathlib.Omega.{arith}
 use lib.ListN.{length}
-use lib.Dec.{leb, ltb}
+use lib.Dec.{leb}
 use borrow.Author.Tests.{le-leb, lt-ltb, leb-true}
 use Rattle.words.specs.Words.{wordAt}
 use Rattle.words.proofs.Words.{word-part}
@@ -28,7 +28,7 @@ use Rattle.views.specs.View.{signed, span, shown, optionalText, ofCommand, ofOp
 use Rattle.views.specs.Children.{textQuery, textPart}
 use Rattle.views.specs.Lists.{itemEntryWord, originEntryWord, listEntry, listOrigin}
 use Rattle.promises.specs.Rules.{TextRight, PayloadRight}
-use Rattle.promises.specs.Readers.{Whole, textsIn, viewTexts, payloadPart, ItemRead, OriginRead, ListRead, viewLists}
+use Rattle.promises.specs.Readers.{Whole, textsIn, viewTexts, ItemRead, OriginRead, ListRead, viewLists}
 use Rattle.promises.proofs.Views.{Right, shown-right}
 
 -- ---- texts
