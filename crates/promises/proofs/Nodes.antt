@@ -83,7 +83,7 @@ module _ (s : Sections) (g : Kept s) where
       let c = tree-climbs s (g .some) (right-sections s (g .some) (g .rules) .tree) i h in
       record {
         steps = c .steps;
-        few = c .few;
+        few = omega (arith, c .few);
         arrives = c .arrives;
         inside = λ k l. climb-inside k i h (λ m n. c .containers m (omega arith));
         containers = c .containers;
