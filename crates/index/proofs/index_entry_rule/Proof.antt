@@ -4,6 +4,7 @@ use mathlib.Core.List.{[]}
 use borrow.Author.Tests.{not-true, not-false}
 use Rattle.laws.specs.Refusal.{unless, _▸_}
 use Rattle.words.specs.Words.{wordsOf}
+use Rattle.tree.specs.Parts.{partsOf}
 use Rattle.index.specs.Index.{indexEntryRule}
 use Rattle.index.specs.Parts.{indexParts}
 use Rattle.index.proofs.Index.{container-like, fits-like}
@@ -40,7 +41,7 @@ returns-2 c =
     let s = indexParts (at .nodes .now) (at .index .now) (at .strings .now) in
     sym (index-by s (wordsOf (at .index .now)) (at .j) (c .before .before .before .before .text-entry .result) (c .before .before .before .good-text .result) (c .before .is-container .result) _ _ refl (c .before .before .before .before .text-entry .ensures)
     (c .before .before .before .good-text .ensures)
-    (c .before .is-container .ensures ∙ container-like (indexParts (at .nodes .now) [] []) s refl refl (c .before .before .before .before .text-entry .result .value))
+    (c .before .is-container .ensures ∙ container-like (partsOf (at .nodes .now) [] [] []) s refl refl (c .before .before .before .before .text-entry .result .value))
     refl
     refl
     ∙ rw (not-false (c .before .before .before .good-text .result) (c .before .before .if1 .left), not-true (c .before .is-container .result) (c .if2 .taken)))
@@ -55,7 +56,7 @@ returns-3 c =
     let s = indexParts (at .nodes .now) (at .index .now) (at .strings .now) in
     sym (index-by s (wordsOf (at .index .now)) (at .j) (c .before .before .before .before .before .before .text-entry .result) (c .before .before .before .before .before .good-text .result) (c .before .before .before .is-container .result) (c .before .rises .result) _ refl (c .before .before .before .before .before .before .text-entry .ensures)
     (c .before .before .before .before .before .good-text .ensures)
-    (c .before .before .before .is-container .ensures ∙ container-like (indexParts (at .nodes .now) [] []) s refl refl (c .before .before .before .before .before .before .text-entry .result .value))
+    (c .before .before .before .is-container .ensures ∙ container-like (partsOf (at .nodes .now) [] [] []) s refl refl (c .before .before .before .before .before .before .text-entry .result .value))
     (c .before .rises .ensures)
     refl
     ∙ rw (not-false (c .before .before .before .before .before .good-text .result) (c .before .before .before .before .if1 .left), not-false (c .before .before .before .is-container .result) (c .before .before .if2 .left), not-true (c .before .rises .result) (c .if3 .taken)))
@@ -77,7 +78,7 @@ last-test c =
     let node = c .before .before .before .before .before .before .before .before .text-entry .result .value in
     index-by s (wordsOf (at .index .now)) (at .j) (c .before .before .before .before .before .before .before .before .text-entry .result) (c .before .before .before .before .before .before .before .good-text .result) (c .before .before .before .before .before .is-container .result) (c .before .before .before .rises .result)
     (c .matches-canonical-path .result) refl (c .before .before .before .before .before .before .before .before .text-entry .ensures) (c .before .before .before .before .before .before .before .good-text .ensures)
-    (c .before .before .before .before .before .is-container .ensures ∙ container-like (indexParts (at .nodes .now) [] []) s refl refl node) (c .before .before .before .rises .ensures)
+    (c .before .before .before .before .before .is-container .ensures ∙ container-like (partsOf (at .nodes .now) [] [] []) s refl refl node) (c .before .before .before .rises .ensures)
     (c .matches-canonical-path .ensures ∙ rw (c .before .text-bytes .ensures) (fits-like (indexParts (at .nodes .now) [] (at .strings .now)) s refl refl refl node _))
     ∙ rw (not-false (c .before .before .before .before .before .before .before .good-text .result) (c .before .before .before .before .before .before .if1 .left), not-false (c .before .before .before .before .before .is-container .result) (c .before .before .before .before .if2 .left), not-false (c .before .before .before .rises .result) (c .before .before .if3 .left))
 
