@@ -11,7 +11,7 @@ use Rattle.laws.proofs.First.{both, passed, pass, then, first-all, first-of}
 use Rattle.words.specs.Words.{wordsOf}
 use Rattle.texts.specs.Text.{before, rising}
 use Rattle.image.specs.Sections.{Sections, definitionCount, itemCount, definitionWord, itemWord}
-use Rattle.image.proofs.Parts.{both-true}
+use Rattle.image.proofs.Tests.{both-true}
 use Rattle.index.specs.Definitions.{definitionText, firstItem, itemsOf, itemText, itemTextOf, goodDefinition, goodItem, itemsBefore, itemsRight, itemRuleFrom, itemRule, definitionRule, itemsUsedUp, definitionsRule}
 use Rattle.index.specs.Parts.{definitionParts}
 use Rattle.index.proofs.Rising.{rising-before, rising-once, rising-like}

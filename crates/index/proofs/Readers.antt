@@ -139,6 +139,21 @@ pub definition-by : (s : Sections) (ws : List ℕ) (d used : ℕ) (e : Definitio
 unfolding definitionRule
 definition-by s ws d used e good rises q n r g u = rw (g, n, r, definition-entry s ws d q, u, definition-texts s ws q d)
 
+-- an entry whose text is good and whose target is a container
+pub index-past : (s : Sections) (ws : List ℕ) (j : ℕ) (e : TextEntry) (good there : Bool) → s .index ≡ ws → e ≡ textEntryOf ws j
+    → good ≡ goodIn (s .strings) (e .offset) (e .len) → there ≡ insideContainer s (e .value) → good ≡ true → there ≡ true
+    → indexEntryRule s j ≡ (unless (rising (entryTextFrom ws (s .strings) 0) j) 16 ▸ unless (fits s (e .value) (partAt (s .strings) (e .offset) (e .len))) 16)
+unfolding unless _▸_
+index-past s ws j e good there q r g t x y =
+    index-by s ws j e good there (rising (entryTextFrom ws (s .strings) 0) j) (fits s (e .value) (partAt (s .strings) (e .offset) (e .len))) q r g t refl refl ∙ rw (x, y)
+
+-- a definition whose text is good and rises
+pub definition-past : (s : Sections) (ws : List ℕ) (d used : ℕ) (e : Definition) (good rises : Bool) → s .definitions ≡ ws → used ≡ itemsBefore s d
+    → e ≡ definitionOf ws d → good ≡ goodIn (s .strings) (e .offset) (e .len) → rises ≡ rising (definitionTextIn ws (s .strings)) d → good ≡ true → rises ≡ true
+    → definitionRule s d ≡ (unless (leb (e .first + e .count) (itemCount s) && eqb (e .first) used) 11 ▸ firstOf (e .count) (itemRuleFrom s (e .first)))
+unfolding unless _▸_
+definition-past s ws d used e good rises q n r g u x y = definition-by s ws d used e good rises q n r g u ∙ rw (x, y)
+
 -- ---- runs by the lengths of the bytes
 
 pub index-run : (nodes index strings : List ℕ)
