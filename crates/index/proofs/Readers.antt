@@ -7,10 +7,10 @@ use native.Mathlib.Omega.{arith}
 use native.Mathlib.Nat.{zero-add}
 use native.Mathlib.Decide.{decLe}
 use native.Mathlib.Numerals.{add-one}
-use lib.Dec.{eqb, leb, ltb}
+use lib.Dec.{eqb, leb}
 use lib.ListN.{length, getD, take, drop, length-drop, drop-of-length-le, List·getD-eq-default}
 use lib.Seq.{take-all, take-nil}
-use borrow.Author.Tests.{eq-eqb, ne-eqb, le-ltb, lt-ltb}
+use borrow.Author.Tests.{eq-eqb, ne-eqb}
 use Rattle.laws.specs.Refusal.{unless, _▸_, firstOf}
 use Rattle.laws.specs.Counted.{sumOf}
 use Rattle.laws.proofs.First.{first, second}
@@ -63,23 +63,6 @@ node-words nodes i =
       word-get nodes (i * 10 + 3) (i * 40 + 12) (omega arith),
       word-get nodes (i * 10 + 4) (i * 40 + 16) (omega arith),
     )
-
-table-length : (nodes : List ℕ) → length (wordsOf nodes) / 10 ≡ length nodes / 40
-table-length nodes = omega (arith, length-words nodes)
-
-pub not-inside : (nodes : List ℕ) (i : ℕ) → length nodes / 40 ≤ i → insideContainer (indexParts nodes [] []) i ≡ false
-not-inside nodes i h = rw (le-ltb i (length (wordsOf nodes) / 10) (omega (arith, table-length nodes)))
-
-pub none-inside : (nodes : List ℕ) (i : ℕ) → i ≡ NONE → insideContainer (indexParts nodes [] []) i ≡ false
-none-inside nodes i h = rw (eq-eqb i NONE h) (by (ltb i (length (wordsOf nodes) / 10)) (eqb (nodeWord (indexParts nodes [] []) i 2) 1))
-  where
-    by : (a b : Bool) → (a && false && b) ≡ false
-    by true b = refl
-    by false b = refl
-
-pub inside-tag : (nodes : List ℕ) (i : ℕ) → i < length nodes / 40 → (i ≡ NONE → ⊥) → insideContainer (indexParts nodes [] []) i ≡ eqb (getD (wordsOf nodes) (i * 10 + 2) 0) 1
-unfolding nodeWord
-inside-tag nodes i h d = rw (lt-ltb i (length (wordsOf nodes) / 10) (omega (arith, table-length nodes)), ne-eqb i NONE d)
 
 -- ---- names
 
@@ -155,6 +138,21 @@ pub definition-by : (s : Sections) (ws : List ℕ) (d used : ℕ) (e : Definitio
     ≡ (unless good 10 ▸ unless rises 17 ▸ unless (leb (e .first + e .count) (itemCount s) && eqb (e .first) used) 11 ▸ firstOf (e .count) (itemRuleFrom s (e .first)))
 unfolding definitionRule
 definition-by s ws d used e good rises q n r g u = rw (g, n, r, definition-entry s ws d q, u, definition-texts s ws q d)
+
+-- an entry whose text is good and whose target is a container
+pub index-past : (s : Sections) (ws : List ℕ) (j : ℕ) (e : TextEntry) (good there : Bool) → s .index ≡ ws → e ≡ textEntryOf ws j
+    → good ≡ goodIn (s .strings) (e .offset) (e .len) → there ≡ insideContainer s (e .value) → good ≡ true → there ≡ true
+    → indexEntryRule s j ≡ (unless (rising (entryTextFrom ws (s .strings) 0) j) 16 ▸ unless (fits s (e .value) (partAt (s .strings) (e .offset) (e .len))) 16)
+unfolding unless _▸_
+index-past s ws j e good there q r g t x y =
+    index-by s ws j e good there (rising (entryTextFrom ws (s .strings) 0) j) (fits s (e .value) (partAt (s .strings) (e .offset) (e .len))) q r g t refl refl ∙ rw (x, y)
+
+-- a definition whose text is good and rises
+pub definition-past : (s : Sections) (ws : List ℕ) (d used : ℕ) (e : Definition) (good rises : Bool) → s .definitions ≡ ws → used ≡ itemsBefore s d
+    → e ≡ definitionOf ws d → good ≡ goodIn (s .strings) (e .offset) (e .len) → rises ≡ rising (definitionTextIn ws (s .strings)) d → good ≡ true → rises ≡ true
+    → definitionRule s d ≡ (unless (leb (e .first + e .count) (itemCount s) && eqb (e .first) used) 11 ▸ firstOf (e .count) (itemRuleFrom s (e .first)))
+unfolding unless _▸_
+definition-past s ws d used e good rises q n r g u x y = definition-by s ws d used e good rises q n r g u ∙ rw (x, y)
 
 -- ---- runs by the lengths of the bytes
 

@@ -6,7 +6,7 @@ ghost use lib.ListN.{length};
 ghost use Rattle.laws.specs.Refusal.{firstOf};
 ghost use Rattle.words.specs.Words.{wordsOf};
 ghost use Rattle.texts.specs.Text.{before, rising, same};
-ghost use Rattle.image.specs.Sections.{partAt, insideContainer};
+ghost use Rattle.image.specs.Sections.{partAt};
 ghost use Rattle.index.specs.Paths.{noName, pieceOf, fitsPath, fits};
 ghost use Rattle.index.specs.Index.{indexEntryRule, indexRule};
 ghost use Rattle.index.specs.Definitions.{itemsBefore, itemRuleFrom, definitionRule, definitionsRule};
@@ -147,20 +147,6 @@ fn matches_canonical_path(nodes: &[u8], strings: &[u8], id: u32, text: &[u8]) ->
     end == 0
 }
 
-// Whether the node is there and is a container.
-fn is_container(nodes: &[u8], node: u32) -> bool
-    ensures { λ r. ⌜ r ≡ insideContainer (indexParts (now (nodes .entry)) [] []) node ⌝ }
-{
-    let at = node as usize;
-    if nodes.len() / 40 <= at {
-        return false;
-    }
-    if node == image::NONE {
-        return false;
-    }
-    image::part_word(nodes, at * 10 + 2) == 1
-}
-
 // Whether the text of an entry, the `place`-th from entry `first` on, comes after that of the entry before it.
 fn rises(entries: &[u8], strings: &[u8], first: usize, place: usize) -> bool
     requires { ⌜ 12 * (first + place) + 12 ≤ length (now entries) ⌝ }
@@ -186,7 +172,7 @@ fn index_entry_rule(nodes: &[u8], index: &[u8], strings: &[u8], j: usize) -> u32
     if !image::good_text(strings, entry.offset, entry.len) {
         return refusal::BAD_TEXT;
     }
-    if !is_container(nodes, entry.value) {
+    if !tree::is_container(nodes, entry.value) {
         return refusal::BAD_NODE;
     }
     if !rises(index, strings, 0, j) {

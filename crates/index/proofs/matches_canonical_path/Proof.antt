@@ -10,7 +10,7 @@ use borrow.Author.Tests.{not-true, not-false}
 use Rattle.words.proofs.Words.{length-words}
 use Rattle.image.specs.Sections.{Sections, nodeCount}
 use Rattle.index.specs.Paths.{fitsPath, fits}
-use Rattle.index.specs.Parts.{indexParts, pathNodeOf}
+use Rattle.index.specs.Parts.{indexParts}
 use Rattle.index.proofs.Suffix.{empty-part}
 use Rattle.index.proofs.Paths.{fitsFrom, whole-fits, pieceBy, Reached, Matched, fits-bound, fits-root, step-short, step-other, step-top, step-none, step-no-dot, step-dot}
 use Rattle.index.proofs.Index.{path-node-like}
