@@ -22,7 +22,7 @@ pub record Kept (s : Sections) : Type 0 where
   pub children : childCount s < NONE
 
 -- an image is shorter than a word can tell
-kept : (bs : List ℕ) → Below 256 bs → BreaksNone bs → Kept (sectionsOf bs)
+pub kept : (bs : List ℕ) → Below 256 bs → BreaksNone bs → Kept (sectionsOf bs)
 kept bs b r =
     let i = view-inside bs (r .header) in
     let c = view-counts bs (r .header) in
