@@ -1,21 +1,50 @@
 -- The record rules: the rule of each field of a node, of its parent, of a list's payload; sums of the counts before; leftovers.
 -- Assumes nothing.
-use Prim.Native.Nat.{ℕ, zero, suc, _+_, _*_}
+use Prim.Native.Nat.{ℕ, _+_, _*_}
 use mathlib.Core.List.{List, [], _∷_}
-use mathlib.Core.Bool.{Bool, true, false, cond, _&&_, _||_, not}
+use mathlib.Core.Bool.{Bool, cond, _&&_, _||_, not}
 use lib.ListN.{length}
 use lib.Dec.{leb, eqb}
 use Rattle.laws.specs.Refusal.{unless, _▸_, firstOf, refusals}
 use Rattle.laws.specs.Counted.{sumOf, counted}
-use Rattle.words.specs.Words.{isNone, wordAt, words}
+use Rattle.words.specs.Words.{NONE, isNone, wordAt, words}
 use Rattle.texts.specs.Text.{holds, texts}
 use Rattle.names.specs.Names.{commands, operators, names}
-use Rattle.image.specs.Sections.{Sections, nodeCount, childCount, namedCount, nodeWord, parentOf, placeOf, tagOf, f, textAt, goodText, goodOptional, inside, isContainer, insideContainer, sections}
-use Rattle.records.specs.Fields.{Field, text, optional, command, operator, node, optionalNode, container, optionalContainer, plain, atMost, children, named, payload, wrong, fields, kindOf, schema}
+use Rattle.image.specs.declared.NodeRecord.{NodeRecord}
+use Rattle.image.specs.Entries.{nodeIn}
+use Rattle.image.specs.Sections.{Sections, nodeCount, childCount, namedCount, parentOf, placeOf, tagOf, f, textAt, goodText, goodOptional, inside, isContainer, insideContainer, sections}
+use Rattle.records.specs.Fields.{Kind, Container, Choice, Command, Divert, Glue, Operator, Tag, BoolValue, IntValue, FloatValue, StringValue, ListValue, TargetValue, PointerValue, Assignment, Reference, Void, Unknown, Field, text, optional, command, operator, node, optionalNode, container, optionalContainer, plain, atMost, children, named, payload, wrong, fields, kindOf, schema}
 
 -- the fields of node i
 abbrev pub fieldsAt : Sections → ℕ → List Field
 fieldsAt s i = fields (kindOf (tagOf s i))
+
+-- ---- the target of a node
+
+-- the field of a record that names another node: f2 of tags 2, 4 and 13, f4 of 17; other kinds have none
+unfoldable pub targetIn : NodeRecord → Kind → ℕ
+targetIn r Choice = r .f2
+targetIn r Divert = r .f2
+targetIn r TargetValue = r .f2
+targetIn r Reference = r .f4
+targetIn r Container = NONE
+targetIn r Command = NONE
+targetIn r Glue = NONE
+targetIn r Operator = NONE
+targetIn r Tag = NONE
+targetIn r BoolValue = NONE
+targetIn r IntValue = NONE
+targetIn r FloatValue = NONE
+targetIn r StringValue = NONE
+targetIn r ListValue = NONE
+targetIn r PointerValue = NONE
+targetIn r Assignment = NONE
+targetIn r Void = NONE
+targetIn r Unknown = NONE
+
+-- the target of node i, if it is of the kind
+abbrev pub targetOf : Sections → ℕ → Kind → ℕ
+targetOf s i k = targetIn (nodeIn s i) k
 
 -- ---- counts of a node, and their sums over the nodes before
 
@@ -126,5 +155,5 @@ usedUp s =
 
 -- names on an `unfolding` line what a computation with this module needs
 unfoldable pub records : Unit {0}
-unfolding childrenOf namedOf payloadOf containerOf listWord listItemRule listOriginRule payloadRule fieldRule firstField parentRule nodeRule rootRight usedUp schema sections names refusals counted words texts
+unfolding targetIn childrenOf namedOf payloadOf containerOf listWord listItemRule listOriginRule payloadRule fieldRule firstField parentRule nodeRule rootRight usedUp schema sections names refusals counted words texts
 records = tt

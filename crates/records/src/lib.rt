@@ -1,1 +1,330 @@
-// The record rules, shared by load and writer.
+// The record rules, over a record by value: load and writer use the same functions.
+mod list; // list.rt: a list's payload
+
+use image::NONE;
+use image::NodeRecord;
+use image::refusal::BAD_NODE;
+use image::refusal::BAD_RANGE;
+use image::refusal::BAD_TAG;
+use image::refusal::BAD_TEXT;
+use names::Number;
+ghost use mathlib.Core.Path.{_≡_};
+ghost use mathlib.Core.Bool.{_||_};
+ghost use Prim.Native.Nat.{ℕ, suc, _<_};
+ghost use lib.Dec.{leb};
+ghost use lib.ListN.{length};
+ghost use Rattle.laws.specs.Refusal.{unless};
+ghost use Rattle.words.specs.Words.{isNone};
+ghost use Rattle.texts.specs.Text.{holds};
+ghost use Rattle.names.specs.Names.{commands, operators};
+ghost use Rattle.image.specs.Sections.{Sections, tagOf, nodeCount};
+ghost use Rattle.image.specs.Entries.{nodeIn};
+ghost use Rattle.records.specs.Fields.{kindOf};
+ghost use Rattle.records.specs.Records.{targetIn, fieldsRule, parentRule, rootRight, usedUp};
+ghost use Rattle.records.specs.Shown.{Shows, ShowsParent, countsOf, sumsBefore, insideAmong, containerAmong, follows, containerRule, choiceRule, divertRule, textRule, targetRule, assignmentRule, referenceRule, listRule};
+
+// How many nodes, ordered children and named children the sections have.
+pub struct Counts {
+    pub nodes: usize,
+    pub children: usize,
+    pub named: usize,
+}
+
+// Sums over the nodes before a node: ordered children, named children, bytes of payload, containers.
+pub struct Sums {
+    pub children: usize,
+    pub named: usize,
+    pub payload: usize,
+    pub containers: usize,
+}
+
+// The node that the record's target field names, NONE for a kind that has no target.
+pub fn target_of(node: NodeRecord) -> u32
+    ensures { λ r. ⌜ r ≡ targetIn node (kindOf (node .tag)) ⌝ }
+{
+    let tag = node.tag;
+    match tag {
+        2 | 4 | 13 => node.f2,
+        17 => node.f4,
+        _ => NONE,
+    }
+}
+
+// Whether a node number is in the table; NONE never is.
+fn is_inside(nodes: usize, n: u32) -> bool
+    ensures { λ r. ⌜ r ≡ insideAmong nodes n ⌝ }
+{
+    if n == NONE {
+        return false;
+    }
+    (n as usize) < nodes
+}
+
+fn is_optional_node(nodes: usize, n: u32) -> bool
+    ensures { λ r. ⌜ r ≡ (isNone n || insideAmong nodes n) ⌝ }
+{
+    if n == NONE {
+        return true;
+    }
+    (n as usize) < nodes
+}
+
+// Whether a node number is in the table and the tag, which is that node's, is a container's.
+fn is_container(nodes: usize, n: u32, tag: u32) -> bool
+    ensures { λ r. ⌜ r ≡ containerAmong nodes n tag ⌝ }
+{
+    if tag != 1 {
+        return false;
+    }
+    is_inside(nodes, n)
+}
+
+fn is_optional_container(nodes: usize, n: u32, tag: u32) -> bool
+    ensures { λ r. ⌜ r ≡ (isNone n || containerAmong nodes n tag) ⌝ }
+{
+    if n == NONE {
+        return true;
+    }
+    is_container(nodes, n, tag)
+}
+
+// Whether a range begins where those before it end, and ends inside its section.
+fn is_next(start: u32, count: u32, before: usize, all: usize) -> bool
+    ensures { λ r. ⌜ r ≡ follows start count before all ⌝ }
+{
+    let from = start as usize;
+    if all < from + count as usize {
+        return false;
+    }
+    from == before
+}
+
+// A word that is at most so much.
+fn at_most(word: u32, most: u32) -> u32
+    ensures { λ r. ⌜ r ≡ unless (leb word most) 12 ⌝ }
+{
+    if word <= most { 0 } else { BAD_TAG }
+}
+
+fn container(node: NodeRecord, counts: Counts, sums: Sums, strings: &[u8]) -> u32
+    ensures { λ r. ⌜ r ≡ containerRule node counts sums (now (strings .entry)) ⌝ }
+{
+    if !image::good_optional(strings, node.f0, node.f1) {
+        return BAD_TEXT;
+    }
+    if !is_next(node.f3, node.f4, sums.children, counts.children) {
+        return BAD_RANGE;
+    }
+    if !is_next(node.f5, node.f6, sums.named, counts.named) {
+        return BAD_RANGE;
+    }
+    0
+}
+
+fn choice(node: NodeRecord, nodes: usize, target_tag: u32, strings: &[u8]) -> u32
+    ensures { λ r. ⌜ r ≡ choiceRule node nodes «target_tag» (now (strings .entry)) ⌝ }
+{
+    if !image::good_optional(strings, node.f0, node.f1) {
+        return BAD_TEXT;
+    }
+    if !is_container(nodes, node.f2, target_tag) {
+        return BAD_NODE;
+    }
+    0
+}
+
+fn divert(node: NodeRecord, nodes: usize, strings: &[u8]) -> u32
+    ensures { λ r. ⌜ r ≡ divertRule node nodes (now (strings .entry)) ⌝ }
+{
+    if !image::good_optional(strings, node.f0, node.f1) {
+        return BAD_TEXT;
+    }
+    if !is_optional_node(nodes, node.f2) {
+        return BAD_NODE;
+    }
+    if !image::good_optional(strings, node.f3, node.f4) {
+        return BAD_TEXT;
+    }
+    at_most(node.f6, 23)
+}
+
+fn is_command(name: &[u8]) -> bool
+    ensures { λ r. ⌜ r ≡ holds commands (now (name .entry)) ⌝ }
+{
+    match names::control_command::command_number(name) {
+        Number::Known(_) => true,
+        Number::Unknown => false,
+    }
+}
+
+fn is_operator(name: &[u8]) -> bool
+    ensures { λ r. ⌜ r ≡ holds operators (now (name .entry)) ⌝ }
+{
+    match names::native_function_call::operator_number(name) {
+        Number::Known(_) => true,
+        Number::Unknown => false,
+    }
+}
+
+// A kind that is a text alone: of a command or an operator, by the tag, its known name.
+fn text_only(tag: u32, offset: u32, len: u32, strings: &[u8]) -> u32
+    ensures { λ r. ⌜ r ≡ textRule tag offset len (now (strings .entry)) ⌝ }
+{
+    if !image::good_text(strings, offset, len) {
+        return BAD_TEXT;
+    }
+    let name = image::text_part(strings, offset, len);
+    if tag == 3 {
+        if is_command(name) {
+            return 0;
+        }
+        return BAD_TAG;
+    }
+    if tag == 6 {
+        if is_operator(name) {
+            return 0;
+        }
+        return BAD_TAG;
+    }
+    0
+}
+
+fn target_value(node: NodeRecord, nodes: usize, strings: &[u8]) -> u32
+    ensures { λ r. ⌜ r ≡ targetRule node nodes (now (strings .entry)) ⌝ }
+{
+    if !image::good_text(strings, node.f0, node.f1) {
+        return BAD_TEXT;
+    }
+    if !is_inside(nodes, node.f2) {
+        return BAD_NODE;
+    }
+    0
+}
+
+fn assignment(node: NodeRecord, strings: &[u8]) -> u32
+    ensures { λ r. ⌜ r ≡ assignmentRule node (now (strings .entry)) ⌝ }
+{
+    if !image::good_text(strings, node.f0, node.f1) {
+        return BAD_TEXT;
+    }
+    at_most(node.f2, 3)
+}
+
+fn reference(node: NodeRecord, nodes: usize, target_tag: u32, strings: &[u8]) -> u32
+    ensures { λ r. ⌜ r ≡ referenceRule node nodes «target_tag» (now (strings .entry)) ⌝ }
+{
+    if !image::good_text(strings, node.f0, node.f1) {
+        return BAD_TEXT;
+    }
+    if !image::good_optional(strings, node.f2, node.f3) {
+        return BAD_TEXT;
+    }
+    if !is_optional_container(nodes, node.f4, target_tag) {
+        return BAD_NODE;
+    }
+    0
+}
+
+fn list_value(node: NodeRecord, sums: Sums, payload: &[u8], strings: &[u8]) -> u32
+    ensures { λ r. ⌜ r ≡ listRule node sums (now (payload .entry)) (now (strings .entry)) ⌝ }
+{
+    let start = node.f0 as usize;
+    if start != sums.payload {
+        return BAD_RANGE;
+    }
+    list::payload_rule(payload, strings, node.f0, node.f1)
+}
+
+// The number of the first field rule that the node breaks, or 0. The tag is that of the node's target, 0 where there is none.
+pub fn fields_rule(
+    node: NodeRecord,
+    counts: Counts,
+    sums: Sums,
+    target_tag: u32,
+    payload: &[u8],
+    strings: &[u8],
+) -> u32
+    ensures { λ r. ⌜ ((s : Sections) (i : ℕ) → Shows s i node counts sums «target_tag» (now (payload .entry)) (now (strings .entry)) → r ≡ fieldsRule s i) ⌝ }
+{
+    let tag = node.tag;
+    match tag {
+        1 => container(node, counts, sums, strings),
+        2 => choice(node, counts.nodes, target_tag, strings),
+        4 => divert(node, counts.nodes, strings),
+        5 | 18 => 0,
+        3 | 11 | 14 => text_only(tag, node.f0, node.f1, strings),
+        6..=7 => text_only(tag, node.f0, node.f1, strings),
+        8 => at_most(node.f0, 1),
+        9..=10 => 0,
+        12 => list_value(node, sums, payload, strings),
+        13 => target_value(node, counts.nodes, strings),
+        16 => assignment(node, strings),
+        17 => reference(node, counts.nodes, target_tag, strings),
+        _ => BAD_TAG,
+    }
+}
+
+// The root is a container that has no parent and no place.
+pub fn root_right(root: NodeRecord) -> bool
+    ensures { λ r. ⌜ ((s : Sections) → root ≡ nodeIn s 0 → r ≡ rootRight s) ⌝ }
+{
+    if root.parent != NONE {
+        return false;
+    }
+    if root.place != NONE {
+        return false;
+    }
+    root.tag == 1
+}
+
+// The number of the parent's rule, which node `i` breaks, or 0. The tag is that of the node in the parent word, 0 where there is none.
+pub fn parent_rule(node: NodeRecord, i: usize, counts: Counts, parent_tag: u32) -> u32
+    ensures { λ r. ⌜ ((s : Sections) → ShowsParent s i node counts «parent_tag» → r ≡ parentRule s i) ⌝ }
+{
+    if i == 0 {
+        return 0;
+    }
+    if !is_container(counts.nodes, node.parent, parent_tag) {
+        return BAD_NODE;
+    }
+    if node.parent as usize == i {
+        return BAD_NODE;
+    }
+    0
+}
+
+// The sums before the node after this one, whose field rules pass.
+pub fn add(sums: Sums, node: NodeRecord) -> Sums
+    requires { ⌜ sums .containers < 18446744073709551615 ⌝ }
+    ensures { λ r. ⌜ ((s : Sections) (i : ℕ) → sums ≡ sumsBefore s i → node ≡ nodeIn s i → fieldsRule s i ≡ 0 → r ≡ sumsBefore s (suc i)) ⌝ }
+{
+    let tag = node.tag;
+    match tag {
+        1 => Sums {
+            children: node.f3 as usize + node.f4 as usize,
+            named: node.f5 as usize + node.f6 as usize,
+            payload: sums.payload,
+            containers: sums.containers + 1,
+        },
+        12 => Sums {
+            children: sums.children,
+            named: sums.named,
+            payload: node.f0 as usize + node.f1 as usize,
+            containers: sums.containers,
+        },
+        _ => sums,
+    }
+}
+
+// Nothing is left over in children, named children and payload.
+pub fn used_up(sums: Sums, counts: Counts, payload: usize) -> bool
+    ensures { λ r. ⌜ ((s : Sections) → sums ≡ sumsBefore s (nodeCount s) → counts ≡ countsOf s → payload ≡ length (s .payload) → r ≡ usedUp s) ⌝ }
+{
+    if sums.children != counts.children {
+        return false;
+    }
+    if sums.named != counts.named {
+        return false;
+    }
+    sums.payload == payload
+}

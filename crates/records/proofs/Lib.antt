@@ -1,0 +1,5 @@
+pub mod Tests
+pub mod Texts
+pub mod Lists
+pub mod ByKind
+pub mod Passed

@@ -1,0 +1,106 @@
+-- Tests of a field and chains of rules, one step at a time, by the test that the code made. Assumes nothing.
+use Prim.Native.Nat.{ℕ, zero, suc, _+_, _≤_, _<_}
+use mathlib.Core.Path.{_≡_, refl, sym, _∙_}
+use mathlib.Core.Bool.{Bool, true, false, not, _&&_, _||_, true≢false}
+use native.Mathlib.Omega.{arith}
+use lib.Dec.{leb, ltb, eqb}
+use borrow.Author.Tests.{le-leb, lt-leb, eq-eqb, ne-eqb, not-true, not-false}
+use Rattle.laws.specs.Refusal.{unless, _▸_, firstOf}
+use Rattle.laws.proofs.First.{first, second, pass, fail, first-hit}
+use Rattle.words.specs.Words.{NONE, isNone}
+use Rattle.records.specs.Shown.{insideAmong, containerAmong, follows}
+
+-- ---- a chain of rules
+
+-- the next rule is broken: r is the flag that the test gave
+pub stop : (t r : Bool) (k b : ℕ) → leb 1 k ≡ true → r ≡ t → not r ≡ true → k ≡ (unless t k ▸ b)
+stop t r zero b p e h = absurd (true≢false (sym p))
+stop t r (suc k) b p e h = sym (first (unless t (suc k)) b k (fail t (suc k) (sym e ∙ not-true r h)))
+
+-- it is kept: what follows decides
+pub go : (t r : Bool) (k b v : ℕ) → r ≡ t → not r ≡ false → v ≡ b → v ≡ (unless t k ▸ b)
+go t r k b v e h q = q ∙ sym (second (unless t k) b (pass t k (sym e ∙ not-false r h)))
+
+pub stop-last : (t r : Bool) (k : ℕ) → r ≡ t → not r ≡ true → k ≡ unless t k
+stop-last t r k e h = sym (fail t k (sym e ∙ not-true r h))
+
+pub go-last : (t r : Bool) (k : ℕ) → r ≡ t → not r ≡ false → 0 ≡ unless t k
+go-last t r k e h = sym (pass t k (sym e ∙ not-false r h))
+
+-- the test is whether two numbers are equal
+pub stop-unequal : (x y k b : ℕ) → leb 1 k ≡ true → (x ≡ y → ⊥) → k ≡ (unless (eqb x y) k ▸ b)
+stop-unequal x y k b p d = stop (eqb x y) false k b p (sym (ne-eqb x y d)) refl
+
+pub go-equal : (x y k b v : ℕ) → x ≡ y → v ≡ b → v ≡ (unless (eqb x y) k ▸ b)
+go-equal x y k b v e q = go (eqb x y) true k b v (sym (eq-eqb x y e)) refl q
+
+pub ruleset rules = (stop, go, stop-last, go-last)
+
+pub skip : (b : ℕ) → (0 ▸ b) ≡ b
+unfolding _▸_
+skip b = refl
+
+pub last : (a : ℕ) → (a ▸ 0) ≡ a
+unfolding _▸_
+last zero = refl
+last (suc a) = refl
+
+-- a number that a rule gave, where it is a refusal
+pub refused : (a b r : ℕ) → r ≡ a → (r ≡ 0 → ⊥) → r ≡ (a ▸ b)
+refused a b zero e h = absurd (h refl)
+refused a b (suc r) e h = sym (first a b r (sym e))
+
+-- ---- a run of rules
+
+-- a loop that stops at n, before m, with a refusal
+pub first-broken : (m n r : ℕ) (f : ℕ → ℕ) → n < m → firstOf n f ≡ 0 → r ≡ f n → (r ≡ 0 → ⊥) → r ≡ firstOf m f
+first-broken m n zero f h p e d = absurd (d refl)
+first-broken m n (suc r) f h p e d = sym (first-hit m n r f h p (sym e))
+
+-- a loop that has passed all
+pub first-done : (m n : ℕ) (f : ℕ → ℕ) → n ≤ m → m ≤ n → firstOf n f ≡ 0 → 0 ≡ firstOf m f
+first-done m n f h k p = let e : m ≡ n = omega arith in rw e (sym p)
+
+-- ---- words
+
+pub at-most : (w m : ℕ) → w ≤ m → 0 ≡ unless (leb w m) 12
+at-most w m h = sym (pass (leb w m) 12 (le-leb w m h))
+
+pub above : (w m : ℕ) → m < w → 12 ≡ unless (leb w m) 12
+above w m h = sym (fail (leb w m) 12 (lt-leb w m h))
+
+-- ---- node numbers
+
+either-false : (a : Bool) → false ≡ (a && false)
+either-false true = refl
+either-false false = refl
+
+either-true : (a : Bool) → a ≡ (a && true)
+either-true true = refl
+either-true false = refl
+
+pub none-inside : (nodes n : ℕ) → n ≡ NONE → false ≡ insideAmong nodes n
+none-inside nodes n h = rw (eq-eqb n NONE h) (either-false (ltb n nodes))
+
+pub some-inside : (nodes n : ℕ) → (n ≡ NONE → ⊥) → ltb n nodes ≡ insideAmong nodes n
+some-inside nodes n h = rw (ne-eqb n NONE h) (either-true (ltb n nodes))
+
+pub none-optional : (n : ℕ) (b : Bool) → n ≡ NONE → true ≡ (isNone n || b)
+none-optional n b h = rw (eq-eqb n NONE h)
+
+pub some-optional : (n : ℕ) (v b : Bool) → (n ≡ NONE → ⊥) → v ≡ b → v ≡ (isNone n || b)
+some-optional n v b h q = rw (ne-eqb n NONE h) q
+
+pub other-tag : (nodes n tag : ℕ) → (tag ≡ 1 → ⊥) → false ≡ containerAmong nodes n tag
+other-tag nodes n tag h = rw (ne-eqb tag 1 h) (either-false (insideAmong nodes n))
+
+pub that-tag : (nodes n tag : ℕ) (v : Bool) → tag ≡ 1 → v ≡ insideAmong nodes n → v ≡ containerAmong nodes n tag
+that-tag nodes n tag v h q = rw (eq-eqb tag 1 h) (q ∙ either-true (insideAmong nodes n))
+
+-- ---- ranges
+
+pub past-end : (start count before all : ℕ) → all < start + count → false ≡ follows start count before all
+past-end start count before all h = rw (lt-leb (start + count) all h)
+
+pub in-end : (start count before all : ℕ) → start + count ≤ all → eqb start before ≡ follows start count before all
+in-end start count before all h = rw (le-leb (start + count) all h)

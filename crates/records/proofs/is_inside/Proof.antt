@@ -1,0 +1,13 @@
+-- `records::is_inside` meets its contract. Assumes nothing.
+use Rattle.records.proofs.Tests.{none-inside, some-inside}
+use Rattle.records.proofs.is_inside.Statement.{statement}
+use Rattle.records.proofs.is_inside.Tie as tie
+
+returns : tie.Need-returns
+returns c = search none-inside
+
+returns-2 : tie.Need-returns-2
+returns-2 c = search some-inside
+
+pub is-inside-spec : {M : Type 1} → statement M
+is-inside-spec = tie.close (tie.spec returns returns-2)

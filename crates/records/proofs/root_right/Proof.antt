@@ -1,0 +1,17 @@
+-- `records::root_right` meets its contract. Assumes nothing.
+use borrow.Author.Needs.{needs}
+use Rattle.records.proofs.ByKind.{root-parent, root-place, root-tag}
+use Rattle.records.proofs.root_right.Statement.{statement}
+use Rattle.records.proofs.root_right.Tie as tie
+
+returns : tie.Need-returns
+returns c = λ s h. root-parent s _ h (search needs)
+
+returns-2 : tie.Need-returns-2
+returns-2 c = λ s h. root-place s _ h (search needs) (search needs)
+
+returns-3 : tie.Need-returns-3
+returns-3 c = λ s h. root-tag s _ h (search needs) (search needs)
+
+pub root-right-spec : {M : Type 1} → statement M
+root-right-spec = tie.close (tie.spec returns returns-2 returns-3)

@@ -1,0 +1,96 @@
+// A list's payload: how many items and origins it has, the items (optional origin, name, value), the origins.
+use image::refusal::BAD_RANGE;
+use image::refusal::BAD_TEXT;
+ghost use mathlib.Core.Path.{_≡_};
+ghost use Prim.Native.Nat.{_+_, _*_, _≤_};
+ghost use lib.ListN.{length};
+ghost use Rattle.laws.specs.Refusal.{firstOf};
+ghost use Rattle.records.specs.Records.{payloadRule, listItemRule, listOriginRule, listItems};
+ghost use Rattle.records.specs.Shown.{bytesOnly};
+
+// Item `j` of the payload that starts at `at`.
+fn item(payload: &[u8], strings: &[u8], at: usize, j: usize) -> u32
+    requires { ⌜ at + 8 + j * 20 + 20 ≤ length (now payload) ⌝ }
+    ensures { λ r. ⌜ r ≡ listItemRule (bytesOnly (now (payload .entry)) (now (strings .entry))) at j ⌝ }
+{
+    let first = at + 8 + j * 20;
+    let origin = words::word(payload, first);
+    let origin_len = words::word(payload, first + 4);
+    let name = words::word(payload, first + 8);
+    let name_len = words::word(payload, first + 12);
+    if !image::good_optional(strings, origin, origin_len) {
+        return BAD_TEXT;
+    }
+    if !image::good_text(strings, name, name_len) {
+        return BAD_TEXT;
+    }
+    0
+}
+
+fn items_rule(payload: &[u8], strings: &[u8], at: usize, items: usize) -> u32
+    requires { ⌜ at + 8 + items * 20 ≤ length (now payload) ⌝ }
+    ensures { λ r. ⌜ r ≡ firstOf items (listItemRule (bytesOnly (now (payload .entry)) (now (strings .entry))) at) ⌝ }
+{
+    let mut j = 0;
+    while j < items {
+        let broken = item(payload, strings, at, j);
+        if broken != 0 {
+            return broken;
+        }
+        j += 1;
+    }
+    0
+}
+
+// Origin `j`, where the payload has so many items before its origins.
+fn origin(payload: &[u8], strings: &[u8], at: usize, items: usize, j: usize) -> u32
+    requires { ⌜ (at + 8 + items * 20 + j * 8 + 8 ≤ length (now payload)) × (items ≡ listItems (bytesOnly (now payload) (now strings)) at) ⌝ }
+    ensures { λ r. ⌜ r ≡ listOriginRule (bytesOnly (now (payload .entry)) (now (strings .entry))) at j ⌝ }
+{
+    let first = at + 8 + items * 20 + j * 8;
+    let text = words::word(payload, first);
+    let len = words::word(payload, first + 4);
+    if !image::good_text(strings, text, len) {
+        return BAD_TEXT;
+    }
+    0
+}
+
+fn origins_rule(payload: &[u8], strings: &[u8], at: usize, items: usize, origins: usize) -> u32
+    requires { ⌜ (at + 8 + items * 20 + origins * 8 ≤ length (now payload)) × (items ≡ listItems (bytesOnly (now payload) (now strings)) at) ⌝ }
+    ensures { λ r. ⌜ r ≡ firstOf origins (listOriginRule (bytesOnly (now (payload .entry)) (now (strings .entry))) at) ⌝ }
+{
+    let mut j = 0;
+    while j < origins {
+        let broken = origin(payload, strings, at, items, j);
+        if broken != 0 {
+            return broken;
+        }
+        j += 1;
+    }
+    0
+}
+
+// The payload of a list, whose length is exact.
+pub fn payload_rule(payload: &[u8], strings: &[u8], start: u32, len: u32) -> u32
+    ensures { λ r. ⌜ r ≡ payloadRule (bytesOnly (now (payload .entry)) (now (strings .entry))) start len ⌝ }
+{
+    let at = start as usize;
+    let size = len as usize;
+    if payload.len() < at + size {
+        return BAD_RANGE;
+    }
+    if size < 8 {
+        return BAD_RANGE;
+    }
+    let items = words::word(payload, at) as usize;
+    let origins = words::word(payload, at + 4) as usize;
+    if size != 8 + items * 20 + origins * 8 {
+        return BAD_RANGE;
+    }
+    let broken = items_rule(payload, strings, at, items);
+    if broken != 0 {
+        return broken;
+    }
+    origins_rule(payload, strings, at, items, origins)
+}

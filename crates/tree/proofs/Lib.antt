@@ -1,0 +1,11 @@
+pub mod Members
+pub mod Walks
+pub mod Entries
+pub mod Reading
+pub mod Climbing
+pub mod Numbers
+pub mod Stack
+pub mod Machine
+pub mod Tests
+pub mod Entering
+pub mod Loading

@@ -1,0 +1,102 @@
+use mathlib.Core.Path.{sym, _∙_}
+use mathlib.Core.List.{[]}
+use Prim.Native.Nat.{_+_, _-_}
+use native.Mathlib.Omega.{arith}
+use Rattle.words.proofs.Words.{length-words}
+use Rattle.tree.specs.Tree.{namedRule}
+use Rattle.tree.specs.Parts.{partsOf, namedNode}
+use Rattle.tree.proofs.Stack.{Pushing, push-start, push-more, push-end, push-stop}
+use Rattle.tree.proofs.Tests.{named-is, last-good}
+use borrow.Author.Needs.{needs}
+use Rattle.tree.proofs.push_named.Statement.{statement}
+use Rattle.tree.proofs.push_named.Tie as tie
+use Rattle.tree.proofs.push_named.Reads as reads
+use Rattle.tree.proofs.push_named.Lts as lts
+use Rattle.image.proofs.part_word.Reads as part-word-reads
+use Rattle.tree.proofs.named_rule.Reads as named-rule-reads
+
+abbrev Inv-loop : tie.InvT-loop
+Inv-loop nodes named strings id start count work₀ base depth j₀ work j =
+    Pushing (namedRule (partsOf nodes [] named strings) id) (namedNode (partsOf nodes [] named strings) id) count base depth work₀ work j
+
+abbrev μ-loop : tie.MeasureT-loop
+μ-loop nodes named strings id start count work₀ base depth j₀ work j = count - j
+
+loop-holds : tie.Need-loop-holds Inv-loop μ-loop
+loop-holds c = push-start _ _ _ _ _ _
+
+add-at : tie.Need-add-at Inv-loop μ-loop
+add-at c = omega (arith, length-words (c .before .before .before .before .before .before .args .named .now))
+
+named-rule-requires : tie.Need-named-rule-requires Inv-loop μ-loop
+named-rule-requires c κs =
+    (omega (arith, length-words (c .before .before .before .before .before .before .args .named .now)), (omega arith, last-good _ _ _ (c .before .loop .inv .passed)))
+
+same-length : tie.Need-same-length Inv-loop μ-loop
+same-length c = search needs
+
+returns : tie.Need-returns Inv-loop μ-loop
+returns c =
+    push-stop _ _ _ _ _ _ _ _ (c .before .before .before .loop .inv) _ (c .before .before .loop-test .taken) (c .if1 .taken) (sym (c .before .named-rule .ensures))
+
+mul-part-word : tie.Need-mul-part-word Inv-loop μ-loop
+mul-part-word c = omega (arith, length-words (c .before .before .before .before .before .before .before .before .args .named .now))
+
+add-part-word : tie.Need-add-part-word Inv-loop μ-loop
+add-part-word c = omega (arith, length-words (c .before .before .before .before .before .before .before .before .args .named .now))
+
+part-word-requires : tie.Need-part-word-requires Inv-loop μ-loop
+part-word-requires c κs = omega (arith, length-words (c .before .before .before .before .before .before .before .before .args .named .now))
+
+add-work : tie.Need-add-work Inv-loop μ-loop
+add-work c = search needs
+
+add-work-2 : tie.Need-add-work-2 Inv-loop μ-loop
+add-work-2 c = search needs
+
+mul-work : tie.Need-mul-work Inv-loop μ-loop
+mul-work c = search needs
+
+slice-write-work : tie.Need-slice-write-work Inv-loop μ-loop
+slice-write-work c = search needs
+
+add-j : tie.Need-add-j Inv-loop μ-loop
+add-j c = search needs
+
+loop-less : tie.Need-loop-less Inv-loop μ-loop
+loop-less c = search needs
+
+loop-again : tie.Need-loop-again Inv-loop μ-loop
+loop-again c =
+    push-more _ _ _ _ _ _ _ _ (c .before .before .before .before .loop .inv) _ _ (c .before .before .before .loop-test .taken) (c .before .before .before .before .before .before .before .before .before .pre .1 .1)
+    (named-is _ _ _ _ _ _ _ (c .before .before .before .before .before .before .before .before .before .pre .0) (c .part-word .ensures)) (sym (c .before .before .named-rule .ensures) ∙ c .before .if1 .left) (omega arith)
+
+same-length-2 : tie.Need-same-length-2 Inv-loop μ-loop
+same-length-2 c = search needs
+
+returns-2 : tie.Need-returns-2 Inv-loop μ-loop
+returns-2 c = push-end _ _ _ _ _ _ _ _ (c .before .loop .inv) (c .loop-test .left)
+
+pub push-named-spec : {M : Type 1} → statement M
+push-named-spec =
+    tie.close
+    (tie.spec
+    Inv-loop
+    μ-loop
+    loop-holds
+    add-at
+    named-rule-requires
+    same-length
+    returns
+    mul-part-word
+    add-part-word
+    part-word-requires
+    add-work
+    add-work-2
+    mul-work
+    slice-write-work
+    add-j
+    loop-less
+    loop-again
+    same-length-2
+    returns-2)
