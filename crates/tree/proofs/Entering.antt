@@ -34,7 +34,7 @@ module _ (rule₁ node₁ rule₂ node₂ : ℕ → ℕ) (c₁ c₂ base depth :
   together = length-reverse (ones ++ twos) ∙ length-append ones twos ∙ omega (arith, length-join c₁ node₁, length-join c₂ node₂)
 
   -- nothing to push
-  none-pushed : c₁ ≡ 0 → c₂ ≡ 0 → Entered (firstOf c₁ rule₁ ▸ firstOf c₂ rule₂) (reverse (ones ++ twos)) base depth w₀ w₀ 0 depth
+  pub none-pushed : c₁ ≡ 0 → c₂ ≡ 0 → Entered (firstOf c₁ rule₁ ▸ firstOf c₂ rule₂) (reverse (ones ++ twos)) base depth w₀ w₀ 0 depth
   unfolding firstOf joinOf _▸_
   none-pushed e k =
       let n = together in
@@ -48,7 +48,7 @@ module _ (rule₁ node₁ rule₂ node₂ : ℕ → ℕ) (c₁ c₂ base depth :
 
   module _ (w₁ : List ℕ) (r₁ : ℕ) (p : Pushed rule₁ node₁ c₁ base depth w₀ w₁ r₁) where
     -- one of the first run is refused
-    first-refused : (d : ℕ) → (r₁ ≡ 0 → ⊥) → Entered (firstOf c₁ rule₁ ▸ firstOf c₂ rule₂) (reverse (ones ++ twos)) base depth w₀ w₁ r₁ d
+    pub first-refused : (d : ℕ) → (r₁ ≡ 0 → ⊥) → Entered (firstOf c₁ rule₁ ▸ firstOf c₂ rule₂) (reverse (ones ++ twos)) base depth w₀ w₁ r₁ d
     first-refused d nz =
         let n = together in
         let e : r₁ ≡ suc (r₁ - 1) = omega arith in
@@ -62,7 +62,7 @@ module _ (rule₁ node₁ rule₂ node₂ : ℕ → ℕ) (c₁ c₂ base depth :
 
     -- the first run passes
     module _ (z₁ : r₁ ≡ 0) (w₂ : List ℕ) (r₂ d : ℕ) (q : Pushed rule₂ node₂ c₂ base (depth + c₁) w₁ w₂ r₂) (e : d ≡ depth + c₁ + c₂) where
-      second-pushed : Entered (firstOf c₁ rule₁ ▸ firstOf c₂ rule₂) (reverse (ones ++ twos)) base depth w₀ w₂ r₂ d
+      pub second-pushed : Entered (firstOf c₁ rule₁ ▸ firstOf c₂ rule₂) (reverse (ones ++ twos)) base depth w₀ w₂ r₂ d
       second-pushed =
           let n = together in
           let k : depth + length (reverse (ones ++ twos)) ≡ depth + c₁ + c₂ = omega arith in
@@ -131,7 +131,7 @@ module _ (ns cs ms ss : List ℕ) (i base depth : ℕ) (w₀ : List ℕ) where
   enter-leaf c = none-pushed (childRule here i) (childAt here i) (namedRule here i) (namedNode here i) (childrenOf here i) (namedOf here i) base depth w₀ (no-children c) (no-named c)
 
   module _ (c : isContainer here i ≡ true) (c₁ : ℕ) (e₁ : c₁ ≡ f here i 4) (w₁ : List ℕ) (r₁ : ℕ)
-    (p : Pushed (childRule (partsOf ns cs [] []) i) (childAt (partsOf ns cs [] []) i) c₁ base depth w₀ w₁ r₁) where
+      (p : Pushed (childRule (partsOf ns cs [] []) i) (childAt (partsOf ns cs [] []) i) c₁ base depth w₀ w₁ r₁) where
     first-run : Pushed (childRule here i) (childAt here i) (childrenOf here i) base depth w₀ w₁ r₁
     first-run = rw (children-many c, ← e₁) (children-here c₁ depth w₀ w₁ r₁ p)
 

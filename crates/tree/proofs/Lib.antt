@@ -9,3 +9,4 @@ pub mod Machine
 pub mod Tests
 pub mod Entering
 pub mod Loading
+pub mod Parts

@@ -131,6 +131,26 @@ module _ (test : ℕ → ℕ) (push : ℕ → List ℕ) (mark : ℕ → ℕ) (n 
       pub mark-seen : (i : ℕ) → i < n → eqb (getD w i 0) 0 ≡ not (has i (inv .seen))
       mark-seen i h = ap (λ (x : ℕ). eqb x 0) (inv .marked i h) ∙ mark-has mark (set-up .marks) (inv .seen) i
 
+      -- a store between the marks and the stack
+      pub walk-beside : (k x : ℕ) → n ≤ k → k < base → Walking w₀ (set w k x) d
+      walk-beside k x h l =
+          let word : (i : ℕ) → i < n → getD (set w k x) i 0 ≡ getD w i 0 = λ i q. getD-set-other w k i x 0 (λ e. omega arith) in
+          let s : stackOf (set w k x) base d ≡ stackOf w base d = stack-under w base d k x l in
+          let u : turnsLeft (set w k x) d ≡ turnsLeft w d = ap (λ (m : ℕ). m + d) (unmarked-same (set w k x) word) in
+          record {
+            seen = inv .seen;
+            long = simp length-set (inv .long);
+            enough = simp length-set (inv .enough);
+            high = drop-set-lt (base + total + 1) w k x (omega arith) ∙ inv .high;
+            room = omega (arith, inv .room);
+            marked = λ i q. word i q ∙ inv .marked i q;
+            same = inv .same ∙ (λ j. walk test push (sym u j) (inv .seen) (sym s j));
+            below = rw s (inv .below);
+          }
+        where
+          unmarked-same : (w₁ : List ℕ) → ((i : ℕ) → i < n → getD w₁ i 0 ≡ getD w i 0) → unmarked n weight w₁ ≡ unmarked n weight w
+          unmarked-same w₁ e = unfold unmarked in sum-ext n _ _ (λ j q. rw (e j q) refl)
+
       -- v is on top
       module _ (v : ℕ) (h : 0 < d) (top : v ≡ getD w (base + (d - 1)) 0) where
         popped : stackOf w base d ≡ v ∷ stackOf w base (d - 1)
@@ -171,23 +191,27 @@ module _ (test : ℕ → ℕ) (push : ℕ → List ℕ) (mark : ℕ → ℕ) (n 
           lighter w₁ nz others =
               let before : cond (eqb (getD w v 0) 0) (weight v) 0 ≡ weight v = rw (eq-eqb _ _ z) refl in
               let after : cond (eqb (getD w₁ v 0) 0) (weight v) 0 ≡ 0 = rw (ne-eqb _ _ nz) refl in
-              omega
-              (arith,
-              sum-point n v (λ j. cond (eqb (getD w j 0) 0) (weight j) 0) (λ j. cond (eqb (getD w₁ j 0) 0) (weight j) 0) top-below
-              (λ j k e. rw (others j k e) refl))
+              omega (
+                arith,
+                sum-point n v (λ j. cond (eqb (getD w j 0) 0) (weight j) 0) (λ j. cond (eqb (getD w₁ j 0) 0) (weight j) 0) top-below
+                    (λ j k e. rw (others j k e) refl),
+              )
 
           -- there are words for its entries
           pub push-room : (x : ℕ) → 0 < x → base + (d - 1) + length (push v) ≤ length (set w v x)
           push-room x some =
               simp length-set
-              (omega
-              (arith, inv .room, inv .enough,
-              lighter (set w v x) (λ e. omega (arith, getD-set-same w v x 0 (omega (arith, top-below, set-up .above, inv .enough))))
-              (λ i k e. getD-set-other w v i x 0 e)))
+              (omega (
+                arith,
+                inv .room,
+                inv .enough,
+                lighter (set w v x) (λ e. omega (arith, getD-set-same w v x 0 (omega (arith, top-below, set-up .above, inv .enough))))
+                    (λ i k e. getD-set-other w v i x 0 e),
+              ))
 
           -- it is entered
           module _ (x : ℕ) (is-mark : x ≡ mark (length (inv .seen))) (w₁ : List ℕ) (r d′ : ℕ)
-            (entered : Entered (test v) (push v) base (d - 1) (set w v x) w₁ r d′) (kept : length w₁ ≡ length (set w v x)) where
+              (entered : Entered (test v) (push v) base (d - 1) (set w v x) w₁ r d′) (kept : length w₁ ≡ length (set w v x)) where
             some-mark : 0 < x
             some-mark = omega (arith, set-up .marks (length (inv .seen)))
 

@@ -1,17 +1,20 @@
 -- The writer's walk: its marks are each node once, the root first, and all that entries lead to. Assumes nothing.
 use Prim.Native.Nat.{ℕ, zero, suc, _+_, _≤_, _<_}
 use mathlib.Core.Path.{_≡_, refl, sym, ap, _∙_, subst}
-use mathlib.Core.List.{List, [], _∷_, _++_}
-use mathlib.Core.Bool.{Bool, true, false, cond}
+use mathlib.Core.List.{List, [], _∷_, _++_, reverse, reverse-cons}
+use mathlib.Core.Bool.{Bool, true, false, cond, _||_, false≢true}
 use native.Mathlib.Omega.{arith}
-use lib.ListN.{length}
+use lib.ListN.{length, length-reverse}
+use lib.Dec.{eqb}
+use borrow.Author.Tests.{eqb-true}
 use Rattle.laws.specs.Counted.{sumOf}
-use Rattle.laws.specs.Lists.{has}
+use Rattle.laws.specs.Lists.{has, placeIn}
 use Rattle.image.specs.Sections.{Sections, nodeCount, childCount, namedCount}
 use Rattle.tree.specs.Tree.{childAt, namedAt, entryNodes, Walked, walk, turns, readWalk}
 use Rattle.tree.specs.Reach.{Reached, root, child, named}
+use Rattle.tree.specs.Work.{markIn}
 use Rattle.tree.specs.Parts.{Counts}
-use Rattle.tree.proofs.Members.{All, all-map, all-at, Distinct}
+use Rattle.tree.proofs.Members.{or-false, has-reverse, All, all-map, all-at, Distinct}
 use Rattle.tree.proofs.Walks.{walk-keeps, walk-passes, walk-marks, walk-closed, walk-first, Behind, Closed, pending, pushed}
 use Rattle.tree.proofs.Entries.{entry-each, child-entry, named-entry, entries-counted}
 
@@ -77,3 +80,41 @@ module _ (s : Sections) where
     reached-read x root = read-root
     reached-read x (child i j r h e) = read-closed i x (reached-read i r) (ap (λ (y : ℕ). has y (entryNodes s i)) e ∙ child-entry s i j h)
     reached-read x (named i j r h e) = read-closed i x (reached-read i r) (ap (λ (y : ℕ). has y (entryNodes s i)) e ∙ named-entry s i j h)
+
+-- ---- a mark that says the order: that of the place in the numbering
+
+place-front : (i : ℕ) (xs ys : List ℕ) → has i xs ≡ true → placeIn (xs ++ ys) i ≡ placeIn xs i
+unfolding has placeIn
+place-front i [] ys h = absurd (false≢true h)
+place-front i (x ∷ xs) ys h = go (eqb i x) h (place-front i xs ys)
+  where
+    go : (b : Bool) → (b || has i xs) ≡ true → (has i xs ≡ true → placeIn (xs ++ ys) i ≡ placeIn xs i)
+        → cond b 0 (suc (placeIn (xs ++ ys) i)) ≡ cond b 0 (suc (placeIn xs i))
+    go true q r = refl
+    go false q r = ap suc (r q)
+
+place-behind : (i : ℕ) (xs ys : List ℕ) → has i xs ≡ false → placeIn (xs ++ ys) i ≡ length xs + placeIn ys i
+unfolding has placeIn
+place-behind i [] ys h = omega arith
+place-behind i (x ∷ xs) ys h =
+    rw (or-false (eqb i x) (has i xs) h .0) (omega (arith, place-behind i xs ys (or-false (eqb i x) (has i xs) h .1)))
+
+pub mark-place : (mark : ℕ → ℕ) (seen : List ℕ) (i : ℕ) → Distinct seen → has i seen ≡ true → markIn mark seen i ≡ mark (placeIn (reverse seen) i)
+unfolding has placeIn markIn
+mark-place mark [] i d h = absurd (false≢true h)
+mark-place mark (x ∷ xs) i d h = go (eqb i x) refl h (mark-place mark xs i (d .1))
+  where
+    turned : reverse (x ∷ xs) ≡ reverse xs ++ (x ∷ [])
+    turned = reverse-cons x xs
+
+    go : (b : Bool) → eqb i x ≡ b → (b || has i xs) ≡ true → (has i xs ≡ true → markIn mark xs i ≡ mark (placeIn (reverse xs) i))
+        → cond b (mark (length xs)) (markIn mark xs i) ≡ mark (placeIn (reverse (x ∷ xs)) i)
+    go true e q r =
+        let n = eqb-true i x e in
+        let last : placeIn (x ∷ []) i ≡ 0 = rw e refl in
+        ap mark
+        (sym
+        (ap (λ (l : List ℕ). placeIn l i) turned
+        ∙ place-behind i (reverse xs) (x ∷ []) (has-reverse i xs ∙ ap (λ (y : ℕ). has y xs) n ∙ d .0)
+        ∙ omega (arith, length-reverse xs)))
+    go false e q r = r q ∙ ap mark (sym (ap (λ (l : List ℕ). placeIn l i) turned ∙ place-front i (reverse xs) (x ∷ []) (has-reverse i xs ∙ q)))

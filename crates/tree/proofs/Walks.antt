@@ -124,9 +124,10 @@ unfolding left has
 left-mark n i g seen h e =
     let before : cond (has i seen) 0 (g i) ≡ g i = rw e refl in
     let after : cond (eqb i i || has i seen) 0 (g i) ≡ 0 = rw (eq-eqb i i refl) refl in
-    omega
-    (arith,
-    sum-point n i (λ j. cond (has j seen) 0 (g j)) (λ j. cond (eqb j i || has j seen) 0 (g j)) h (λ j k d. rw (ne-eqb j i d) refl))
+    omega (
+      arith,
+      sum-point n i (λ j. cond (has j seen) 0 (g j)) (λ j. cond (eqb j i || has j seen) 0 (g j)) h (λ j k d. rw (ne-eqb j i d) refl),
+    )
 
 -- ---- a walk that has turns enough marks all that it owes
 
@@ -198,9 +199,11 @@ module _ (m : ℕ) (test : ℕ → ℕ) (push : ℕ → List ℕ) where
         over = λ marks due k p. none marks due (k .0) (k .2);
         done = λ k marks s p. ended marks (s .0);
         skip = λ k i marks due s e. (skipped i start marks due (s .0) e, s .1 .1, omega (arith, s .2));
-        enter = λ k i marks due s e p.
-            (entered i start marks due (s .0), all-append (λ x. x < m) (push i) due (down i (s .1 .0) p) (s .1 .1),
-            omega (arith, s .2, length-append (push i) due, left-mark m i weight marks (s .1 .0) e));
+        enter = λ k i marks due s e p. (
+          entered i start marks due (s .0),
+          all-append (λ x. x < m) (push i) due (down i (s .1 .0) p) (s .1 .1),
+          omega (arith, s .2, length-append (push i) due, left-mark m i weight marks (s .1 .0) e),
+        );
         refuse = λ k i r marks due s e p z. absurd (omega arith);
       }
         where

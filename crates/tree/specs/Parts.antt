@@ -2,7 +2,7 @@
 -- Assumes nothing.
 use Prim.Native.Nat.{ℕ, suc, _+_, _*_, _-_, _≤_, _<_}
 use mathlib.Core.Path.{_≡_}
-use mathlib.Core.List.{List, []}
+use mathlib.Core.List.{List, [], reverse}
 use mathlib.Core.Bool.{Bool, true, _&&_, _||_}
 use lib.ListN.{getD}
 use lib.Dec.{eqb}
@@ -11,7 +11,8 @@ use Rattle.texts.specs.Text.{before}
 use Rattle.image.specs.Header.{nodeWords}
 use Rattle.image.specs.Sections.{Sections, nodeCount, childCount, namedCount, f, isContainer, goodText, textIn}
 use Rattle.records.specs.Records.{childrenBefore, namedBefore}
-use Rattle.tree.specs.Tree.{namedAt}
+use Rattle.tree.specs.Tree.{childAt, namedAt, childRule, namedRule, entriesRule, entryNodes}
+use Rattle.tree.specs.Work.{Pushed, Entered}
 
 -- nodes, ordered children, named children and strings; the other sections do not matter here
 abbrev pub partsOf : List ℕ → List ℕ → List ℕ → List ℕ → Sections
@@ -58,3 +59,17 @@ shown named strings j = textIn strings (getD (wordsOf named) (j * 3) 0) (getD (w
 -- the entry that stands at a place of its container, and at j in the section, has a text after that of the entry before it
 unfoldable pub follows : List ℕ → List ℕ → ℕ → ℕ → Bool
 follows named strings j place = eqb place 0 || before (shown named strings (j - 1)) (shown named strings j)
+
+-- ---- pushes, by the parts that each reads
+
+-- of container i's ordered children
+abbrev pub ChildrenPushed : List ℕ → List ℕ → ℕ → ℕ → ℕ → ℕ → List ℕ → List ℕ → ℕ → Type 0
+ChildrenPushed ns cs i count base depth w₀ w r = Pushed (childRule (partsOf ns cs [] []) i) (childAt (partsOf ns cs [] []) i) count base depth w₀ w r
+
+-- of its named children
+abbrev pub NamedPushed : List ℕ → List ℕ → List ℕ → ℕ → ℕ → ℕ → ℕ → List ℕ → List ℕ → ℕ → Type 0
+NamedPushed ns ms ss i count base depth w₀ w r = Pushed (namedRule (partsOf ns [] ms ss) i) (namedNode (partsOf ns [] ms ss) i) count base depth w₀ w r
+
+-- of all its entries; the last is the newest
+abbrev pub NodeEntered : Sections → ℕ → ℕ → ℕ → List ℕ → List ℕ → ℕ → ℕ → Type 0
+NodeEntered s i base depth w₀ w r depth′ = Entered (entriesRule s i) (reverse (entryNodes s i)) base depth w₀ w r depth′

@@ -1,17 +1,13 @@
 // The tree: the rules of a container's entries, and the walk from the root.
 ghost use mathlib.Core.Path.{_≡_};
 ghost use mathlib.Core.List.{[], _++_, reverse};
-ghost use mathlib.Core.Bool.{true, not};
-ghost use Prim.Native.Nat.{ℕ, suc, _+_, _*_, _≤_, _<_};
+ghost use Prim.Native.Nat.{ℕ, _+_, _*_, _≤_, _<_};
 ghost use lib.ListN.{length, getD, drop, replicate};
-ghost use lib.Dec.{eqb};
 ghost use Rattle.laws.specs.Counted.{allOf};
-ghost use Rattle.laws.specs.Lists.{has};
-ghost use Rattle.image.specs.Sections.{nodeCount, childCount, namedCount, f, goodText, insideContainer};
-ghost use Rattle.records.specs.Records.{childrenOf, namedOf};
-ghost use Rattle.tree.specs.Tree.{childAt, namedAt, rightChild, childRule, namedRule, entriesRule, entryNodes, loadWalk, treeRule};
-ghost use Rattle.tree.specs.Work.{Pushed, Entered, Loaded, treeWords, marked};
-ghost use Rattle.tree.specs.Parts.{partsOf, Fit, LastGood, namedNode, follows};
+ghost use Rattle.image.specs.Sections.{nodeCount, childCount, namedCount, f, insideContainer};
+ghost use Rattle.tree.specs.Tree.{rightChild, namedRule, entryNodes, treeRule};
+ghost use Rattle.tree.specs.Work.{Loaded, treeWords, marked};
+ghost use Rattle.tree.specs.Parts.{partsOf, Fit, LastGood, follows, ChildrenPushed, NamedPushed, NodeEntered};
 use image::refusal;
 use texts::Order;
 
@@ -104,7 +100,7 @@ fn push_children(
 ) -> u32
     requires { ⌜ start ≡ f (partsOf (now nodes) (now children) [] []) id 3 ⌝ }
     requires { ⌜ (start + count ≤ childCount (partsOf (now nodes) (now children) [] [])) × (base + depth + count ≤ length (now work)) ⌝ }
-    ensures { λ r. ⌜ Pushed (childRule (partsOf (now (nodes .entry)) (now (children .entry)) [] []) id) (childAt (partsOf (now (nodes .entry)) (now (children .entry)) [] []) id) count base depth (now (work .entry)) (now (work .exit)) r ⌝ }
+    ensures { λ r. ⌜ ChildrenPushed (now (nodes .entry)) (now (children .entry)) id count base depth (now (work .entry)) (now (work .exit)) r ⌝ }
 {
     let mut j = 0;
     while j < count {
@@ -132,7 +128,7 @@ fn push_named(
 ) -> u32
     requires { ⌜ start ≡ f (partsOf (now nodes) [] (now named) (now strings)) id 5 ⌝ }
     requires { ⌜ (start + count ≤ namedCount (partsOf (now nodes) [] (now named) (now strings))) × (base + depth + count ≤ length (now work)) ⌝ }
-    ensures { λ r. ⌜ Pushed (namedRule (partsOf (now (nodes .entry)) [] (now (named .entry)) (now (strings .entry))) id) (namedNode (partsOf (now (nodes .entry)) [] (now (named .entry)) (now (strings .entry))) id) count base depth (now (work .entry)) (now (work .exit)) r ⌝ }
+    ensures { λ r. ⌜ NamedPushed (now (nodes .entry)) (now (named .entry)) (now (strings .entry)) id count base depth (now (work .entry)) (now (work .exit)) r ⌝ }
 {
     let mut j = 0;
     while j < count {
@@ -167,14 +163,26 @@ fn enter(
     requires { ⌜ Fit (partsOf (now nodes) (now children) (now named) (now strings)) ⌝ }
     requires { ⌜ id < nodeCount (partsOf (now nodes) (now children) (now named) (now strings)) ⌝ }
     requires { ⌜ base + depth + length (reverse (entryNodes (partsOf (now nodes) (now children) (now named) (now strings)) id)) ≤ length (now work) ⌝ }
-    ensures { λ r. ⌜ Entered (entriesRule (partsOf (now (nodes .entry)) (now (children .entry)) (now (named .entry)) (now (strings .entry))) id) (reverse (entryNodes (partsOf (now (nodes .entry)) (now (children .entry)) (now (named .entry)) (now (strings .entry))) id)) base depth (now (work .entry)) (now (work .exit)) (r .refused) (r .depth) ⌝ }
+    ensures { λ r. ⌜ NodeEntered (partsOf (now (nodes .entry)) (now (children .entry)) (now (named .entry)) (now (strings .entry))) id base depth (now (work .entry)) (now (work .exit)) (r .refused) (r .depth) ⌝ }
 {
     let node = image::node_record(nodes, id);
     if node.tag != 1 {
-        return Step { refused: 0, depth: depth };
+        return Step {
+            refused: 0,
+            depth: depth,
+        };
     }
     let ordered = node.f4 as usize;
-    let first = push_children(nodes, children, id, node.f3 as usize, ordered, work, base, depth);
+    let first = push_children(
+        nodes,
+        children,
+        id,
+        node.f3 as usize,
+        ordered,
+        work,
+        base,
+        depth,
+    );
     if first != 0 {
         return Step {
             refused: first,
@@ -227,7 +235,14 @@ fn all_marked(work: &[u32], n: usize) -> bool
 }
 
 // The walk from the root, newest entry first: marks in the first `count` words, which are 0, and the stack behind them.
-fn walk(nodes: &[u8], children: &[u8], named: &[u8], strings: &[u8], work: &mut [u32], count: usize) -> u32
+fn walk(
+    nodes: &[u8],
+    children: &[u8],
+    named: &[u8],
+    strings: &[u8],
+    work: &mut [u32],
+    count: usize,
+) -> u32
     requires { ⌜ Fit (partsOf (now nodes) (now children) (now named) (now strings)) ⌝ }
     requires { ⌜ count ≡ nodeCount (partsOf (now nodes) (now children) (now named) (now strings)) ⌝ }
     requires { ⌜ treeWords (partsOf (now nodes) (now children) (now named) (now strings)) ≤ length (now work) ⌝ }
@@ -252,7 +267,13 @@ fn walk(nodes: &[u8], children: &[u8], named: &[u8], strings: &[u8], work: &mut 
 }
 
 // Rows 14 (with 9 for a named target) and 15 of sections whose record rules have passed. The words that it needs are not zero afterwards.
-pub fn tree_rule(nodes: &[u8], children: &[u8], named: &[u8], strings: &[u8], work: &mut [u32]) -> u32
+pub fn tree_rule(
+    nodes: &[u8],
+    children: &[u8],
+    named: &[u8],
+    strings: &[u8],
+    work: &mut [u32],
+) -> u32
     requires { ⌜ Fit (partsOf (now nodes) (now children) (now named) (now strings)) ⌝ }
     requires { ⌜ treeWords (partsOf (now nodes) (now children) (now named) (now strings)) ≤ length (now work) ⌝ }
     ensures answer { λ r. ⌜ r ≡ treeRule (partsOf (now (nodes .entry)) (now (children .entry)) (now (named .entry)) (now (strings .entry))) ⌝ }

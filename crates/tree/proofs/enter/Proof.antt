@@ -1,3 +1,4 @@
+-- `tree::enter` meets its contract. Assumes nothing.
 use mathlib.Core.Path.{_≡_, refl, sym, _∙_}
 use Prim.Native.Nat.{_+_, _<_, _^_}
 use native.Mathlib.Omega.{arith}
@@ -9,11 +10,6 @@ use Rattle.tree.proofs.Entering.{enter-leaf, enter-refused, enter-pushe
 use borrow.Author.Needs.{needs}
 use Rattle.tree.proofs.enter.Statement.{statement}
 use Rattle.tree.proofs.enter.Tie as tie
-use Rattle.tree.proofs.enter.Reads as reads
-use Rattle.tree.proofs.enter.Lts as lts
-use Rattle.image.proofs.node_record.Reads as node-record-reads
-use Rattle.tree.proofs.push_children.Reads as push-children-reads
-use Rattle.tree.proofs.push_named.Reads as push-named-reads
 
 -- what is known once the node is read
 abbrev St : tie.After-node-record → tie.Start
@@ -34,67 +30,52 @@ room-of c e = room _ _ _ _ _ _ _ _ _ (node-is c) (St c .pre .0) (St c .pre .1 .0
 fits : (c : tie.After-node-record) → c .node-record .result .tag ≡ 1 → St c .args .depth + c .node-record .result .f4 + c .node-record .result .f6 < 2 ^ 63
 fits c e = omega (arith, room-of c e .words)
 
--- src/lib.rt:172:9
 node-record-requires : tie.Need-node-record-requires
 node-record-requires c κs = omega (arith, node-count (c .before .before .before .before .before .args .nodes .now), c .before .before .before .before .before .pre .1 .0)
 
--- src/lib.rt:174:9
 returns : tie.Need-returns
 returns c = enter-leaf _ _ _ _ _ _ _ _ (leaf _ _ _ (node-is (c .before .before)) (c .if1 .taken))
 
--- src/lib.rt:176:19
 cast-ordered : tie.Need-cast-ordered
 cast-ordered c = search needs
 
--- src/lib.rt:177:52
 cast-push-children : tie.Need-cast-push-children
 cast-push-children c = search needs
 
--- src/lib.rt:177:9
 push-children-requires : tie.Need-push-children-requires
 push-children-requires c κs =
     let r = room-of (c .before .before .before .before .before) (c .before .before .before .if1 .left) in (r .children-start, (r .children, omega arith))
 
--- src/lib.rt:179:9
 same-length : tie.Need-same-length
 same-length c = search needs
 
--- src/lib.rt:179:9
 returns-2 : tie.Need-returns-2
 returns-2 c =
     enter-refused _ _ _ _ _ _ _ _ (container _ _ _ (node-is (c .before .before .before .before .before .before .before .before .before)) (c .before .before .before .before .before .before .before .if1 .left)) _ (node-is (c .before .before .before .before .before .before .before .before .before) .f4) _ _
     (c .before .before .before .push-children .ensures) _ (c .if2 .taken)
 
--- src/lib.rt:184:17
 cast-count : tie.Need-cast-count
 cast-count c = search needs
 
--- src/lib.rt:190:9
 cast-push-named : tie.Need-cast-push-named
 cast-push-named c = search needs
 
--- src/lib.rt:194:9
 add-push-named : tie.Need-add-push-named
 add-push-named c = omega (arith, fits (c .before .before .before .before .before .before .before .before .before .before .before .before) (c .before .before .before .before .before .before .before .before .before .before .if1 .left))
 
--- src/lib.rt:185:9
 push-named-requires : tie.Need-push-named-requires
 push-named-requires c κs =
     let r = room-of (c .before .before .before .before .before .before .before .before .before .before .before .before) (c .before .before .before .before .before .before .before .before .before .before .if1 .left) in (r .named-start, (r .named, omega arith))
 
--- src/lib.rt:198:16
 add-t15 : tie.Need-add-t15
 add-t15 c = omega (arith, fits (c .before .before .before .before .before .before .before .before .before .before .before .before .before .before .before) (c .before .before .before .before .before .before .before .before .before .before .before .before .before .if1 .left))
 
--- src/lib.rt:198:16
 add-t20 : tie.Need-add-t20
 add-t20 c = omega (arith, fits (c .before .before .before .before .before .before .before .before .before .before .before .before .before .before .before) (c .before .before .before .before .before .before .before .before .before .before .before .before .before .if1 .left))
 
--- src/lib.rt:157:1
 same-length-2 : tie.Need-same-length-2
 same-length-2 c = search needs
 
--- src/lib.rt:157:1
 returns-3 : tie.Need-returns-3
 returns-3 c =
     enter-pushed _ _ _ _ _ _ _ _ (container _ _ _ (node-is (c .before .before .before .before .before .before .before .before .before .before .before .before .before .before .before)) (c .before .before .before .before .before .before .before .before .before .before .before .before .before .if1 .left)) _ (node-is (c .before .before .before .before .before .before .before .before .before .before .before .before .before .before .before) .f4) _ _

@@ -1,3 +1,4 @@
+-- `tree::push_children` meets its contract. Assumes nothing.
 use mathlib.Core.Path.{sym, _∙_}
 use mathlib.Core.List.{[]}
 use Prim.Native.Nat.{_+_, _-_}
@@ -11,10 +12,6 @@ use Rattle.tree.proofs.Tests.{child-is, child-passes, child-fails}
 use borrow.Author.Needs.{needs}
 use Rattle.tree.proofs.push_children.Statement.{statement}
 use Rattle.tree.proofs.push_children.Tie as tie
-use Rattle.tree.proofs.push_children.Reads as reads
-use Rattle.tree.proofs.push_children.Lts as lts
-use Rattle.image.proofs.part_word.Reads as part-word-reads
-use Rattle.tree.proofs.right_child.Reads as right-child-reads
 
 abbrev Inv-loop : tie.InvT-loop
 Inv-loop nodes children id start count work₀ base depth j₀ work j =

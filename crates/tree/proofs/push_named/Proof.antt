@@ -1,3 +1,4 @@
+-- `tree::push_named` meets its contract. Assumes nothing.
 use mathlib.Core.Path.{sym, _∙_}
 use mathlib.Core.List.{[]}
 use Prim.Native.Nat.{_+_, _-_}
@@ -10,10 +11,6 @@ use Rattle.tree.proofs.Tests.{named-is, last-good}
 use borrow.Author.Needs.{needs}
 use Rattle.tree.proofs.push_named.Statement.{statement}
 use Rattle.tree.proofs.push_named.Tie as tie
-use Rattle.tree.proofs.push_named.Reads as reads
-use Rattle.tree.proofs.push_named.Lts as lts
-use Rattle.image.proofs.part_word.Reads as part-word-reads
-use Rattle.tree.proofs.named_rule.Reads as named-rule-reads
 
 abbrev Inv-loop : tie.InvT-loop
 Inv-loop nodes named strings id start count work₀ base depth j₀ work j =

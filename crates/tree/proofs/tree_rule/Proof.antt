@@ -1,3 +1,4 @@
+-- `tree::tree_rule` meets its contract. Assumes nothing.
 use mathlib.Core.Path.{_≡_, refl, sym, _∙_, ap}
 use Prim.Native.Nat.{ℕ, _/_, _≤_}
 use native.Mathlib.Omega.{arith}
@@ -11,11 +12,6 @@ use Rattle.tree.proofs.Loading.{tree-refused, tree-passes, tree-unreach
 use borrow.Author.Needs.{needs}
 use Rattle.tree.proofs.tree_rule.Statement.{statement}
 use Rattle.tree.proofs.tree_rule.Tie as tie
-use Rattle.tree.proofs.tree_rule.Reads as reads
-use Rattle.tree.proofs.tree_rule.Lts as lts
-use Rattle.tree.proofs.all_marked.Reads as all-marked-reads
-use Rattle.tree.proofs.clear.Reads as clear-reads
-use Rattle.tree.proofs.walk.Reads as walk-reads
 
 abbrev Parts : tie.Start → Sections
 Parts s = partsOf (s .args .nodes .now) (s .args .children .now) (s .args .named .now) (s .args .strings .now)
@@ -24,49 +20,40 @@ Parts s = partsOf (s .args .nodes .now) (s .args .children .now) (s .args .named
 count-is : (s : tie.Start) → length (s .args .nodes .now) / 40 ≡ nodeCount (Parts s)
 count-is s = sym (node-count (s .args .nodes .now))
 
--- src/lib.rt:262:5
 clear-requires : tie.Need-clear-requires
 clear-requires c κs = omega (arith, count-is (c .before .before .before .before .before .before), c .before .before .before .before .before .before .pre .1)
 
--- src/lib.rt:263:9
 walk-requires : tie.Need-walk-requires
 walk-requires c κs = (
   c .before .before .before .before .before .before .before .before .before .before .pre .0,
   (count-is (c .before .before .before .before .before .before .before .before .before .before), (omega (arith, c .before .before .before .clear .kept .0, c .before .before .before .before .before .before .before .before .before .before .pre .1), λ i h. ap (λ (l : List ℕ). getD l i 0) (c .before .before .before .clear .ensures) ∙ cleared-zero _ _ i h)),
 )
 
--- src/lib.rt:265:9
 same-length : tie.Need-same-length
 same-length c = search needs
 
--- src/lib.rt:265:9
 returns : tie.Need-returns
 returns c = (
   tree-refused _ _ _ _ (c .before .before .before .walk .ensures) (c .if1 .taken),
   kept-words _ _ _ _ _ _ (count-is (c .before .before .before .before .before .before .before .before .before .before .before .before .before .before)) (c .before .before .before .before .before .before .before .clear .ensures) (c .before .before .before .walk .ensures),
 )
 
--- src/lib.rt:267:8
 all-marked-requires : tie.Need-all-marked-requires
 all-marked-requires c κs =
     omega (arith, c .before .before .before .before .walk .kept .1 .1 .1 .1 .0, c .before .before .before .before .before .before .before .before .clear .kept .0, count-is (c .before .before .before .before .before .before .before .before .before .before .before .before .before .before .before), c .before .before .before .before .before .before .before .before .before .before .before .before .before .before .before .pre .1)
 
--- src/lib.rt:255:1
 same-length-2 : tie.Need-same-length-2
 same-length-2 c = search needs
 
--- src/lib.rt:255:1
 returns-2 : tie.Need-returns-2
 returns-2 c = (
   sym (tree-passes _ _ _ _ (c .before .before .before .before .before .before .walk .ensures) (c .before .before .before .if1 .left) _ (count-is (c .before .before .before .before .before .before .before .before .before .before .before .before .before .before .before .before .before)) _ (c .before .all-marked .ensures) (c .if2 .taken)),
   kept-words _ _ _ _ _ _ (count-is (c .before .before .before .before .before .before .before .before .before .before .before .before .before .before .before .before .before)) (c .before .before .before .before .before .before .before .before .before .before .clear .ensures) (c .before .before .before .before .before .before .walk .ensures),
 )
 
--- src/lib.rt:255:1
 same-length-3 : tie.Need-same-length-3
 same-length-3 c = search needs
 
--- src/lib.rt:255:1
 returns-3 : tie.Need-returns-3
 returns-3 c = (
   sym (tree-unreached _ _ _ _ (c .before .before .before .before .before .before .walk .ensures) (c .before .before .before .if1 .left) _ (count-is (c .before .before .before .before .before .before .before .before .before .before .before .before .before .before .before .before .before)) _ (c .before .all-marked .ensures) (c .if2 .left)),

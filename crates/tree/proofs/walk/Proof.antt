@@ -1,3 +1,4 @@
+-- `tree::walk` meets its contract. Assumes nothing.
 use mathlib.Core.Path.{_≡_, refl, sym, _∙_}
 use Prim.Native.Nat.{ℕ, _+_, _-_, _≤_, _<_}
 use native.Mathlib.Omega.{arith}
@@ -9,9 +10,6 @@ use Rattle.tree.proofs.Loading.{LoadWalking, loadTurns, load-start, loa
 use borrow.Author.Needs.{needs}
 use Rattle.tree.proofs.walk.Statement.{statement}
 use Rattle.tree.proofs.walk.Tie as tie
-use Rattle.tree.proofs.walk.Reads as reads
-use Rattle.tree.proofs.walk.Lts as lts
-use Rattle.tree.proofs.enter.Reads as enter-reads
 
 abbrev Inv-loop : tie.InvT-loop
 Inv-loop nodes children named strings work₀ count depth₀ work depth = LoadWalking (partsOf nodes children named strings) count work₀ work depth
@@ -30,7 +28,6 @@ top-below : (c : tie.In-loop Inv-loop μ-loop) → top c < St (c .before) .args 
 top-below c =
     load-below _ _ (St (c .before) .pre .1 .0) (St (c .before) .pre .0 .counts) (St (c .before) .args .work .now) _ _ (c .before .loop .inv) _
     (c .loop-test .taken) refl
-
 
 mul-work : tie.Need-mul-work Inv-loop μ-loop
 mul-work c = search needs
