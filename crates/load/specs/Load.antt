@@ -26,15 +26,13 @@ checksumRule bs = unless (eqb (wordAt bs 84) (checksumOf bs)) 6
 unfoldable pub leftoverRule : Sections → ℕ
 leftoverRule s = unless (usedUp s && eqb (containersBefore s (nodeCount s)) (indexCount s)) 13
 
+-- rows 8 to 13
+unfoldable pub recordsRule : Sections → ℕ
+recordsRule s = unless (rootRight s) 8 ▸ firstOf (nodeCount s) (nodeRule s) ▸ leftoverRule s
+
 -- rows 8 to 17
 unfoldable pub sectionsRule : Sections → ℕ
-sectionsRule s =
-    unless (rootRight s) 8
-    ▸ firstOf (nodeCount s) (nodeRule s)
-    ▸ leftoverRule s
-    ▸ treeRule s
-    ▸ indexRule s
-    ▸ definitionsRule s
+sectionsRule s = recordsRule s ▸ treeRule s ▸ indexRule s ▸ definitionsRule s
 
 -- work words for loading
 abbrev pub loadWords : Sections → ℕ
@@ -71,5 +69,5 @@ workAfter needed r work = cond (early r) work (replicate needed 0 ++ drop needed
 
 -- names on an `unfolding` line what a computation with this module needs
 unfoldable pub loads : Unit {0}
-unfolding checksumRule leftoverRule sectionsRule loadRule loadedOf workAfter headers records trees indexes definitions crcs refusals
+unfolding checksumRule leftoverRule recordsRule sectionsRule loadRule loadedOf workAfter headers records trees indexes definitions crcs refusals
 loads = tt

@@ -1,21 +1,19 @@
 // The load of an image: its view, or the number of the first rule broken.
-mod nodes; // nodes.rt: the record rules, node by node
+mod nodes; // nodes.rt: rows 8 to 13, node by node
 
 use image::ImageView;
 use image::Opened;
 use image::refusal::BAD_CHECKSUM;
-use image::refusal::BAD_ROOT;
-use image::refusal::LEFT_OVER;
 use image::refusal::TOO_FEW_WORDS;
-use nodes::Nodes;
-use records::Counts;
-use records::Sums;
 ghost use mathlib.Core.Path.{_≡_};
-ghost use Prim.Native.Nat.{ℕ, _+_, _*_, _≤_, _<_};
+ghost use Prim.Native.Nat.{_≤_};
 ghost use lib.ListN.{length, drop};
-ghost use Rattle.words.specs.Words.{wordsOf};
-ghost use Rattle.image.specs.Header.{headerRule, sectionsOf, viewOf};
-ghost use Rattle.load.specs.Load.{loadRule, loadWords, loadedOf, sectionsRule, workAfter};
+ghost use Rattle.image.specs.Header.{headerRule, sectionsBy, sectionsOf, viewOf};
+ghost use Rattle.tree.specs.Tree.{treeRule};
+ghost use Rattle.index.specs.Index.{indexRule};
+ghost use Rattle.index.specs.Definitions.{definitionsRule};
+ghost use Rattle.laws.specs.Refusal.{_▸_};
+ghost use Rattle.load.specs.Load.{recordsRule, sectionsRule, loadRule, loadWords, loadedOf, workAfter};
 
 // An image that breaks no rule, by the view that its header gives; or the number of the first rule broken.
 pub enum Loaded {
@@ -23,8 +21,25 @@ pub enum Loaded {
     Refused(u32),
 }
 
-// Rows 16 and 17.
-fn indexes(bytes: &[u8], view: ImageView) -> u32 {
+// Rows 14 and 15, of sections whose records pass.
+fn tree_of(bytes: &[u8], view: ImageView, work: &mut [u32]) -> u32
+    requires { ⌜ recordsRule (sectionsBy (now bytes) view) ≡ 0 ⌝ }
+    requires { ⌜ loadWords (sectionsBy (now bytes) view) ≤ length (now work) ⌝ }
+    ensures answer { λ r. ⌜ r ≡ treeRule (sectionsBy (now (bytes .entry)) view) ⌝ }
+    ensures rest { λ r. ⌜ drop (loadWords (sectionsBy (now (bytes .entry)) view)) (now (work .exit)) ≡ drop (loadWords (sectionsBy (now (bytes .entry)) view)) (now (work .entry)) ⌝ }
+{
+    let nodes = image::section_part(bytes, view.nodes, ImageView::NODE_SIZE);
+    let children = image::section_part(bytes, view.children, ImageView::CHILD_SIZE);
+    let named = image::section_part(bytes, view.named, ImageView::NAMED_SIZE);
+    let strings = image::section_part(bytes, view.strings, ImageView::STRINGS_SIZE);
+    tree::tree_rule(nodes, children, named, strings, work)
+}
+
+// Rows 16 and 17, of sections whose records pass.
+fn index_of(bytes: &[u8], view: ImageView) -> u32
+    requires { ⌜ recordsRule (sectionsBy (now bytes) view) ≡ 0 ⌝ }
+    ensures { λ r. ⌜ r ≡ (indexRule (sectionsBy (now (bytes .entry)) view) ▸ definitionsRule (sectionsBy (now (bytes .entry)) view)) ⌝ }
+{
     let nodes = image::section_part(bytes, view.nodes, ImageView::NODE_SIZE);
     let paths = image::section_part(bytes, view.index, ImageView::INDEX_SIZE);
     let strings = image::section_part(bytes, view.strings, ImageView::STRINGS_SIZE);
@@ -37,57 +52,30 @@ fn indexes(bytes: &[u8], view: ImageView) -> u32 {
     index::definitions_rule(definitions, items, strings)
 }
 
-// Rows 14 and 15.
-fn tree(bytes: &[u8], view: ImageView, work: &mut [u32]) -> u32 {
-    let nodes = image::section_part(bytes, view.nodes, ImageView::NODE_SIZE);
-    let children = image::section_part(bytes, view.children, ImageView::CHILD_SIZE);
-    let named = image::section_part(bytes, view.named, ImageView::NAMED_SIZE);
-    let strings = image::section_part(bytes, view.strings, ImageView::STRINGS_SIZE);
-    tree::tree_rule(nodes, children, named, strings, work)
-}
-
-// Rows 8 to 13.
-fn records_of(bytes: &[u8], view: ImageView) -> u32 {
-    let nodes = image::section_part(bytes, view.nodes, ImageView::NODE_SIZE);
-    let payload = image::section_part(bytes, view.payload, ImageView::PAYLOAD_SIZE);
-    let strings = image::section_part(bytes, view.strings, ImageView::STRINGS_SIZE);
-    let counts = Counts {
-        nodes: view.nodes.count as usize,
-        children: view.children.count as usize,
-        named: view.named.count as usize,
-    };
-    if !records::root_right(image::node_record(nodes, 0)) {
-        return BAD_ROOT;
-    }
-    match nodes::nodes_rule(nodes, payload, strings, counts) {
-        Nodes::Refused(wrong) => wrong,
-        Nodes::Passed(sums) => left_over(sums, counts, payload.len(), view.index.count as usize),
-    }
-}
-
-// Row 13.
-fn left_over(sums: Sums, counts: Counts, payload: usize, index: usize) -> u32 {
-    if !records::used_up(sums, counts, payload) {
-        return LEFT_OVER;
-    }
-    if sums.containers == index { 0 } else { LEFT_OVER }
-}
-
-// Rows 8 to 17. The work words are used, and not cleared.
-fn sections_rule(bytes: &[u8], view: ImageView, work: &mut [u32]) -> u32 {
-    let first = records_of(bytes, view);
+// Rows 8 to 17. The work words that it needs are not zero afterwards.
+fn sections_rule(bytes: &[u8], view: ImageView, work: &mut [u32]) -> u32
+    requires { ⌜ loadWords (sectionsBy (now bytes) view) ≤ length (now work) ⌝ }
+    ensures answer { λ r. ⌜ r ≡ sectionsRule (sectionsBy (now (bytes .entry)) view) ⌝ }
+    ensures rest { λ r. ⌜ drop (loadWords (sectionsBy (now (bytes .entry)) view)) (now (work .exit)) ≡ drop (loadWords (sectionsBy (now (bytes .entry)) view)) (now (work .entry)) ⌝ }
+{
+    let first = nodes::records_rule(bytes, view);
     if first != 0 {
         return first;
     }
-    let second = tree(bytes, view, work);
+    let second = tree_of(bytes, view, work);
     if second != 0 {
         return second;
     }
-    indexes(bytes, view)
+    index_of(bytes, view)
 }
 
 // The rows after the header's.
-fn load_view(bytes: &[u8], view: ImageView, work: &mut [u32]) -> Loaded {
+fn load_view(bytes: &[u8], view: ImageView, work: &mut [u32]) -> Loaded
+    requires { ⌜ headerRule (now bytes) ≡ 0 ⌝ }
+    requires { ⌜ view ≡ viewOf (now bytes) ⌝ }
+    ensures answer { λ r. ⌜ r ≡ loadedOf (now (bytes .entry)) (length (now (work .entry))) ⌝ }
+    ensures words { λ r. ⌜ now (work .exit) ≡ workAfter (loadWords (sectionsOf (now (bytes .entry)))) (loadRule (now (bytes .entry)) (length (now (work .entry)))) (now (work .entry)) ⌝ }
+{
     if words::word(bytes, 84) != checksum::checksum(bytes) {
         return Loaded::Refused(BAD_CHECKSUM);
     }
