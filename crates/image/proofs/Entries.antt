@@ -1,6 +1,6 @@
 -- What the code reads out of a section's words are the words of that entry: of a node, a named entry, a definition, an item, an index entry.
 -- Assumes nothing.
-use Prim.Native.Nat.{ℕ}
+use Prim.Native.Nat.{ℕ, _*_}
 use mathlib.Core.Path.{_≡_, ap, _∙_}
 use mathlib.Core.List.{List}
 use native.Mathlib.Nat.{add-zero}
@@ -13,7 +13,7 @@ use Rattle.image.specs.Entries.{recordOf, textEntryOf, definitionOf, nod
 
 pub node-record : (s : Sections) (ws : List ℕ) (i : ℕ) → s .stride ≡ nodeWords → s .nodes ≡ ws → recordOf ws i ≡ nodeIn s i
 unfolding recordOf nodeWord
-node-record s ws i e q = rw (← q, e, add-zero)
+node-record s ws i e q = rw (← q, e, add-zero (i * nodeWords))
 
 pub named-entry : (s : Sections) (ws : List ℕ) (j : ℕ) → s .named ≡ ws → textEntryOf ws j ≡ namedIn s j
 unfolding textEntryOf namedWord

@@ -9,8 +9,8 @@ use Rattle.laws.specs.Lists.{Below}
 use Rattle.words.specs.Words.{NONE}
 use Rattle.image.specs.Sections.{Sections, nodeCount, childCount, namedCount, definitionCount, itemCount, indexCount, nodeWord, parentOf, placeOf, tagOf, f, childWord, namedWord, definitionWord, itemWord, indexWord, isContainer}
 use Rattle.image.specs.Header.{sectionsOf}
-use Rattle.records.specs.Fields.{Kind, Container, Choice, Command, Divert, Glue, Operator, Tag, BoolValue, IntValue, FloatValue, StringValue, ListValue, TargetValue, PointerValue, Assignment, Reference, Void, Unknown, kindOf, Field, text, optional, command, operator, node, optionalNode, container, optionalContainer, plain, atMost, children, named, payload, wrong}
-use Rattle.records.specs.Records.{fieldsAt, listItems, listOrigins, listWord, listItemWord, listOriginWord}
+use Rattle.records.specs.Fields.{kindOf, Field, text, optional, command, operator, node, optionalNode, container, optionalContainer, plain, atMost, children, named, payload, wrong}
+use Rattle.records.specs.Records.{targetOf, fieldsAt, listItems, listOrigins, listWord, listItemWord, listOriginWord}
 use Rattle.tree.specs.Tree.{childAt, namedAt}
 use Rattle.texts.specs.Dots.{dot}
 use Rattle.index.specs.Paths.{canonicalPath}
@@ -34,27 +34,6 @@ pub record ReachesRoot (s : Sections) (i : ℕ) : Type 0 where
   pub containers : (k : ℕ) → k < steps → isContainer s (climb s (suc k) i) ≡ true
 
 -- ---- targets and texts
-
--- f2 of tags 2, 4 and 13, f4 of 17; other kinds have none
-unfoldable pub targetOf : Sections → ℕ → Kind → ℕ
-targetOf s i Choice = f s i 2
-targetOf s i Divert = f s i 2
-targetOf s i TargetValue = f s i 2
-targetOf s i Reference = f s i 4
-targetOf s i Container = NONE
-targetOf s i Command = NONE
-targetOf s i Glue = NONE
-targetOf s i Operator = NONE
-targetOf s i Tag = NONE
-targetOf s i BoolValue = NONE
-targetOf s i IntValue = NONE
-targetOf s i FloatValue = NONE
-targetOf s i StringValue = NONE
-targetOf s i ListValue = NONE
-targetOf s i PointerValue = NONE
-targetOf s i Assignment = NONE
-targetOf s i Void = NONE
-targetOf s i Unknown = NONE
 
 -- present if not NONE, inside if below the node count
 abbrev pub TargetInside : Sections → ℕ → Type 0

@@ -8,6 +8,7 @@ ghost use lib.ListN.{length, drop, getD};
 ghost use Rattle.laws.specs.Counted.{allOf};
 ghost use Rattle.utf8.specs.Runs.{Passes, Advances};
 ghost use Rattle.utf8.specs.Utf8.{_··_, within, rows, fits, sizeIn, utf8};
+ghost use Rattle.utf8.specs.White.{whites, begins, frontOf, blank};
 
 // Whether b lies from `low` to `high`.
 fn lies(b: u8, low: u8, high: u8) -> bool
@@ -100,7 +101,7 @@ fn all_ascii(s: &[u8], at: usize) -> bool
     bits < 0x80
 }
 
-// An index after `at`, past ASCII alone: quick where there is much of it.
+// Goes on from `at` past ASCII, in blocks: quick where there is much of it. How far is its own choice.
 fn ascii_end(s: &[u8], at: usize) -> usize
     requires { ⌜ at ≤ length (now s) ⌝ }
     ensures { λ r. ⌜ Passes (sizeIn rows) (now (s .entry)) at r ⌝ }
@@ -115,7 +116,7 @@ fn ascii_end(s: &[u8], at: usize) -> usize
     i
 }
 
-// An end for a stretch that begins at `at`.
+// An end for a stretch that begins at `at`, of its own choice: 64 bytes on, or n.
 fn stop(at: usize, n: usize) -> usize
     requires { ⌜ at < n ⌝ }
     ensures { λ r. ⌜ (at < r) × (r ≤ n) ⌝ }
@@ -126,7 +127,7 @@ fn stop(at: usize, n: usize) -> usize
     at + 64
 }
 
-// An index after `at`, past whole sequences: a stretch of them. It is `at` if one of the stretch is ill-formed.
+// Goes on from `at` past a stretch of whole sequences, of a length of its own choice. It stays at `at` if one of them is ill-formed.
 fn stretch_end(s: &[u8], at: usize) -> usize
     requires { ⌜ at < length (now s) ⌝ }
     ensures { λ r. ⌜ Advances (sizeIn rows) (now (s .entry)) at r ⌝ }
@@ -158,6 +159,100 @@ pub fn valid(s: &[u8]) -> bool
             return false;
         }
         i = e;
+    }
+    true
+}
+
+// The byte of s at i, 0 past the end.
+fn byte(s: &[u8], i: usize) -> u8
+    ensures { λ r. ⌜ r ≡ getD (now (s .entry)) i 0 ⌝ }
+{
+    if i < s.len() {
+        return s[i];
+    }
+    0
+}
+
+// How many bytes the White_Space character has that begins with the bytes e2, 80, d, or 0.
+fn white_third(d: u8) -> usize
+    ensures { λ r. ⌜ r ≡ frontOf whites (0xe2 ∷ 0x80 ∷ d ∷ []) ⌝ }
+{
+    match d {
+        0x80..=0x8a => 3,
+        0xa8..=0xa9 => 3,
+        0xaf..=0xaf => 3,
+        _ => 0,
+    }
+}
+
+// The same for the bytes e2, c, d.
+fn white_second(c: u8, d: u8) -> usize
+    ensures { λ r. ⌜ r ≡ frontOf whites (0xe2 ∷ c ∷ d ∷ []) ⌝ }
+{
+    if c == 0x80 {
+        return white_third(d);
+    }
+    if c != 0x81 {
+        return 0;
+    }
+    if d != 0x9f {
+        return 0;
+    }
+    3
+}
+
+// The same for the bytes c2, c.
+fn white_latin(c: u8) -> usize
+    ensures { λ r. ⌜ r ≡ frontOf whites (0xc2 ∷ c ∷ []) ⌝ }
+{
+    if c == 0x85 {
+        return 2;
+    }
+    if c == 0xa0 {
+        return 2;
+    }
+    0
+}
+
+// 3 if c and d are the given bytes, else 0.
+fn white_pair(c: u8, d: u8, second: u8, third: u8) -> usize
+    ensures { λ r. ⌜ r ≡ cond (begins (second ∷ third ∷ []) (c ∷ d ∷ [])) 3 0 ⌝ }
+{
+    if c != second {
+        return 0;
+    }
+    if d != third {
+        return 0;
+    }
+    3
+}
+
+// How many bytes the White_Space character has that begins with the bytes b, c, d, or 0.
+fn white(b: u8, c: u8, d: u8) -> usize
+    ensures { λ r. ⌜ r ≡ frontOf whites (b ∷ c ∷ d ∷ []) ⌝ }
+{
+    match b {
+        0x09..=0x0d => 1,
+        0x20..=0x20 => 1,
+        0xc2..=0xc2 => white_latin(c),
+        0xe1..=0xe1 => white_pair(c, d, 0x9a, 0x80),
+        0xe2..=0xe2 => white_second(c, d),
+        0xe3..=0xe3 => white_pair(c, d, 0x80, 0x80),
+        _ => 0,
+    }
+}
+
+// Whether s is empty or White_Space alone.
+pub fn is_blank(s: &[u8]) -> bool
+    ensures { λ r. ⌜ r ≡ blank (now (s .entry)) ⌝ }
+{
+    let mut i = 0;
+    while i < s.len() {
+        let k = white(s[i], byte(s, i + 1), byte(s, i + 2));
+        if k == 0 {
+            return false;
+        }
+        i += k;
     }
     true
 }

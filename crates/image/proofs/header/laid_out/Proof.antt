@@ -1,23 +1,25 @@
--- `image::header::laid_out` meets its contract. The loop's invariant: the sections before k are right, and the last of them ends at `end`.
+-- `image::header::laid_out` meets its contract. The loop's invariant: the table is that of the definition, the sections before k are right, and the last of them ends at `end`.
 -- Assumes nothing.
 use Prim.Native.Nat.{_*_, _-_, _≤_}
 use native.Mathlib.Omega.{arith}
 use borrow.Author.Needs.{needs}
 use lib.ListN.{getD}
 use Rattle.words.specs.Words.{NONE}
+use mathlib.Core.Path.{_≡_, refl}
 use Rattle.image.specs.Header.{sizes}
 use Rattle.image.proofs.Rows.{Laid, laid-start, laid-next, laid-elsewhere, laid-past, laid-more, laid-empty, laid-right, size-bound, length-bound}
 use Rattle.image.proofs.header.laid_out.Statement.{statement}
 use Rattle.image.proofs.header.laid_out.Tie as tie
 
 abbrev Inv-loop : tie.InvT-loop
-Inv-loop bytes sizes end₀ k₀ end k = Laid bytes end k
+Inv-loop bytes table end₀ k₀ end k = (table ≡ sizes) × Laid bytes end k
 
 abbrev μ-loop : tie.MeasureT-loop
-μ-loop bytes sizes end₀ k₀ end k = 8 - k
+μ-loop bytes table end₀ k₀ end k = 8 - k
 
 loop-holds : tie.Need-loop-holds Inv-loop μ-loop
-loop-holds c = laid-start _
+unfolding sizes
+loop-holds c = (refl, laid-start _)
 
 section-at-requires : tie.Need-section-at-requires Inv-loop μ-loop
 section-at-requires c κs = search needs
@@ -28,7 +30,7 @@ cast-offset c = search needs
 returns : tie.Need-returns Inv-loop μ-loop
 returns c =
     let at = c .before .before .before .before .loop in
-    laid-elsewhere _ (at .end) (at .k) (at .inv) (c .before .before .section-at .result) (c .before .before .section-at .ensures) (search needs) (c .if1 .taken)
+    laid-elsewhere _ (at .end) (at .k) (at .inv .1) (c .before .before .section-at .result) (c .before .before .section-at .ensures) (search needs) (c .if1 .taken)
 
 cast-end : tie.Need-cast-end Inv-loop μ-loop
 cast-end c = search needs
@@ -58,7 +60,7 @@ returns-2 : tie.Need-returns-2 Inv-loop μ-loop
 unfolding sizes
 returns-2 c =
     let at = c .before .before .before .before .before .before .loop in
-    laid-past _ (at .end) (at .k) (at .inv) (c .before .before .before .before .section-at .result) (c .before .before .before .before .section-at .ensures) (search needs) (c .before .before .if1 .left) (c .if2 .taken)
+    laid-past _ (at .end) (at .k) (at .inv .1) (c .before .before .before .before .section-at .result) (c .before .before .before .before .section-at .ensures) (search needs) (c .before .before .if1 .left) (c .if2 .taken)
 
 add-k : tie.Need-add-k Inv-loop μ-loop
 add-k c = search needs
@@ -70,12 +72,12 @@ loop-again : tie.Need-loop-again Inv-loop μ-loop
 unfolding sizes
 loop-again c =
     let at = c .before .before .before .before .before .before .loop in
-    laid-next _ (at .end) (at .k) (at .inv) (c .before .before .before .before .section-at .result) (c .before .before .before .before .section-at .ensures) (search needs) (c .before .before .if1 .left) (c .if2 .left)
+    (at .inv .0, laid-next _ (at .end) (at .k) (at .inv .1) (c .before .before .before .before .section-at .result) (c .before .before .before .before .section-at .ensures) (search needs) (c .before .before .if1 .left) (c .if2 .left))
 
 returns-3 : tie.Need-returns-3 Inv-loop μ-loop
 returns-3 c =
     let at = c .before .before .loop in
-    laid-more _ (at .end) (at .k) (at .inv) (c .before .loop-test .left) (c .if3 .taken)
+    laid-more _ (at .end) (at .k) (at .inv .1) (c .before .loop-test .left) (c .if3 .taken)
 
 section-at-requires-2 : tie.Need-section-at-requires-2 Inv-loop μ-loop
 section-at-requires-2 c κs = search needs
@@ -83,12 +85,12 @@ section-at-requires-2 c κs = search needs
 returns-4 : tie.Need-returns-4 Inv-loop μ-loop
 returns-4 c =
     let at = c .before .before .before .before .before .loop in
-    laid-empty _ (at .end) (at .k) (at .inv) (c .before .before .before .before .loop-test .left) (c .before .before .section-at2 .result) (c .before .before .section-at2 .ensures) (c .if4 .taken)
+    laid-empty _ (at .end) (at .k) (at .inv .1) (c .before .before .before .before .loop-test .left) (c .before .before .section-at2 .result) (c .before .before .section-at2 .ensures) (c .if4 .taken)
 
 returns-5 : tie.Need-returns-5 Inv-loop μ-loop
 returns-5 c =
     let at = c .before .before .before .before .before .loop in
-    laid-right _ (at .end) (at .k) (at .inv) (c .before .before .before .before .loop-test .left) (c .before .before .before .if3 .left) (c .before .before .section-at2 .result) (c .before .before .section-at2 .ensures) (c .if4 .left)
+    laid-right _ (at .end) (at .k) (at .inv .1) (c .before .before .before .before .loop-test .left) (c .before .before .before .if3 .left) (c .before .before .section-at2 .result) (c .before .before .section-at2 .ensures) (c .if4 .left)
 
 pub laid-out-spec : {M : Type 1} → statement M
 laid-out-spec =

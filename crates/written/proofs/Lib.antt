@@ -1,0 +1,16 @@
+pub mod Lists
+pub mod Numbers
+pub mod Header
+pub mod Draft
+pub mod Texts
+pub mod Blocks
+pub mod Fields
+pub mod Payload
+pub mod Rules
+pub mod Tree
+pub mod Paths
+pub mod Index
+pub mod Definitions
+pub mod Words
+pub mod Loads
+pub mod Bytes

@@ -1,0 +1,156 @@
+-- Paths: the canonical path of a written container is that of the draft's, and is UTF-8. Assumes nothing.
+use Prim.Native.Nat.{ℕ, zero, suc, _<_}
+use mathlib.Core.Path.{_≡_, refl, sym, ap, _∙_, subst}
+use mathlib.Core.List.{List, [], _∷_}
+use mathlib.Core.Bool.{Bool, true, false, cond, _||_}
+use native.Mathlib.Omega.{arith}
+use lib.ListN.{length}
+use lib.Dec.{eqb}
+use borrow.Author.Tests.{eqb-true, eqb-false, eq-eqb, ne-eqb}
+use Rattle.laws.specs.Lists.{flatMap, placeIn}
+use Rattle.laws.proofs.First.{both, passed}
+use Rattle.words.specs.Words.{NONE}
+use Rattle.words.proofs.Words.{below-none, below-cons}
+use Rattle.texts.specs.Text.{holds}
+use Rattle.texts.specs.Decimal.{decimal}
+use Rattle.texts.specs.Dots.{dot}
+use Rattle.texts.proofs.Decimal.{decimal-digits}
+use Rattle.utf8.specs.Utf8.{utf8}
+use Rattle.utf8.proofs.Laws.{utf8-nil, utf8-append, utf8-ascii}
+use Rattle.image.specs.Sections.{Sections, nodeCount, parentOf, placeOf, tagOf, f, textAt, goodText, absent, inside, isContainer}
+use Rattle.records.specs.Fields.{kinds, kindOf, fields}
+use Rattle.records.specs.Records.{fieldRule, firstField}
+use Rattle.tree.proofs.Members.{both-true}
+use Rattle.index.specs.Paths.{nameless, piece, joined, pathFrom, canonicalPath}
+use Rattle.draft.specs.Numbering.{oldOf}
+use Rattle.encoder.specs.Strings.{textIf, fieldTexts, offsetOf}
+use Rattle.encoder.specs.Written.{fieldWords}
+use Rattle.written.proofs.Lists.{or-else}
+use Rattle.written.proofs.Texts.{in-left, in-one, offset-inside, good-utf8, good-length}
+use Rattle.written.proofs.Blocks.{w}
+use Rattle.written.proofs.Fields.{Given, counted, old-in, old-new, new-in, old-zero, new-zero, zero-old, place-word, container-reads}
+use Rattle.written.proofs.Payload.{strings-small}
+use Rattle.written.proofs.Rules.{text-at, parent-draft, parent-lt, parent-new}
+
+decimal-utf8 : (n : ℕ) → utf8 (decimal n) ≡ true
+decimal-utf8 n = utf8-ascii (decimal n) (λ x m. omega (arith, decimal-digits n x m .1))
+
+joined-utf8 : (p : ℕ) (a b : List ℕ) → utf8 a ≡ true → utf8 b ≡ true → utf8 (joined p a b) ≡ true
+joined-utf8 zero a b x y = y
+joined-utf8 (suc p) a b x y =
+    utf8-append a (dot ∷ b) x (utf8-append (dot ∷ []) b (utf8-ascii (dot ∷ []) (below-cons 128 dot [] (omega arith) (below-none 128))) y)
+
+joined-same : (p q : ℕ) (a b : List ℕ) → (p ≡ 0 → q ≡ 0) → (q ≡ 0 → p ≡ 0) → joined p a b ≡ joined q a b
+joined-same zero zero a b x y = refl
+joined-same zero (suc q) a b x y = absurd (omega (arith, x refl))
+joined-same (suc p) zero a b x y = absurd (omega (arith, y refl))
+joined-same (suc p) (suc q) a b x y = refl
+
+cond-same : (x y : ℕ) (a b c d : List ℕ) → x ≡ y → a ≡ b → c ≡ d → cond (eqb x 0) a c ≡ cond (eqb y 0) b d
+cond-same x y a b c d p q r = rw (p, q, r) refl
+
+module _ {s : Sections} {order : List ℕ} {kept : List (List ℕ)} (g : Given s order kept) where
+  abbrev v : Sections
+  v = w s order kept
+
+  -- ---- a container's name and piece
+
+  name-good : (i : ℕ) → i < nodeCount s → isContainer s i ≡ true → absent (f s i 0) (f s i 1) ≡ false → goodText s (f s i 0) (f s i 1) ≡ true
+  unfolding kinds fields firstField fieldRule
+  name-good i h c e =
+      or-else (absent (f s i 0) (f s i 1)) (goodText s (f s i 0) (f s i 1))
+      (passed _ 9 (both _ _ (subst (λ (tag : ℕ). firstField s i (fields (kindOf tag)) ≡ 0) (eqb-true (tagOf s i) 1 c) (g .taken .fields i h)) .0)) e
+
+  piece-utf8 : (i : ℕ) → i < nodeCount s → isContainer s i ≡ true → utf8 (piece s i) ≡ true
+  unfolding piece nameless
+  piece-utf8 i h c = go (absent (f s i 0) (f s i 1)) refl (eqb (f s i 1) 0)
+    where
+      go : (a : Bool) → absent (f s i 0) (f s i 1) ≡ a → (b : Bool) → utf8 (cond (a || b) (decimal (placeOf s i)) (textAt s (f s i 0) (f s i 1))) ≡ true
+      go true e b = decimal-utf8 (placeOf s i)
+      go false e true = decimal-utf8 (placeOf s i)
+      go false e false = good-utf8 s (f s i 0) (f s i 1) (name-good i h c e)
+
+  module _ (j : ℕ) (h : j < nodeCount s) (c : isContainer s (oldOf order j) ≡ true) where
+    abbrev i : ℕ
+    i = oldOf order j
+
+    abbrev name : List ℕ
+    name = textAt s (f s i 0) (f s i 1)
+
+    name-stored : absent (f s i 0) (f s i 1) ≡ false → holds kept name ≡ true
+    unfolding kinds fields fieldTexts flatMap
+    name-stored e =
+        g .stored .nodes j h name
+        (subst (λ (tag : ℕ). holds (flatMap (fieldTexts s i) (fields (kindOf tag))) name ≡ true) (sym (eqb-true (tagOf s i) 1 c))
+        (in-left (textIf s (f s i 0) (f s i 1)) _ name (rw e (in-one name))))
+
+    piece-same : piece v j ≡ piece s i
+    unfolding piece nameless fields fieldWords
+    piece-same =
+        let r = container-reads g j h c .0 in
+        go (absent (f s i 0) (f s i 1)) refl (r .0) (r .1 .0)
+      where
+        go : (a : Bool) → absent (f s i 0) (f s i 1) ≡ a → f v j 0 ≡ cond a NONE (offsetOf kept name) → f v j 1 ≡ cond a NONE (length name)
+            → cond (absent (f v j 0) (f v j 1) || eqb (f v j 1) 0) (decimal (placeOf v j)) (textAt v (f v j 0) (f v j 1))
+            ≡ cond (a || eqb (f s i 1) 0) (decimal (placeOf s i)) name
+        go true e p q = rw (eq-eqb (f v j 0) NONE p, eq-eqb (f v j 1) NONE q) (ap decimal (place-word g j h))
+        go false e p q =
+            let held = name-stored e in
+            let inner = offset-inside kept name held in
+            let small = strings-small g in
+            rw (ne-eqb (f v j 0) NONE (λ z. omega arith))
+            (cond-same (f v j 1) (f s i 1) (decimal (placeOf v j)) (decimal (placeOf s i)) (textAt v (f v j 0) (f v j 1)) name
+            (q ∙ good-length s (f s i 0) (f s i 1) (name-good i (old-in g j h) c e)) (ap decimal (place-word g j h))
+            (text-at g name (f v j 0) (f v j 1) held p q))
+
+  -- ---- paths
+
+  path-utf8-from : (n i : ℕ) → i < nodeCount s → isContainer s i ≡ true → utf8 (pathFrom n s i) ≡ true
+  unfolding pathFrom
+  path-utf8-from zero i h c = utf8-nil
+  path-utf8-from (suc n) i h c = go (eqb i 0) refl (path-utf8-from n (parentOf s i))
+    where
+      go : (b : Bool) → eqb i 0 ≡ b → (parentOf s i < nodeCount s → isContainer s (parentOf s i) ≡ true → utf8 (pathFrom n s (parentOf s i)) ≡ true)
+          → utf8 (cond b [] (joined (parentOf s i) (pathFrom n s (parentOf s i)) (piece s i))) ≡ true
+      go true e r = utf8-nil
+      go false e r =
+          let d = eqb-false i 0 e in
+          joined-utf8 (parentOf s i) (pathFrom n s (parentOf s i)) (piece s i)
+          (r (parent-lt g i h d) (both-true (inside s (parentOf s i)) _ (parent-draft g i h d .0) .1)) (piece-utf8 i h c)
+
+  pub path-utf8 : (i : ℕ) → i < nodeCount s → isContainer s i ≡ true → utf8 (canonicalPath s i) ≡ true
+  path-utf8 i h c = path-utf8-from (nodeCount s) i h c
+
+  path-from : (n j : ℕ) → j < nodeCount s → isContainer s (oldOf order j) ≡ true → pathFrom n v j ≡ pathFrom n s (oldOf order j)
+  unfolding pathFrom
+  path-from zero j h c = refl
+  path-from (suc n) j h c = go (eqb j 0) refl (eqb i 0) refl (path-from n (parentOf v j))
+    where
+      i : ℕ
+      i = oldOf order j
+
+      k : i < nodeCount s
+      k = old-in g j h
+
+      go : (a : Bool) → eqb j 0 ≡ a → (b : Bool) → eqb i 0 ≡ b
+          → (parentOf v j < nodeCount s → isContainer s (oldOf order (parentOf v j)) ≡ true → pathFrom n v (parentOf v j) ≡ pathFrom n s (oldOf order (parentOf v j)))
+          → cond a [] (joined (parentOf v j) (pathFrom n v (parentOf v j)) (piece v j)) ≡ cond b [] (joined (parentOf s i) (pathFrom n s (parentOf s i)) (piece s i))
+      go true x true y r = refl
+      go true x false y r = absurd (eqb-false i 0 y (ap (oldOf order) (eqb-true j 0 x) ∙ old-zero g))
+      go false x true y r = absurd (eqb-false j 0 x (zero-old g j h (eqb-true i 0 y)))
+      go false x false y r =
+          let d = eqb-false i 0 y in
+          let q = parentOf s i in
+          let low = parent-lt g i k d in
+          let up = parent-new g j h d in
+          let back : oldOf order (parentOf v j) ≡ q = ap (oldOf order) up ∙ old-new g q low in
+          let box = both-true (inside s q) (isContainer s q) (parent-draft g i k d .0) .1 in
+          let front = r (subst (λ (m : ℕ). m < nodeCount s) (sym up) (new-in g q low)) (ap (isContainer s) back ∙ box) ∙ ap (pathFrom n s) back in
+          ap (λ (l : List ℕ). joined (parentOf v j) l (piece v j)) front
+          ∙ ap (joined (parentOf v j) (pathFrom n s q)) (piece-same j h c)
+          ∙ joined-same (parentOf v j) q (pathFrom n s q) (piece s i)
+          (λ z. sym back ∙ ap (oldOf order) z ∙ old-zero g)
+          (λ z. up ∙ ap (placeIn order) z ∙ new-zero g)
+
+  pub path-same : (j : ℕ) → j < nodeCount s → isContainer s (oldOf order j) ≡ true → canonicalPath v j ≡ canonicalPath s (oldOf order j)
+  path-same j h c = ap (λ (n : ℕ). pathFrom n v j) (counted g) ∙ path-from (nodeCount s) j h c

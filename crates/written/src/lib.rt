@@ -1,0 +1,1 @@
+// What is known of every written image: proofs alone, no code.
