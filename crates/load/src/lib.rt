@@ -35,3 +35,70 @@ fn tree_of(bytes: &[u8], view: ImageView, work: &mut [u32]) -> u32
     tree::tree_rule(nodes, children, named, strings, work)
 }
 
+// Rows 16 and 17, of sections whose records pass.
+fn index_of(bytes: &[u8], view: ImageView) -> u32
+    requires { ⌜ recordsRule (sectionsBy (now bytes) view) ≡ 0 ⌝ }
+    ensures { λ r. ⌜ r ≡ (indexRule (sectionsBy (now (bytes .entry)) view) ▸ definitionsRule (sectionsBy (now (bytes .entry)) view)) ⌝ }
+{
+    let nodes = image::section_part(bytes, view.nodes, ImageView::NODE_SIZE);
+    let paths = image::section_part(bytes, view.index, ImageView::INDEX_SIZE);
+    let strings = image::section_part(bytes, view.strings, ImageView::STRINGS_SIZE);
+    let wrong = index::index_rule(nodes, paths, strings);
+    if wrong != 0 {
+        return wrong;
+    }
+    let definitions = image::section_part(bytes, view.definitions, ImageView::DEFINITION_SIZE);
+    let items = image::section_part(bytes, view.items, ImageView::ITEM_SIZE);
+    index::definitions_rule(definitions, items, strings)
+}
+
+// Rows 8 to 17. The work words that it needs are not zero afterwards.
+fn sections_rule(bytes: &[u8], view: ImageView, work: &mut [u32]) -> u32
+    requires { ⌜ loadWords (sectionsBy (now bytes) view) ≤ length (now work) ⌝ }
+    ensures answer { λ r. ⌜ r ≡ sectionsRule (sectionsBy (now (bytes .entry)) view) ⌝ }
+    ensures rest { λ r. ⌜ drop (loadWords (sectionsBy (now (bytes .entry)) view)) (now (work .exit)) ≡ drop (loadWords (sectionsBy (now (bytes .entry)) view)) (now (work .entry)) ⌝ }
+{
+    let first = nodes::records_rule(bytes, view);
+    if first != 0 {
+        return first;
+    }
+    let second = tree_of(bytes, view, work);
+    if second != 0 {
+        return second;
+    }
+    index_of(bytes, view)
+}
+
+// The rows after the header's.
+fn load_view(bytes: &[u8], view: ImageView, work: &mut [u32]) -> Loaded
+    requires { ⌜ headerRule (now bytes) ≡ 0 ⌝ }
+    requires { ⌜ view ≡ viewOf (now bytes) ⌝ }
+    ensures answer { λ r. ⌜ r ≡ loadedOf (now (bytes .entry)) (length (now (work .entry))) ⌝ }
+    ensures words { λ r. ⌜ now (work .exit) ≡ workAfter (loadWords (sectionsOf (now (bytes .entry)))) (loadRule (now (bytes .entry)) (length (now (work .entry)))) (now (work .entry)) ⌝ }
+{
+    if words::word(bytes, 84) != checksum::checksum(bytes) {
+        return Loaded::Refused(BAD_CHECKSUM);
+    }
+    let needed = view.nodes.count as usize + view.children.count as usize + view.named.count as usize + 1;
+    if work.len() < needed {
+        return Loaded::Refused(TOO_FEW_WORDS);
+    }
+    let wrong = sections_rule(bytes, view, work);
+    tree::clear(work, needed);
+    if wrong == 0 {
+        Loaded::View(view)
+    } else {
+        Loaded::Refused(wrong)
+    }
+}
+
+// Loads an image. As many work words as nodes, ordered children and named entries, and one more, are used, and zero on return.
+pub fn load(bytes: &[u8], work: &mut [u32]) -> Loaded
+    ensures answer { λ r. ⌜ r ≡ loadedOf (now (bytes .entry)) (length (now (work .entry))) ⌝ }
+    ensures words { λ r. ⌜ now (work .exit) ≡ workAfter (loadWords (sectionsOf (now (bytes .entry)))) (loadRule (now (bytes .entry)) (length (now (work .entry)))) (now (work .entry)) ⌝ }
+{
+    match ImageView::new(bytes) {
+        Opened::Refused(wrong) => Loaded::Refused(wrong),
+        Opened::View(view) => load_view(bytes, view, work),
+    }
+}
