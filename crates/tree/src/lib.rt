@@ -29,7 +29,7 @@ fn right_child(nodes: &[u8], child: u32, id: usize, place: usize) -> bool
 }
 
 // Whether the word is a container.
-fn is_container(nodes: &[u8], node: u32) -> bool
+pub fn is_container(nodes: &[u8], node: u32) -> bool
     ensures { λ r. ⌜ r ≡ insideContainer (partsOf (now (nodes .entry)) [] [] []) node ⌝ }
 {
     let at = node as usize;
