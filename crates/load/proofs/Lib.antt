@@ -1,3 +1,4 @@
 pub mod Reading
 pub mod Looping
 pub mod Rows
+pub mod Indexes

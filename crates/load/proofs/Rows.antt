@@ -24,6 +24,8 @@ use Rattle.records.specs.Records.{nodeRule, rootRight, usedUp, containersBefore
 use Rattle.records.specs.Shown.{sumsBefore}
 use Rattle.records.proofs.Tests.{refused}
 use Rattle.tree.specs.Tree.{treeRule}
+use Rattle.index.specs.Index.{indexRule}
+use Rattle.index.specs.Definitions.{definitionsRule}
 use Rattle.tree.specs.Parts.{Fit, partsOf}
 use Rattle.tree.specs.Work.{treeWords}
 use Rattle.tree.proofs.Entries.{fit}
@@ -31,7 +33,7 @@ use Rattle.tree.proofs.Parts.{parts-words, parts-fit, parts-rule}
 use Rattle.load.specs.declared.nodes.Nodes.{Nodes}
 use Rattle.load.specs.declared.nodes.Nodes.the-variants.{Passed, Refused}
 use Rattle.load.specs.Nodes.{nodesBy, nodesOf}
-use Rattle.load.specs.Load.{leftoverRule, recordsRule, loadWords}
+use Rattle.load.specs.Load.{leftoverRule, recordsRule, sectionsRule, loadWords}
 use Rattle.load.proofs.Reading.{ten}
 
 -- ---- row 13
@@ -181,3 +183,21 @@ module _ (bs : List ℕ) (v : ImageView) (ns cs ms ss : List ℕ) (n : ns ≡ se
   pub part-rest : (w₀ w : List ℕ) → drop (treeWords (partsOf ns cs ms ss)) w ≡ drop (treeWords (partsOf ns cs ms ss)) w₀
       → drop (loadWords (sectionsBy bs v)) w ≡ drop (loadWords (sectionsBy bs v)) w₀
   part-rest w₀ w e = rw part-words at e
+
+-- ---- rows 8 to 17
+
+module _ (s : Sections) (a : ℕ) (e : a ≡ recordsRule s) where
+  pub records-refused : (a ≡ 0 → ⊥) → a ≡ sectionsRule s
+  unfolding sectionsRule
+  records-refused d = refused (recordsRule s) (treeRule s ▸ indexRule s ▸ definitionsRule s) a e d
+
+  module _ (z : a ≡ 0) (b : ℕ) (f : b ≡ treeRule s) where
+    past-records : sectionsRule s ≡ (treeRule s ▸ indexRule s ▸ definitionsRule s)
+    unfolding sectionsRule
+    past-records = second (recordsRule s) (treeRule s ▸ indexRule s ▸ definitionsRule s) (sym e ∙ z)
+
+    pub tree-refused : (b ≡ 0 → ⊥) → b ≡ sectionsRule s
+    tree-refused d = refused (treeRule s) (indexRule s ▸ definitionsRule s) b f d ∙ sym past-records
+
+    pub tree-passed : (c : ℕ) → b ≡ 0 → c ≡ (indexRule s ▸ definitionsRule s) → c ≡ sectionsRule s
+    tree-passed c y g = g ∙ sym (second (treeRule s) (indexRule s ▸ definitionsRule s) (sym f ∙ y)) ∙ sym past-records

@@ -35,9 +35,8 @@ fn tree_of(bytes: &[u8], view: ImageView, work: &mut [u32]) -> u32
     tree::tree_rule(nodes, children, named, strings, work)
 }
 
-// Rows 16 and 17, of sections whose records pass.
+// Rows 16 and 17.
 fn index_of(bytes: &[u8], view: ImageView) -> u32
-    requires { ⌜ recordsRule (sectionsBy (now bytes) view) ≡ 0 ⌝ }
     ensures { λ r. ⌜ r ≡ (indexRule (sectionsBy (now (bytes .entry)) view) ▸ definitionsRule (sectionsBy (now (bytes .entry)) view)) ⌝ }
 {
     let nodes = image::section_part(bytes, view.nodes, ImageView::NODE_SIZE);
