@@ -78,7 +78,10 @@ fn load_view(bytes: &[u8], view: ImageView, work: &mut [u32]) -> Loaded
     if words::word(bytes, 84) != checksum::checksum(bytes) {
         return Loaded::Refused(BAD_CHECKSUM);
     }
-    let needed = view.nodes.count as usize + view.children.count as usize + view.named.count as usize + 1;
+    let needed = view.nodes.count as usize
+        + view.children.count as usize
+        + view.named.count as usize
+        + 1;
     if work.len() < needed {
         return Loaded::Refused(TOO_FEW_WORDS);
     }

@@ -116,7 +116,11 @@ fn left_over(bytes: &[u8], view: ImageView, counts: Counts, sums: Sums) -> u32
     if !records::used_up(sums, counts, payload.len()) {
         return LEFT_OVER;
     }
-    if sums.containers == index.len() / 12 { 0 } else { LEFT_OVER }
+    if sums.containers == index.len() / 12 {
+        0
+    } else {
+        LEFT_OVER
+    }
 }
 
 // Rows 8 to 13.

@@ -3,11 +3,6 @@ use Rattle.load.proofs.Indexes.{index-refused, index-passed}
 use borrow.Author.Needs.{needs}
 use Rattle.load.proofs.index_of.Statement.{statement}
 use Rattle.load.proofs.index_of.Tie as tie
-use Rattle.load.proofs.index_of.Reads as reads
-use Rattle.load.proofs.index_of.Lts as lts
-use Rattle.image.proofs.section_part.Reads as section-part-reads
-use Rattle.index.proofs.definitions_rule.Reads as definitions-rule-reads
-use Rattle.index.proofs.index_rule.Reads as index-rule-reads
 
 section-part-requires : tie.Need-section-part-requires
 section-part-requires c κs = search needs

@@ -1,76 +1,87 @@
+-- `load::load_view` meets its contract: checksum, work words, sections; then the words are cleared. Assumes nothing.
+use mathlib.Core.Path.{_≡_, refl, sym, ap, _∙_}
+use native.Mathlib.Omega.{arith}
+use Rattle.image.proofs.Opening.{opens}
+use Rattle.load.proofs.Loading.{refused-load, accepted-load, left-alone-at, needed-is, sum-wrong, too-few, few-of, most-of, enough-of, sections-decide, words-after}
 use borrow.Author.Needs.{needs}
 use Rattle.load.proofs.load_view.Statement.{statement}
 use Rattle.load.proofs.load_view.Tie as tie
-use Rattle.load.proofs.load_view.Reads as reads
-use Rattle.load.proofs.load_view.Lts as lts
-use Rattle.checksum.proofs.checksum.Reads as checksum-reads
-use Rattle.load.proofs.sections_rule.Reads as sections-rule-reads
-use Rattle.tree.proofs.clear.Reads as clear-reads
-use Rattle.words.proofs.word.Reads as word-reads
 
--- src/lib.rt:78:8
 word-requires : tie.Need-word-requires
-word-requires c κs = ?
+word-requires c κs = let o = opens _ (c .before .before .pre .0) in omega arith
 
--- src/lib.rt:78:34
 checksum-requires : tie.Need-checksum-requires
 checksum-requires c κs = search needs
 
--- src/lib.rt:79:9
 returns : tie.Need-returns
-returns c = ?
+returns c =
+    let at = c .before .before .before .before .before in
+    let e = sum-wrong _ _ (at .pre .0) (at .pre .1) _ _ _ (c .before .before .word .ensures) (c .before .checksum .ensures) (c .if1 .taken) in
+    (refused-load _ _ _ e (λ q. omega arith), left-alone-at _ _ _ _ e refl)
 
--- src/lib.rt:81:18
 cast-needed : tie.Need-cast-needed
 cast-needed c = search needs
 
--- src/lib.rt:81:46
 cast-needed-2 : tie.Need-cast-needed-2
 cast-needed-2 c = search needs
 
--- src/lib.rt:81:18
 add-needed : tie.Need-add-needed
 add-needed c = search needs
 
--- src/lib.rt:81:77
 cast-needed-3 : tie.Need-cast-needed-3
 cast-needed-3 c = search needs
 
--- src/lib.rt:81:18
 add-needed-2 : tie.Need-add-needed-2
 add-needed-2 c = search needs
 
--- src/lib.rt:81:18
 add-needed-3 : tie.Need-add-needed-3
 add-needed-3 c = search needs
 
--- src/lib.rt:83:9
 returns-2 : tie.Need-returns-2
-returns-2 c = ?
+returns-2 c =
+    let at = c .before .before .before .before .before .before .before .before .before in
+    let k = needed-is _ _ (at .pre .0) (at .pre .1) in
+    let e =
+    too-few _ _ (at .pre .0) (at .pre .1) _ _ _ (c .before .before .before .before .before .before .word .ensures) (c .before .before .before .before .before .checksum .ensures) (c .before .before .before .before .if1 .left) (few-of _ _ _ k (c .if2 .taken)) in
+    (refused-load _ _ _ e (λ q. omega arith), left-alone-at _ _ _ _ e refl)
 
--- src/lib.rt:85:9
 sections-rule-requires : tie.Need-sections-rule-requires
-sections-rule-requires c κs = ?
+sections-rule-requires c κs =
+    let at = c .before .before .before .before .before .before .before .before .before .before in
+    enough-of _ _ (at .pre .0) (at .pre .1) _ (c .before .if2 .left)
 
--- src/lib.rt:86:5
 clear-requires : tie.Need-clear-requires
 clear-requires c κs = search needs
 
--- src/lib.rt:72:1
 same-length : tie.Need-same-length
 same-length c = search needs
 
--- src/lib.rt:72:1
 returns-3 : tie.Need-returns-3
-returns-3 c = ?
+returns-3 c =
+    let at = c .before .before .before .before .before .before .before .before .before .before .before .before .before .before .before .before .before .before in
+    let word = c .before .before .before .before .before .before .before .before .before .before .before .before .before .before .before .word .ensures in
+    let sum = c .before .before .before .before .before .before .before .before .before .before .before .before .before .before .checksum .ensures in
+    let right = c .before .before .before .before .before .before .before .before .before .before .before .before .before .if1 .left in
+    let k = needed-is _ _ (at .pre .0) (at .pre .1) in
+    let enough = most-of _ _ _ k (c .before .before .before .before .before .before .before .before .before .if2 .left) in
+    let tested = c .before .before .before .before .before .before .before .sections-rule .ensures in
+    let e = sections-decide _ _ (at .pre .0) (at .pre .1) _ _ _ word sum right _ enough (tested .0) in
+    (accepted-load _ _ _ (at .pre .1) (sym (c .if3 .taken) ∙ e), c .before .before .before .clear .ensures ∙ words-after _ _ (at .pre .0) (at .pre .1) _ _ _ word sum right _ _ _ k enough (tested .1))
 
--- src/lib.rt:72:1
 same-length-2 : tie.Need-same-length-2
 same-length-2 c = search needs
 
--- src/lib.rt:72:1
 returns-4 : tie.Need-returns-4
-returns-4 c = ?
+returns-4 c =
+    let at = c .before .before .before .before .before .before .before .before .before .before .before .before .before .before .before .before .before .before in
+    let word = c .before .before .before .before .before .before .before .before .before .before .before .before .before .before .before .word .ensures in
+    let sum = c .before .before .before .before .before .before .before .before .before .before .before .before .before .before .checksum .ensures in
+    let right = c .before .before .before .before .before .before .before .before .before .before .before .before .before .if1 .left in
+    let k = needed-is _ _ (at .pre .0) (at .pre .1) in
+    let enough = most-of _ _ _ k (c .before .before .before .before .before .before .before .before .before .if2 .left) in
+    let tested = c .before .before .before .before .before .before .before .sections-rule .ensures in
+    let e = sections-decide _ _ (at .pre .0) (at .pre .1) _ _ _ word sum right _ enough (tested .0) in
+    (refused-load _ _ _ e (c .if3 .left), c .before .before .before .clear .ensures ∙ words-after _ _ (at .pre .0) (at .pre .1) _ _ _ word sum right _ _ _ k enough (tested .1))
 
 pub load-view-spec : {M : Type 1} → statement M
 load-view-spec =

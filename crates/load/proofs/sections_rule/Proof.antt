@@ -4,11 +4,6 @@ use Rattle.load.proofs.Rows.{records-refused, tree-refused, tree-passed
 use borrow.Author.Needs.{needs}
 use Rattle.load.proofs.sections_rule.Statement.{statement}
 use Rattle.load.proofs.sections_rule.Tie as tie
-use Rattle.load.proofs.sections_rule.Reads as reads
-use Rattle.load.proofs.sections_rule.Lts as lts
-use Rattle.load.proofs.index_of.Reads as index-of-reads
-use Rattle.load.proofs.nodes.records_rule.Reads as records-rule-reads
-use Rattle.load.proofs.tree_of.Reads as tree-of-reads
 
 records-rule-requires : tie.Need-records-rule-requires
 records-rule-requires c κs = search needs
@@ -23,9 +18,11 @@ same-length : tie.Need-same-length
 same-length c = search needs
 
 returns-2 : tie.Need-returns-2
-returns-2 c =
-    (tree-refused _ _ (c .before .before .before .before .before .before .records-rule .ensures) (c .before .before .before .before .before .if1 .left) _
-    (c .before .before .before .tree-of .ensures .0) (c .if2 .taken), c .before .before .before .tree-of .ensures .1)
+returns-2 c = (
+  tree-refused _ _ (c .before .before .before .before .before .before .records-rule .ensures) (c .before .before .before .before .before .if1 .left) _
+      (c .before .before .before .tree-of .ensures .0) (c .if2 .taken),
+  c .before .before .before .tree-of .ensures .1,
+)
 
 index-of-requires : tie.Need-index-of-requires
 index-of-requires c κs = search needs
@@ -34,10 +31,12 @@ same-length-2 : tie.Need-same-length-2
 same-length-2 c = search needs
 
 returns-3 : tie.Need-returns-3
-returns-3 c =
-    (tree-passed _ _ (c .before .before .before .before .before .before .before .records-rule .ensures)
-    (c .before .before .before .before .before .before .if1 .left) _ (c .before .before .before .before .tree-of .ensures .0) _ (c .before .if2 .left)
-    (c .index-of .ensures), c .before .before .before .before .tree-of .ensures .1)
+returns-3 c = (
+  tree-passed _ _ (c .before .before .before .before .before .before .before .records-rule .ensures)
+      (c .before .before .before .before .before .before .if1 .left) _ (c .before .before .before .before .tree-of .ensures .0) _ (c .before .if2 .left)
+      (c .index-of .ensures),
+  c .before .before .before .before .tree-of .ensures .1,
+)
 
 pub sections-rule-spec : {M : Type 1} → statement M
 sections-rule-spec =

@@ -3,10 +3,6 @@ use Rattle.load.proofs.Rows.{part-fit, part-room, part-tree, part-rest}
 use borrow.Author.Needs.{needs}
 use Rattle.load.proofs.tree_of.Statement.{statement}
 use Rattle.load.proofs.tree_of.Tie as tie
-use Rattle.load.proofs.tree_of.Reads as reads
-use Rattle.load.proofs.tree_of.Lts as lts
-use Rattle.image.proofs.section_part.Reads as section-part-reads
-use Rattle.tree.proofs.tree_rule.Reads as tree-rule-reads
 
 section-part-requires : tie.Need-section-part-requires
 section-part-requires c κs = search needs

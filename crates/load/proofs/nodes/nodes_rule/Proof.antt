@@ -12,12 +12,6 @@ use Rattle.load.specs.Nodes.{ReadFrom}
 use Rattle.load.proofs.Looping.{Passing, passing-start, passing-next, read-from, few, refused-here, all-passed, fields-pass, node-below, node-upto, node-past, node-there, node-is}
 use Rattle.load.proofs.nodes.nodes_rule.Statement.{statement}
 use Rattle.load.proofs.nodes.nodes_rule.Tie as tie
-use Rattle.load.proofs.nodes.nodes_rule.Reads as reads
-use Rattle.load.proofs.nodes.nodes_rule.Lts as lts
-use Rattle.image.proofs.node_record.Reads as node-record-reads
-use Rattle.image.proofs.section_part.Reads as section-part-reads
-use Rattle.load.proofs.nodes.node_rule.Reads as node-rule-reads
-use Rattle.records.proofs.add.Reads as add-reads
 
 abbrev Inv-loop : tie.InvT-loop
 Inv-loop bytes counts nodes payload strings sums₀ i₀ sums i =
@@ -72,12 +66,14 @@ loop-less : tie.Need-loop-less Inv-loop μ-loop
 loop-less c = search needs
 
 loop-again : tie.Need-loop-again Inv-loop μ-loop
-loop-again c =
-    (search needs, λ s g.
-    let p = c .before .before .before .before .before .before .loop .inv .1 s g in
-    let node = node-is s _ _ _ _ g _ _ (c .before .before .before .node-record .ensures) in
-    let passes = sym (c .before .before .node-rule .ensures s g (p .summed) node) ∙ c .before .if2 .left in
-    passing-next s _ _ p _ passes (c .add .ensures s _ (p .summed) node (fields-pass s _ passes)))
+loop-again c = (
+  search needs,
+  λ s g.
+      let p = c .before .before .before .before .before .before .loop .inv .1 s g in
+      let node = node-is s _ _ _ _ g _ _ (c .before .before .before .node-record .ensures) in
+      let passes = sym (c .before .before .node-rule .ensures s g (p .summed) node) ∙ c .before .if2 .left in
+      passing-next s _ _ p _ passes (c .add .ensures s _ (p .summed) node (fields-pass s _ passes)),
+)
 
 returns-2 : tie.Need-returns-2 Inv-loop μ-loop
 returns-2 c =

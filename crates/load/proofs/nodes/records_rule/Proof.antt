@@ -11,14 +11,6 @@ use Rattle.load.proofs.Rows.{root-wrong, short-root, nodes-refused, nod
 use borrow.Author.Needs.{needs}
 use Rattle.load.proofs.nodes.records_rule.Statement.{statement}
 use Rattle.load.proofs.nodes.records_rule.Tie as tie
-use Rattle.load.proofs.nodes.records_rule.Reads as reads
-use Rattle.load.proofs.nodes.records_rule.Lts as lts
-use Rattle.image.proofs.node_record.Reads as node-record-reads
-use Rattle.image.proofs.section_part.Reads as section-part-reads
-use Rattle.load.proofs.nodes.counts_of.Reads as counts-of-reads
-use Rattle.load.proofs.nodes.left_over.Reads as left-over-reads
-use Rattle.load.proofs.nodes.nodes_rule.Reads as nodes-rule-reads
-use Rattle.records.proofs.root_right.Reads as root-right-reads
 
 section-part-requires : tie.Need-section-part-requires
 section-part-requires c κs = search needs
