@@ -20,7 +20,7 @@ use Rattle.records.specs.Fields.{Field, text, optional, command, operator, node
 use Rattle.records.specs.Records.{fieldsAt, namedOf, listItems, listOrigins, listItemWord, listOriginWord}
 use Rattle.tree.specs.Tree.{namedText}
 use Rattle.tree.proofs.Members.{All, all-append}
-use Rattle.index.specs.Paths.{nameless, piece, joined, pathFrom}
+use Rattle.index.specs.Paths.{nameless, pieceOf, piece, joined, pathFrom}
 use Rattle.index.specs.Definitions.{itemsOf, itemTextOf}
 use Rattle.draft.specs.Numbering.{numbering, oldOf}
 use Rattle.encoder.specs.Strings.{pathOf, byPath, textIf, listTexts, fieldTexts, nodeTexts, namedTexts, definitionTexts, uses, distinct, storedTexts}
@@ -130,7 +130,7 @@ module _ (s : Sections) (b : DraftWords s) where
   field-bytes i wrong = tt
 
   piece-bytes : (i : ℕ) → All Byte (piece s i)
-  unfolding piece
+  unfolding piece pieceOf nameless
   piece-bytes i = go (nameless s i)
     where
       go : (c : Bool) → All Byte (cond c (decimal (placeOf s i)) (textAt s (f s i 0) (f s i 1)))

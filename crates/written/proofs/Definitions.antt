@@ -11,7 +11,7 @@ use borrow.Author.Tests.{eqb-true, eq-eqb, le-leb, leb-true}
 use Rattle.laws.proofs.First.{pass, then, first-of}
 use Rattle.image.specs.Sections.{Sections, definitionCount, itemCount, definitionWord, itemWord}
 use Rattle.tree.proofs.Members.{both-true, and-true, sum-ext}
-use Rattle.index.specs.Definitions.{definitionText, firstItem, itemsOf, itemText, itemTextOf, goodItem, itemsBefore, itemRule, definitionRule, itemsUsedUp, definitionsRule}
+use Rattle.index.specs.Definitions.{definitionText, firstItem, itemsOf, itemText, itemTextOf, goodItem, itemsBefore, itemRule, itemRuleFrom, definitionRule, itemsUsedUp, definitionsRule}
 use Rattle.encoder.specs.Strings.{offsetOf}
 use Rattle.encoder.specs.Written.{definitionOut, itemOut}
 use Rattle.written.proofs.Texts.{good-utf8}
@@ -85,7 +85,7 @@ module _ {s : Sections} {order : List ℕ} {kept : List (List ℕ)} (g : Given s
           ∙ good-at g (itemTextOf s d j) (itemWord v at 0) (itemWord v at 1) (g .stored .item d h j q) (good-utf8 s _ _ (g .taken .items at item-inside)) item-at-word item-len-word
 
     item-kept : (j : ℕ) → j < itemsOf s d → itemRule v d j ≡ 0
-    unfolding itemRule
+    unfolding itemRuleFrom
     item-kept j q =
         then _ _ (pass _ 17 (item-good j q))
         (pass _ 17 (rising-same j (itemTextOf v d) (itemTextOf s d) (λ k l. item-text k (omega arith)) (g .taken .rising-items d h j q)))

@@ -17,7 +17,7 @@ use Rattle.texts.proofs.Text.{same-self, same-turned, same-unlike, unlike-befor
 use Rattle.image.specs.Sections.{Sections, nodeCount, indexCount, indexWord, isContainer}
 use Rattle.records.specs.Records.{containerOf, containersBefore}
 use Rattle.tree.proofs.Members.{and-true, or-left, all-of, All, all-map, all-append, sum-ext}
-use Rattle.index.specs.Paths.{canonicalPath, fits}
+use Rattle.index.specs.Paths.{canonicalPath, fitsPath, fits}
 use Rattle.index.specs.Index.{indexText, indexEntryRule, indexRule}
 use Rattle.draft.specs.Draft.{newPath}
 use Rattle.draft.specs.Numbering.{oldOf}
@@ -210,7 +210,7 @@ module _ {s : Sections} {order : List ℕ} {kept : List (List ℕ)} (g : Given s
     index-path = index-text ∙ sym (ap (canonicalPath v) index-target ∙ path-same g (target k) (index-node .0) (index-node .1))
 
   index-kept : (k : ℕ) → k < length boxes → indexEntryRule v k ≡ 0
-  unfolding indexEntryRule fits
+  unfolding indexEntryRule fits fitsPath
   index-kept k h =
       let b = index-node k h in
       then _ _

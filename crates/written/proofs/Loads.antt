@@ -16,7 +16,7 @@ use Rattle.image.specs.Encoding.{imageOf}
 use Rattle.records.specs.Records.{nodeRule}
 use Rattle.tree.proofs.Members.{both-true, and-true}
 use Rattle.index.specs.Paths.{canonicalPath}
-use Rattle.load.specs.Load.{checksumRule, leftoverRule, sectionsRule, loadWords, loadRule}
+use Rattle.load.specs.Load.{checksumRule, leftoverRule, recordsRule, sectionsRule, loadWords, loadRule}
 use Rattle.draft.specs.Numbering.{numbering}
 use Rattle.encoder.specs.Strings.{storedTexts}
 use Rattle.encoder.specs.Written.{written}
@@ -41,12 +41,13 @@ module _ {s : Sections} {order : List ℕ} {kept : List (List ℕ)} (g : Given s
   -- ---- rows 8 to 17
 
   pub sections-pass : sectionsRule v ≡ 0
-  unfolding sectionsRule leftoverRule
+  unfolding sectionsRule recordsRule leftoverRule
   sections-pass =
-      then _ _ (pass _ 8 (root-kept g))
+      then _ _
+      (then _ _ (pass _ 8 (root-kept g))
       (then _ _ (first-of (nodeCount v) (nodeRule v) (λ j h. node-kept g j (omega (arith, counted g))))
-      (then _ _ (pass _ 13 (and-true _ _ (used-up g) (eq-eqb _ _ (containers-kept g))))
-      (then _ _ (tree-kept g) (then _ _ (index-passes g) (definitions-pass g)))))
+      (pass _ 13 (and-true _ _ (used-up g) (eq-eqb _ _ (containers-kept g))))))
+      (then _ _ (tree-kept g) (then _ _ (index-passes g) (definitions-pass g)))
 
 -- ---- the theorems
 

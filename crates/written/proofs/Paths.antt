@@ -21,7 +21,7 @@ use Rattle.image.specs.Sections.{Sections, nodeCount, parentOf, placeOf, tagOf,
 use Rattle.records.specs.Fields.{kinds, kindOf, fields}
 use Rattle.records.specs.Records.{fieldRule, firstField}
 use Rattle.tree.proofs.Members.{both-true}
-use Rattle.index.specs.Paths.{nameless, piece, joined, pathFrom, canonicalPath}
+use Rattle.index.specs.Paths.{nameless, pieceOf, piece, joined, pathFrom, canonicalPath}
 use Rattle.draft.specs.Numbering.{oldOf}
 use Rattle.encoder.specs.Strings.{textIf, fieldTexts, offsetOf}
 use Rattle.encoder.specs.Written.{fieldWords}
@@ -62,7 +62,7 @@ module _ {s : Sections} {order : List ℕ} {kept : List (List ℕ)} (g : Given s
       (passed _ 9 (both _ _ (subst (λ (tag : ℕ). firstField s i (fields (kindOf tag)) ≡ 0) (eqb-true (tagOf s i) 1 c) (g .taken .fields i h)) .0)) e
 
   piece-utf8 : (i : ℕ) → i < nodeCount s → isContainer s i ≡ true → utf8 (piece s i) ≡ true
-  unfolding piece nameless
+  unfolding piece pieceOf nameless
   piece-utf8 i h c = go (absent (f s i 0) (f s i 1)) refl (eqb (f s i 1) 0)
     where
       go : (a : Bool) → absent (f s i 0) (f s i 1) ≡ a → (b : Bool) → utf8 (cond (a || b) (decimal (placeOf s i)) (textAt s (f s i 0) (f s i 1))) ≡ true
@@ -85,7 +85,7 @@ module _ {s : Sections} {order : List ℕ} {kept : List (List ℕ)} (g : Given s
         (in-left (textIf s (f s i 0) (f s i 1)) _ name (rw e (in-one name))))
 
     piece-same : piece v j ≡ piece s i
-    unfolding piece nameless fields fieldWords
+    unfolding piece pieceOf nameless fields fieldWords
     piece-same =
         let r = container-reads g j h c .0 in
         go (absent (f s i 0) (f s i 1)) refl (r .0) (r .1 .0)
