@@ -28,16 +28,7 @@ impl View {
     pub const WORDS: usize = 17;
 
     fn sections(&self) -> [Section; 8] {
-        [
-            self.nodes,
-            self.children,
-            self.named,
-            self.definitions,
-            self.items,
-            self.index,
-            self.payload,
-            self.strings,
-        ]
+        [self.nodes, self.children, self.named, self.definitions, self.items, self.index, self.payload, self.strings]
     }
 
     pub fn words(&self) -> [u32; View::WORDS] {

@@ -73,6 +73,10 @@ impl<'a> Image<'a> {
         Image { bytes, view }
     }
 
+    pub fn bytes(&self) -> &'a [u8] {
+        self.bytes
+    }
+
     pub fn view(&self) -> &View {
         &self.view
     }
