@@ -16,6 +16,7 @@ extern "C" {
 #endif
 
 #define STORY_IMAGE_NONE UINT32_C(4294967295)
+#define STORY_IMAGE_VIEW_WORDS 17
 
 typedef struct {
     uint32_t offset;
@@ -97,9 +98,14 @@ typedef struct {
     int32_t value;
 } story_image_list_item_view;
 
-/* 0, and the view; or 1 to 17, and a view of zeros. Work words: nodes + children + named + 1. */
-uint32_t story_image_load(const uint8_t *bytes, size_t length, uint32_t *work, size_t work_length,
-                          story_image_view *view);
+/* 0, and the view's STORY_IMAGE_VIEW_WORDS words: ink version, then offset and count of each section, in the order of
+ * story_image_view; words past them stay. Or 1 to 17, the number of the first rule broken, and the view stays as it was.
+ * Work words needed: nodes + children + named + 1; numbers 1 to 7 leave all work words as they were, else as many as are
+ * needed are 0 on return and the rest stays. A view of fewer words counts as a lack of work words: 7, after rows 1 to 6. */
+uint32_t story_image_load(const uint8_t *bytes, size_t length, uint32_t *work, size_t work_length, uint32_t *view,
+                          size_t view_length);
+
+/* Below this line: to come, not yet in the static library. */
 
 /* Queries: 0, and the answer; or 18, and an answer of zeros. Any bytes and any view may be asked. */
 uint32_t story_image_node_view(const uint8_t *bytes, size_t length, const story_image_view *view, uint32_t node,
