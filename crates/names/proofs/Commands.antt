@@ -1,21 +1,22 @@
--- The commands and their names, one-to-one; the table by slots. Assumes nothing.
-use Prim.Native.Nat.{ℕ, zero, suc, _≤_, _<_}
-use mathlib.Core.Path.{_≡_, refl, sym, ap, _∙_}
+-- The commands and their names, one-to-one; the code's tables. Assumes nothing.
+use Prim.Native.Nat.{ℕ, _%_, _<_}
+use mathlib.Core.Path.{_≡_, refl}
 use mathlib.Core.List.{List, [], _∷_}
-use mathlib.Core.Bool.{Bool, true, false}
-use mathlib.Core.Option.{Option, none, some}
-use lib.Dec.{eqb, ltb, leb}
-use lib.ListN.{length, getD}
-use borrow.Author.Tests.{eqb-true, ltb-true, leb-true}
+use mathlib.Core.Bool.{true, false}
+use mathlib.Core.Option.{none, some}
+use lib.Dec.{eqb, ltb}
+use lib.ListN.{getD}
+use borrow.Author.Tests.{eqb-true, ltb-true}
 use Rattle.laws.specs.Refusal.{firstOf, unless, refusals}
-use Rattle.texts.specs.Text.{texts}
+use Rattle.texts.specs.Text.{ascii, same}
 use Rattle.names.specs.Names.{commands, numberIn, names}
-use Rattle.names.specs.Spelling.{elementAt, slotOf, spellings}
+use Rattle.names.specs.Spelling.{elementAt, hashOf}
 use Rattle.names.specs.declared.control_command.CommandType.{CommandType}
 use Rattle.names.specs.declared.control_command.CommandType.the-variants.{EvalStart, EvalOutput, EvalEnd, Duplicate, PopEvaluatedValue, PopFunction, PopTunnel, BeginString, EndString, NoOp, ChoiceCount, Turns, TurnsSince, ReadCount, Random, SeedRandom, VisitIndex, SequenceShuffleIndex, StartThread, Done, End, ListFromInt, ListRange, ListRandom, BeginTag, EndTag}
 use Rattle.names.specs.ControlCommand.{commandNumber, commandTypes}
-use Rattle.names.proofs.Distinct.{distinct, Placed, number-placed, place-number}
-use Rattle.names.proofs.Numbered.{Numbered, inOrder, every, number-below, element-at}
+use Rattle.names.proofs.Distinct.{distinct, number-placed, place-number, compared-yes, compared-no}
+use Rattle.names.proofs.Numbered.{Numbered, inOrder, every, number-below}
+use Rattle.names.proofs.Packed.{lies, Lies, from-test}
 
 told : (c : CommandType) → elementAt commandTypes (commandNumber c) ≡ some c
 unfolding elementAt commandTypes
@@ -51,14 +52,6 @@ pub commandsNumbered : Numbered commandNumber commandTypes commands
 unfolding commandTypes names distinct inOrder
 commandsNumbered = record { told = told; ordered = refl; counts = refl; apart = refl }
 
--- by slot, the number of the only command whose name has that slot
-abbrev pub bySlot : List ℕ
-bySlot =
-    0 ∷ 16 ∷ 0 ∷ 0 ∷ 15 ∷ 0 ∷ 0 ∷ 22 ∷ 0 ∷ 0 ∷ 0 ∷ 0 ∷ 0 ∷ 0 ∷ 0 ∷ 20 ∷ 0 ∷ 0 ∷ 19 ∷ 0 ∷ 0 ∷ 0 ∷ 18 ∷ 0 ∷ 0 ∷ 0 ∷ 0 ∷ 0 ∷ 0 ∷ 0 ∷ 0 ∷ 9 ∷ 0 ∷ 0 ∷ 0
-    ∷ 0 ∷ 0 ∷ 0 ∷ 0 ∷ 0 ∷ 0 ∷ 0 ∷ 0 ∷ 0 ∷ 0 ∷ 0 ∷ 0 ∷ 4 ∷ 0 ∷ 0 ∷ 0 ∷ 0 ∷ 0 ∷ 0 ∷ 0 ∷ 0 ∷ 8 ∷ 0 ∷ 0 ∷ 21 ∷ 5 ∷ 0 ∷ 0 ∷ 1 ∷ 0 ∷ 0 ∷ 0 ∷ 0 ∷ 0 ∷ 0 ∷ 0
-    ∷ 0 ∷ 11 ∷ 0 ∷ 0 ∷ 2 ∷ 23 ∷ 17 ∷ 0 ∷ 0 ∷ 0 ∷ 0 ∷ 0 ∷ 7 ∷ 25 ∷ 0 ∷ 0 ∷ 0 ∷ 0 ∷ 0 ∷ 0 ∷ 0 ∷ 0 ∷ 0 ∷ 0 ∷ 0 ∷ 0 ∷ 0 ∷ 0 ∷ 0 ∷ 0 ∷ 0 ∷ 0 ∷ 0 ∷ 3 ∷ 0
-    ∷ 0 ∷ 12 ∷ 0 ∷ 0 ∷ 0 ∷ 24 ∷ 6 ∷ 0 ∷ 0 ∷ 0 ∷ 0 ∷ 0 ∷ 0 ∷ 14 ∷ 0 ∷ 0 ∷ 0 ∷ 13 ∷ 0 ∷ 10 ∷ 0 ∷ 0 ∷ []
-
 pub below : (c : CommandType) → commandNumber c < 26
 unfolding names
 below c = number-below commandsNumbered c
@@ -72,36 +65,52 @@ pub number-name : (t : List ℕ) (k : ℕ) → numberIn commands t ≡ some k �
 unfolding names
 number-name t k p = let w = number-placed commands t k p in (w .below, w .text)
 
--- no name is longer than a `Name` holds
-fits-at-computed : firstOf 26 (λ j. unless (leb (length (getD commands j [])) 11) 1) ≡ 0
-unfolding names refusals
-fits-at-computed = refl
+-- the answers, by the one name that a text was compared with
+pub number-yes : (t : List ℕ) (k : ℕ) → k < 26 → same t (getD commands k []) ≡ true → numberIn commands t ≡ some k
+unfolding names
+number-yes t k h e = compared-yes commands (commandsNumbered .apart) t k h e
 
-fits-at : (k : ℕ) → k < 26 → length (getD commands k []) ≤ 11
-fits-at k h = leb-true (length (getD commands k [])) 11 (every 26 (λ j. leb (length (getD commands j [])) 11) fits-at-computed k h)
+pub number-no : (t : List ℕ) (k : ℕ) → ((j : ℕ) → j < 26 → t ≡ getD commands j [] → k ≡ j) → same t (getD commands k []) ≡ false → numberIn commands t ≡ none
+unfolding names
+number-no t k only e = compared-no commands t k only e
 
-pub fits : (c : CommandType) → length (getD commands (commandNumber c) []) ≤ 11
-fits c = fits-at (commandNumber c) (below c)
+-- ---- the names, one after the other
 
--- ---- the table by slots
+unfoldable pub packed : List ℕ
+packed = ascii "evout/evdupop~ret->->str/strnopchoiceCntturnturnsreadcrndsrndvisitseqthreaddoneendlistIntrangelrnd#/#"
 
-slot-at-computed : firstOf 26 (λ j. unless (eqb (getD bySlot (slotOf (getD commands j [])) 0) j) 1) ≡ 0
-unfolding names refusals slotOf
-slot-at-computed = refl
+abbrev pub starts : List ℕ
+starts =
+    0 ∷ 2 ∷ 5 ∷ 8 ∷ 10 ∷ 13 ∷ 17 ∷ 21 ∷ 24 ∷ 28 ∷ 31 ∷ 40 ∷ 44 ∷ 49 ∷ 54 ∷ 57 ∷ 61 ∷ 66 ∷ 69 ∷ 75 ∷ 79 ∷ 82 ∷ 89 ∷ 94 ∷ 98 ∷ 99 ∷ 101 ∷ []
 
-slot-at : (k : ℕ) → k < 26 → getD bySlot (slotOf (getD commands k [])) 0 ≡ k
-slot-at k h =
-    eqb-true (getD bySlot (slotOf (getD commands k [])) 0) k (every 26 (λ j. eqb (getD bySlot (slotOf (getD commands j [])) 0) j) slot-at-computed k h)
+lie : firstOf 26 (λ k. unless (lies packed starts commands k) 1) ≡ 0
+unfolding names refusals packed lies
+lie = refl
 
-slot-number-computed : firstOf 128 (λ j. unless (ltb (getD bySlot j 0) 26) 1) ≡ 0
+pub name-lies : (k : ℕ) → k < 26 → Lies packed starts commands k
+name-lies k h = from-test packed starts commands k (every 26 (lies packed starts commands) lie k h)
+
+-- ---- the table by hash
+
+abbrev pub byHash : List ℕ
+byHash =
+    0 ∷ 6 ∷ 12 ∷ 17 ∷ 22 ∷ 0 ∷ 0 ∷ 0 ∷ 14 ∷ 0 ∷ 0 ∷ 0 ∷ 4 ∷ 0 ∷ 0 ∷ 0 ∷ 0 ∷ 0 ∷ 0 ∷ 0 ∷ 18 ∷ 2 ∷ 19 ∷ 0 ∷ 9 ∷ 1 ∷ 0 ∷ 0 ∷ 16 ∷ 10 ∷ 5 ∷ 0 ∷ 0 ∷ 0 ∷ 3
+    ∷ 0 ∷ 11 ∷ 0 ∷ 0 ∷ 15 ∷ 0 ∷ 7 ∷ 0 ∷ 0 ∷ 13 ∷ 0 ∷ 21 ∷ 0 ∷ 0 ∷ 25 ∷ 0 ∷ 8 ∷ 23 ∷ 0 ∷ 0 ∷ 24 ∷ 0 ∷ 20 ∷ []
+
+hashed : firstOf 26 (λ k. unless (eqb (getD byHash (hashOf (getD commands k []) % 58) 0) k) 1) ≡ 0
+unfolding names refusals hashOf
+hashed = refl
+
+bounded : firstOf 58 (λ i. unless (ltb (getD byHash i 0) 26) 1) ≡ 0
 unfolding refusals
-slot-number-computed = refl
+bounded = refl
 
-pub slot-number : (s : ℕ) → s < 128 → getD bySlot s 0 < 26
-slot-number s h = ltb-true (getD bySlot s 0) 26 (every 128 (λ j. ltb (getD bySlot j 0) 26) slot-number-computed s h)
+pub entry-below : (i : ℕ) → i < 58 → getD byHash i 0 < 26
+entry-below i h = ltb-true (getD byHash i 0) 26 (every 58 (λ j. ltb (getD byHash j 0) 26) bounded i h)
 
--- the command at a text's slot is the only one that the text may name
-pub only-one : (t : List ℕ) (s k : ℕ) (d : CommandType) → s ≡ slotOf t → k ≡ getD bySlot s 0 → (c : CommandType) → t ≡ getD commands (commandNumber c) [] → getD commandTypes k d ≡ c
-only-one t s k d p q c e =
-    let m : getD bySlot s 0 ≡ commandNumber c = rw (p, e) (slot-at (commandNumber c) (below c)) in
-    rw (q, m) (element-at commandTypes (commandNumber c) c d (told c))
+-- the entry at a text's hash is the only number that the text may have
+pub entry-only : (t : List ℕ) (i : ℕ) → i ≡ hashOf t % 58 → (k : ℕ) → k < 26 → t ≡ getD commands k [] → getD byHash i 0 ≡ k
+entry-only t i p k h e =
+    rw (p, e)
+    (eqb-true (getD byHash (hashOf (getD commands k []) % 58) 0) k
+    (every 26 (λ j. eqb (getD byHash (hashOf (getD commands j []) % 58) 0) j) hashed k h))

@@ -1,6 +1,6 @@
 -- The number of a text in a list of names: its place, where the names are distinct. Assumes nothing.
-use Prim.Native.Nat.{ℕ, zero, suc, _≤_, _<_}
-use mathlib.Core.Path.{_≡_, refl, sym, ap, _∙_}
+use Prim.Native.Nat.{ℕ, zero, suc, _<_}
+use mathlib.Core.Path.{_≡_, refl, sym}
 use mathlib.Core.List.{List, [], _∷_}
 use mathlib.Core.Bool.{Bool, true, false, cond, not, _&&_, _||_, false≢true}
 use mathlib.Core.Option.{Option, none, some, Option·map}
@@ -8,7 +8,7 @@ use native.Mathlib.Omega.{arith}
 use native.Mathlib.Nat.{not-suc-le-zero, le-of-suc-le-suc}
 use lib.ListN.{length, getD}
 use Rattle.texts.specs.Text.{same, holds}
-use Rattle.texts.proofs.Text.{same-self, same-equal, same-turned}
+use Rattle.texts.proofs.Text.{same-self, same-equal, same-turned, same-unlike}
 use Rattle.names.specs.Names.{numberIn}
 
 -- no name stands twice
@@ -74,3 +74,20 @@ number-held (x ∷ xs) t = by (same t x) (numberIn xs t) (number-held xs t)
     by true o r = refl
     by false none r = r
     by false (some j) r = r
+
+-- the text is the one that it was compared with
+pub compared-yes : (names : List (List ℕ)) → distinct names ≡ true → (t : List ℕ) (k : ℕ) → k < length names → same t (getD names k []) ≡ true
+    → numberIn names t ≡ some k
+compared-yes names p t k h e = rw (same-equal t (getD names k []) e) (place-number names p k h)
+
+-- it can be none but the one that it was compared with, and is not
+pub compared-no : (names : List (List ℕ)) (t : List ℕ) (k : ℕ) → ((j : ℕ) → j < length names → t ≡ getD names j [] → k ≡ j)
+    → same t (getD names k []) ≡ false → numberIn names t ≡ none
+compared-no names t k only e = by (numberIn names t) refl
+  where
+    by : (o : Option ℕ) → numberIn names t ≡ o → o ≡ none
+    by none p = refl
+    by (some j) p =
+        let w = number-placed names t j p in
+        let m = only j (w .below) (w .text) in
+        absurd (same-unlike t (getD names k []) e (rw m (w .text)))

@@ -1,7 +1,8 @@
 pub mod Distinct
 pub mod Numbered
-pub mod Copied
-pub mod Slots
 pub mod Spelled
+pub mod Copied
+pub mod Packed
+pub mod Hashes
 pub mod Commands
 pub mod Operators

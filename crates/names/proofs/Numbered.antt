@@ -1,9 +1,9 @@
 -- Kinds that distinct names name in order: what a text or a number stands for. Assumes nothing.
 use Prim.Native.Nat.{ℕ, zero, suc, _+_, _≤_, _<_}
-use mathlib.Core.Path.{_≡_, refl, sym, ap, _∙_}
+use mathlib.Core.Path.{_≡_, refl, ap}
 use mathlib.Core.List.{List, [], _∷_}
 use mathlib.Core.Bool.{Bool, true, false, _&&_, false≢true}
-use mathlib.Core.Option.{Option, none, some, Option·map}
+use mathlib.Core.Option.{Option, none, some}
 use native.Mathlib.Omega.{arith}
 use native.Mathlib.Nat.{not-suc-le-zero, le-of-suc-le-suc}
 use lib.Dec.{eqb}
@@ -11,11 +11,9 @@ use lib.ListN.{length, getD}
 use borrow.Author.Tests.{eqb-true}
 use Rattle.laws.specs.Refusal.{unless, firstOf}
 use Rattle.laws.proofs.First.{passed, first-all}
-use Rattle.texts.specs.Text.{same}
-use Rattle.texts.proofs.Text.{same-equal, same-unlike}
 use Rattle.names.specs.Names.{numberIn}
 use Rattle.names.specs.Spelling.{elementAt, elementOf, namedIn}
-use Rattle.names.proofs.Distinct.{distinct, Placed, number-placed, place-number}
+use Rattle.names.proofs.Distinct.{distinct, number-placed, place-number}
 
 -- one computed test, at each number below n
 pub every : (n : ℕ) (f : ℕ → Bool) → firstOf n (λ k. unless (f k) 1) ≡ 0 → (k : ℕ) → k < n → f k ≡ true
@@ -125,24 +123,12 @@ module _ {A : Type 0} {number : A → ℕ} {kinds : List A} {names : List (List 
           let c = n .counts in
           absurd (omega arith)
 
-  -- the text is the name of a
-  pub spelled-yes : (t : List ℕ) (a : A) → same t (nameIn number names a) ≡ true → namedIn kinds names t ≡ some a
-  spelled-yes t a p = rw (same-equal t (nameIn number names a) p) (name-names a)
+-- the answers by name, from those by number
+pub named-yes : {A : Type 0} (kinds : List A) (names : List (List ℕ)) (t : List ℕ) (k : ℕ) (o : Option A) → some k ≡ numberIn names t → o ≡ elementAt kinds k
+    → o ≡ namedIn kinds names t
+unfolding namedIn
+named-yes kinds names t k o p q = rw (← p) q
 
-  -- the text can be the name of a alone, and is not
-  pub spelled-no : (t : List ℕ) (a : A) → ((b : A) → t ≡ nameIn number names b → a ≡ b) → same t (nameIn number names a) ≡ false → namedIn kinds names t ≡ none
-  spelled-no t a only p = by (namedIn kinds names t) refl
-    where
-      by : (o : Option A) → namedIn kinds names t ≡ o → o ≡ none
-      by none e = refl
-      by (some b) e =
-          let s = named-text t b e in
-          let m = only b s in
-          absurd (same-unlike t (nameIn number names a) p (s ∙ ap (nameIn number names) (sym m)))
-
-  -- the answers by number
-  pub number-yes : (t : List ℕ) (a : A) (k : ℕ) → k ≡ number a → some a ≡ namedIn kinds names t → some k ≡ numberIn names t
-  number-yes t a k e p = ap some e ∙ sym (named-number t a (sym p))
-
-  pub number-no : (t : List ℕ) → none ≡ namedIn kinds names t → none ≡ numberIn names t
-  number-no t p = sym (unnamed-number t (sym p))
+pub named-no : {A : Type 0} (kinds : List A) (names : List (List ℕ)) (t : List ℕ) → none ≡ numberIn names t → none ≡ namedIn kinds names t
+unfolding namedIn
+named-no kinds names t p = rw (← p)

@@ -1,21 +1,22 @@
--- The operators and their names, one-to-one; the table by slots. Assumes nothing.
-use Prim.Native.Nat.{ℕ, zero, suc, _≤_, _<_}
-use mathlib.Core.Path.{_≡_, refl, sym, ap, _∙_}
+-- The operators and their names, one-to-one; the code's tables. Assumes nothing.
+use Prim.Native.Nat.{ℕ, _%_, _<_}
+use mathlib.Core.Path.{_≡_, refl}
 use mathlib.Core.List.{List, [], _∷_}
-use mathlib.Core.Bool.{Bool, true, false}
-use mathlib.Core.Option.{Option, none, some}
-use lib.Dec.{eqb, ltb, leb}
-use lib.ListN.{length, getD}
-use borrow.Author.Tests.{eqb-true, ltb-true, leb-true}
+use mathlib.Core.Bool.{true, false}
+use mathlib.Core.Option.{none, some}
+use lib.Dec.{eqb, ltb}
+use lib.ListN.{getD}
+use borrow.Author.Tests.{eqb-true, ltb-true}
 use Rattle.laws.specs.Refusal.{firstOf, unless, refusals}
-use Rattle.texts.specs.Text.{texts}
+use Rattle.texts.specs.Text.{ascii, same}
 use Rattle.names.specs.Names.{operators, numberIn, names}
-use Rattle.names.specs.Spelling.{elementAt, slotOf, spellings}
+use Rattle.names.specs.Spelling.{elementAt, hashOf}
 use Rattle.names.specs.declared.native_function_call.Op.{Op}
 use Rattle.names.specs.declared.native_function_call.Op.the-variants.{Add, Subtract, Divide, Multiply, Mod, Negate, Equal, Greater, Less, GreaterThanOrEquals, LessThanOrEquals, NotEquals, Not, And, Or, Min, Max, Pow, Floor, Ceiling, Int, Float, Has, Hasnt, Intersect, ListMin, ListMax, All, Count, ValueOfList, Invert}
 use Rattle.names.specs.NativeFunctionCall.{operatorNumber, ops}
-use Rattle.names.proofs.Distinct.{distinct, Placed, number-placed, place-number}
-use Rattle.names.proofs.Numbered.{Numbered, inOrder, every, number-below, element-at}
+use Rattle.names.proofs.Distinct.{distinct, number-placed, place-number, compared-yes, compared-no}
+use Rattle.names.proofs.Numbered.{Numbered, inOrder, every, number-below}
+use Rattle.names.proofs.Packed.{lies, Lies, from-test}
 
 told : (c : Op) → elementAt ops (operatorNumber c) ≡ some c
 unfolding elementAt ops
@@ -56,14 +57,6 @@ pub operatorsNumbered : Numbered operatorNumber ops operators
 unfolding ops names distinct inOrder
 operatorsNumbered = record { told = told; ordered = refl; counts = refl; apart = refl }
 
--- by slot, the number of the only operator whose name has that slot
-abbrev pub bySlot : List ℕ
-bySlot =
-    11 ∷ 0 ∷ 0 ∷ 0 ∷ 0 ∷ 0 ∷ 0 ∷ 16 ∷ 0 ∷ 0 ∷ 28 ∷ 4 ∷ 23 ∷ 0 ∷ 0 ∷ 30 ∷ 0 ∷ 0 ∷ 0 ∷ 0 ∷ 0 ∷ 0 ∷ 0 ∷ 2 ∷ 26 ∷ 17 ∷ 0 ∷ 0 ∷ 0 ∷ 0 ∷ 13 ∷ 0 ∷ 0 ∷ 0 ∷ 0
-    ∷ 0 ∷ 0 ∷ 0 ∷ 0 ∷ 0 ∷ 0 ∷ 24 ∷ 0 ∷ 0 ∷ 0 ∷ 0 ∷ 0 ∷ 0 ∷ 29 ∷ 0 ∷ 0 ∷ 0 ∷ 0 ∷ 18 ∷ 0 ∷ 5 ∷ 0 ∷ 0 ∷ 0 ∷ 0 ∷ 0 ∷ 0 ∷ 0 ∷ 0 ∷ 0 ∷ 21 ∷ 0 ∷ 0 ∷ 0 ∷ 0
-    ∷ 0 ∷ 0 ∷ 0 ∷ 0 ∷ 0 ∷ 15 ∷ 0 ∷ 8 ∷ 0 ∷ 20 ∷ 27 ∷ 3 ∷ 14 ∷ 12 ∷ 0 ∷ 0 ∷ 0 ∷ 0 ∷ 10 ∷ 0 ∷ 0 ∷ 0 ∷ 25 ∷ 0 ∷ 0 ∷ 0 ∷ 6 ∷ 0 ∷ 0 ∷ 0 ∷ 0 ∷ 19 ∷ 0 ∷ 0
-    ∷ 9 ∷ 7 ∷ 0 ∷ 0 ∷ 0 ∷ 0 ∷ 0 ∷ 0 ∷ 0 ∷ 0 ∷ 0 ∷ 0 ∷ 0 ∷ 0 ∷ 0 ∷ 22 ∷ 0 ∷ 0 ∷ 0 ∷ 1 ∷ 0 ∷ 0 ∷ 0 ∷ 0 ∷ []
-
 pub below : (c : Op) → operatorNumber c < 31
 unfolding names
 below c = number-below operatorsNumbered c
@@ -77,36 +70,53 @@ pub number-name : (t : List ℕ) (k : ℕ) → numberIn operators t ≡ some k �
 unfolding names
 number-name t k p = let w = number-placed operators t k p in (w .below, w .text)
 
--- no name is longer than a `Name` holds
-fits-at-computed : firstOf 31 (λ j. unless (leb (length (getD operators j [])) 11) 1) ≡ 0
-unfolding names refusals
-fits-at-computed = refl
+-- the answers, by the one name that a text was compared with
+pub number-yes : (t : List ℕ) (k : ℕ) → k < 31 → same t (getD operators k []) ≡ true → numberIn operators t ≡ some k
+unfolding names
+number-yes t k h e = compared-yes operators (operatorsNumbered .apart) t k h e
 
-fits-at : (k : ℕ) → k < 31 → length (getD operators k []) ≤ 11
-fits-at k h = leb-true (length (getD operators k [])) 11 (every 31 (λ j. leb (length (getD operators j [])) 11) fits-at-computed k h)
+pub number-no : (t : List ℕ) (k : ℕ) → ((j : ℕ) → j < 31 → t ≡ getD operators j [] → k ≡ j) → same t (getD operators k []) ≡ false → numberIn operators t ≡ none
+unfolding names
+number-no t k only e = compared-no operators t k only e
 
-pub fits : (c : Op) → length (getD operators (operatorNumber c) []) ≤ 11
-fits c = fits-at (operatorNumber c) (below c)
+-- ---- the names, one after the other
 
--- ---- the table by slots
+unfoldable pub packed : List ℕ
+packed = ascii "+-/*%_==><>=<=!=!&&||MINMAXPOWFLOORCEILINGINTFLOAT?!?^LIST_MINLIST_MAXLIST_ALLLIST_COUNTLIST_VALUELIST_INVERT"
 
-slot-at-computed : firstOf 31 (λ j. unless (eqb (getD bySlot (slotOf (getD operators j [])) 0) j) 1) ≡ 0
-unfolding names refusals slotOf
-slot-at-computed = refl
+abbrev pub starts : List ℕ
+starts =
+    0 ∷ 1 ∷ 2 ∷ 3 ∷ 4 ∷ 5 ∷ 6 ∷ 8 ∷ 9 ∷ 10 ∷ 12 ∷ 14 ∷ 16 ∷ 17 ∷ 19 ∷ 21 ∷ 24 ∷ 27 ∷ 30 ∷ 35 ∷ 42 ∷ 45 ∷ 50 ∷ 51 ∷ 53 ∷ 54 ∷ 62 ∷ 70 ∷ 78 ∷ 88 ∷ 98
+    ∷ 109 ∷ []
 
-slot-at : (k : ℕ) → k < 31 → getD bySlot (slotOf (getD operators k [])) 0 ≡ k
-slot-at k h =
-    eqb-true (getD bySlot (slotOf (getD operators k [])) 0) k (every 31 (λ j. eqb (getD bySlot (slotOf (getD operators j [])) 0) j) slot-at-computed k h)
+lie : firstOf 31 (λ k. unless (lies packed starts operators k) 1) ≡ 0
+unfolding names refusals packed lies
+lie = refl
 
-slot-number-computed : firstOf 128 (λ j. unless (ltb (getD bySlot j 0) 31) 1) ≡ 0
+pub name-lies : (k : ℕ) → k < 31 → Lies packed starts operators k
+name-lies k h = from-test packed starts operators k (every 31 (lies packed starts operators) lie k h)
+
+-- ---- the table by hash
+
+abbrev pub byHash : List ℕ
+byHash =
+    0 ∷ 0 ∷ 27 ∷ 0 ∷ 0 ∷ 0 ∷ 30 ∷ 15 ∷ 0 ∷ 16 ∷ 7 ∷ 6 ∷ 13 ∷ 2 ∷ 18 ∷ 11 ∷ 0 ∷ 22 ∷ 24 ∷ 0 ∷ 14 ∷ 0 ∷ 29 ∷ 12 ∷ 25 ∷ 5 ∷ 26 ∷ 0 ∷ 0 ∷ 19 ∷ 0 ∷ 0 ∷ 3
+    ∷ 0 ∷ 9 ∷ 20 ∷ 21 ∷ 23 ∷ 0 ∷ 0 ∷ 17 ∷ 0 ∷ 10 ∷ 0 ∷ 0 ∷ 0 ∷ 0 ∷ 0 ∷ 0 ∷ 0 ∷ 8 ∷ 4 ∷ 28 ∷ 1 ∷ []
+
+hashed : firstOf 31 (λ k. unless (eqb (getD byHash (hashOf (getD operators k []) % 54) 0) k) 1) ≡ 0
+unfolding names refusals hashOf
+hashed = refl
+
+bounded : firstOf 54 (λ i. unless (ltb (getD byHash i 0) 31) 1) ≡ 0
 unfolding refusals
-slot-number-computed = refl
+bounded = refl
 
-pub slot-number : (s : ℕ) → s < 128 → getD bySlot s 0 < 31
-slot-number s h = ltb-true (getD bySlot s 0) 31 (every 128 (λ j. ltb (getD bySlot j 0) 31) slot-number-computed s h)
+pub entry-below : (i : ℕ) → i < 54 → getD byHash i 0 < 31
+entry-below i h = ltb-true (getD byHash i 0) 31 (every 54 (λ j. ltb (getD byHash j 0) 31) bounded i h)
 
--- the operator at a text's slot is the only one that the text may name
-pub only-one : (t : List ℕ) (s k : ℕ) (d : Op) → s ≡ slotOf t → k ≡ getD bySlot s 0 → (c : Op) → t ≡ getD operators (operatorNumber c) [] → getD ops k d ≡ c
-only-one t s k d p q c e =
-    let m : getD bySlot s 0 ≡ operatorNumber c = rw (p, e) (slot-at (operatorNumber c) (below c)) in
-    rw (q, m) (element-at ops (operatorNumber c) c d (told c))
+-- the entry at a text's hash is the only number that the text may have
+pub entry-only : (t : List ℕ) (i : ℕ) → i ≡ hashOf t % 54 → (k : ℕ) → k < 31 → t ≡ getD operators k [] → getD byHash i 0 ≡ k
+entry-only t i p k h e =
+    rw (p, e)
+    (eqb-true (getD byHash (hashOf (getD operators k []) % 54) 0) k
+    (every 31 (λ j. eqb (getD byHash (hashOf (getD operators j []) % 54) 0) j) hashed k h))

@@ -1,4 +1,4 @@
--- A name as the code hands it back; what a name or a number stands for; the slot of a text. Assumes nothing.
+-- A name as the code hands it back; what a name or a number stands for; the hash of a text. Assumes nothing.
 use Prim.Native.Nat.{ℕ, zero, suc, _+_, _-_, _*_, _%_}
 use mathlib.Core.List.{List, [], _∷_, _++_}
 use mathlib.Core.Option.{Option, none, some}
@@ -34,11 +34,11 @@ elementOf xs (some k) = elementAt xs k
 unfoldable pub namedIn : {A : Type 0} → List A → List (List ℕ) → List ℕ → Option A
 namedIn kinds names t = elementOf kinds (numberIn names t)
 
--- no two commands have one slot, and no two operators, so that a text is compared with one name alone
-unfoldable pub slotOf : List ℕ → ℕ
-slotOf t = (getD t 0 0 * 8 + getD t (length t - 1) 0 * 6 + length t % 16 * 5) % 128
+-- no two commands agree in it modulo 58, and no two operators modulo 54, so that a text is compared with one name alone
+unfoldable pub hashOf : List ℕ → ℕ
+hashOf t = getD t 0 0 * 23 + getD t (length t - 1) 0 * 38 + length t % 16 * 8
 
 -- names on an `unfolding` line what a computation with this module needs
 unfoldable pub spellings : Unit {0}
-unfolding elementAt namedIn slotOf
+unfolding elementAt namedIn hashOf
 spellings = tt

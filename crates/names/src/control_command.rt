@@ -1,12 +1,13 @@
-// The 26 commands, as their numbers and their names.
+// The 26 commands, by name and by number.
 use crate::Name;
 use crate::Number;
+use crate::hash;
 use crate::is_spelled;
-use crate::name_of;
-use crate::slot;
+use crate::name_in;
 use crate::wide;
 ghost use mathlib.Core.Path.{_≡_};
 ghost use mathlib.Core.List.{[]};
+ghost use Prim.Native.Nat.{ℕ, _<_};
 ghost use lib.ListN.{getD};
 ghost use Rattle.names.specs.Names.{commands, numberIn};
 ghost use Rattle.names.specs.Spelling.{elementAt, nameOf, numbered};
@@ -77,52 +78,48 @@ const COMMANDS: [CommandType; 26] = [
     CommandType::EndTag,
 ];
 
-// By slot, the number of the only command whose name has that slot.
-const BY_SLOT: [u8; 128] = [
+// Where each name starts among the names, one after the other, and where the last one ends.
+const STARTS: [u8; 27] = [
     0,
-    16,
+    2,
+    5,
+    8,
+    10,
+    13,
+    17,
+    21,
+    24,
+    28,
+    31,
+    40,
+    44,
+    49,
+    54,
+    57,
+    61,
+    66,
+    69,
+    75,
+    79,
+    82,
+    89,
+    94,
+    98,
+    99,
+    101,
+];
+
+// By hash, the number of the only command whose name has that hash.
+const BY_HASH: [u8; 58] = [
     0,
-    0,
-    15,
-    0,
-    0,
+    6,
+    12,
+    17,
     22,
     0,
     0,
     0,
-    0,
-    0,
-    0,
-    0,
-    20,
-    0,
-    0,
-    19,
-    0,
-    0,
-    0,
-    18,
-    0,
-    0,
-    0,
-    0,
-    0,
-    0,
-    0,
-    0,
-    9,
-    0,
-    0,
-    0,
-    0,
-    0,
-    0,
-    0,
-    0,
-    0,
-    0,
-    0,
-    0,
+    14,
     0,
     0,
     0,
@@ -134,79 +131,44 @@ const BY_SLOT: [u8; 128] = [
     0,
     0,
     0,
+    18,
+    2,
+    19,
     0,
-    8,
-    0,
-    0,
-    21,
-    5,
-    0,
-    0,
+    9,
     1,
     0,
     0,
-    0,
-    0,
-    0,
-    0,
-    0,
-    0,
-    11,
-    0,
-    0,
-    2,
-    23,
-    17,
-    0,
-    0,
-    0,
-    0,
-    0,
-    7,
-    25,
-    0,
-    0,
-    0,
-    0,
-    0,
-    0,
-    0,
-    0,
-    0,
-    0,
-    0,
-    0,
-    0,
-    0,
-    0,
-    0,
+    16,
+    10,
+    5,
     0,
     0,
     0,
     3,
     0,
-    0,
-    12,
-    0,
+    11,
     0,
     0,
-    24,
-    6,
+    15,
     0,
-    0,
-    0,
-    0,
-    0,
-    0,
-    14,
-    0,
+    7,
     0,
     0,
     13,
     0,
-    10,
+    21,
     0,
     0,
+    25,
+    0,
+    8,
+    23,
+    0,
+    0,
+    24,
+    0,
+    20,
 ];
 
 pub fn number_of(command: CommandType) -> u8
@@ -253,64 +215,51 @@ pub fn command_of(number: u8) -> Command
     }
 }
 
+// The name of a number.
+fn name_at(number: u8) -> Name
+    requires { ⌜ number < 26 ⌝ }
+    ensures { λ r. ⌜ r ≡ nameOf (getD commands number []) ⌝ }
+{
+    let at = number as usize;
+    let start = wide(STARTS[at]);
+    let end = wide(STARTS[at + 1]);
+    name_in(
+        b"evout/evdupop~ret->->str/strnopchoiceCntturnturnsreadcrndsrndvisitseqthreaddoneendlistIntrangelrnd#/#",
+        start,
+        end,
+    )
+}
+
 pub fn get_name(command: CommandType) -> Name
     ensures { λ r. ⌜ r ≡ nameOf (getD commands (commandNumber command) []) ⌝ }
 {
-    match command {
-        CommandType::EvalStart => name_of(b"ev"),
-        CommandType::EvalOutput => name_of(b"out"),
-        CommandType::EvalEnd => name_of(b"/ev"),
-        CommandType::Duplicate => name_of(b"du"),
-        CommandType::PopEvaluatedValue => name_of(b"pop"),
-        CommandType::PopFunction => name_of(b"~ret"),
-        CommandType::PopTunnel => name_of(b"->->"),
-        CommandType::BeginString => name_of(b"str"),
-        CommandType::EndString => name_of(b"/str"),
-        CommandType::NoOp => name_of(b"nop"),
-        CommandType::ChoiceCount => name_of(b"choiceCnt"),
-        CommandType::Turns => name_of(b"turn"),
-        CommandType::TurnsSince => name_of(b"turns"),
-        CommandType::ReadCount => name_of(b"readc"),
-        CommandType::Random => name_of(b"rnd"),
-        CommandType::SeedRandom => name_of(b"srnd"),
-        CommandType::VisitIndex => name_of(b"visit"),
-        CommandType::SequenceShuffleIndex => name_of(b"seq"),
-        CommandType::StartThread => name_of(b"thread"),
-        CommandType::Done => name_of(b"done"),
-        CommandType::End => name_of(b"end"),
-        CommandType::ListFromInt => name_of(b"listInt"),
-        CommandType::ListRange => name_of(b"range"),
-        CommandType::ListRandom => name_of(b"lrnd"),
-        CommandType::BeginTag => name_of(b"#"),
-        CommandType::EndTag => name_of(b"/#"),
-    }
+    name_at(number_of(command))
 }
 
-// The only command that the text may spell.
-fn only(text: &[u8]) -> CommandType
-    ensures { λ r. ⌜ ((c : CommandType) → now (text .entry) ≡ getD commands (commandNumber c) [] → r ≡ c) ⌝ }
+// The number of the only command that the text may name.
+fn only(text: &[u8]) -> u8
+    ensures { λ r. ⌜ (r < 26) × ((k : ℕ) → k < 26 → now (text .entry) ≡ getD commands k [] → r ≡ k) ⌝ }
 {
-    let at = slot(text);
-    let number = wide(BY_SLOT[at]);
-    COMMANDS[number]
-}
-
-pub fn new_from_name(text: &[u8]) -> Command
-    ensures { λ r. ⌜ knownCommand r ≡ commandNamed (now (text .entry)) ⌝ }
-{
-    let command = only(text);
-    if is_spelled(get_name(command), text) {
-        Command::Known(command)
-    } else {
-        Command::Unknown
-    }
+    let at = hash(text) % 58;
+    BY_HASH[at]
 }
 
 pub fn command_number(text: &[u8]) -> Number
     ensures { λ r. ⌜ numbered r ≡ numberIn commands (now (text .entry)) ⌝ }
 {
-    match new_from_name(text) {
-        Command::Known(command) => Number::Known(number_of(command)),
-        Command::Unknown => Number::Unknown,
+    let number = only(text);
+    if is_spelled(name_at(number), text) {
+        Number::Known(number)
+    } else {
+        Number::Unknown
+    }
+}
+
+pub fn new_from_name(text: &[u8]) -> Command
+    ensures { λ r. ⌜ knownCommand r ≡ commandNamed (now (text .entry)) ⌝ }
+{
+    match command_number(text) {
+        Number::Known(number) => command_of(number),
+        Number::Unknown => Command::Unknown,
     }
 }

@@ -3,10 +3,10 @@ pub mod control_command; // control_command.rt: the commands
 pub mod native_function_call; // native_function_call.rt: the operators
 
 ghost use mathlib.Core.Path.{_≡_};
-ghost use Prim.Native.Nat.{_≤_, _<_};
-ghost use lib.ListN.{length};
+ghost use Prim.Native.Nat.{_-_, _≤_, _<_};
+ghost use lib.ListN.{length, take, drop};
 ghost use Rattle.texts.specs.Text.{same};
-ghost use Rattle.names.specs.Spelling.{nameOf, spelled, slotOf};
+ghost use Rattle.names.specs.Spelling.{nameOf, spelled, hashOf};
 
 // A name's bytes, with zeros behind them.
 pub struct Name {
@@ -40,6 +40,14 @@ fn name_of(text: &[u8]) -> Name
     Name { len, bytes }
 }
 
+// The name that lies among others, from start to end.
+fn name_in(names: &[u8], start: usize, end: usize) -> Name
+    requires { ⌜ (start ≤ end) × (end ≤ length (now names)) × (end - start ≤ 11) ⌝ }
+    ensures { λ r. ⌜ r ≡ nameOf (take (end - start) (drop start (now (names .entry)))) ⌝ }
+{
+    name_of(&names[start..end])
+}
+
 // The text is the name's bytes.
 fn is_spelled(name: Name, text: &[u8]) -> bool
     requires { ⌜ name .len ≤ length (name .bytes) ⌝ }
@@ -50,9 +58,9 @@ fn is_spelled(name: Name, text: &[u8]) -> bool
     texts::equal(text, &bytes[..len])
 }
 
-// A number below 128 in which no two commands agree, and no two operators.
-fn slot(text: &[u8]) -> usize
-    ensures { λ r. ⌜ r ≡ slotOf (now (text .entry)) ⌝ }
+// No two commands agree in it modulo 58, and no two operators modulo 54.
+fn hash(text: &[u8]) -> usize
+    ensures { λ r. ⌜ r ≡ hashOf (now (text .entry)) ⌝ }
 {
     let len = text.len();
     if len == 0 {
@@ -60,5 +68,5 @@ fn slot(text: &[u8]) -> usize
     }
     let first = wide(text[0]);
     let last = wide(text[len - 1]);
-    (first * 8 + last * 6 + len % 16 * 5) % 128
+    first * 23 + last * 38 + len % 16 * 8
 }

@@ -1,12 +1,13 @@
-// The 31 operators, as their numbers and their names.
+// The 31 operators, by name and by number.
 use crate::Name;
 use crate::Number;
+use crate::hash;
 use crate::is_spelled;
-use crate::name_of;
-use crate::slot;
+use crate::name_in;
 use crate::wide;
 ghost use mathlib.Core.Path.{_≡_};
 ghost use mathlib.Core.List.{[]};
+ghost use Prim.Native.Nat.{ℕ, _<_};
 ghost use lib.ListN.{getD};
 ghost use Rattle.names.specs.Names.{operators, numberIn};
 ghost use Rattle.names.specs.Spelling.{elementAt, nameOf, numbered};
@@ -87,114 +88,87 @@ const OPERATORS: [Op; 31] = [
     Op::Invert,
 ];
 
-// By slot, the number of the only operator whose name has that slot.
-const BY_SLOT: [u8; 128] = [
-    11,
+// Where each name starts among the names, one after the other, and where the last one ends.
+const STARTS: [u8; 32] = [
     0,
-    0,
-    0,
-    0,
-    0,
-    0,
-    16,
-    0,
-    0,
-    28,
+    1,
+    2,
+    3,
     4,
-    23,
+    5,
+    6,
+    8,
+    9,
+    10,
+    12,
+    14,
+    16,
+    17,
+    19,
+    21,
+    24,
+    27,
+    30,
+    35,
+    42,
+    45,
+    50,
+    51,
+    53,
+    54,
+    62,
+    70,
+    78,
+    88,
+    98,
+    109,
+];
+
+// By hash, the number of the only operator whose name has that hash.
+const BY_HASH: [u8; 54] = [
+    0,
+    0,
+    27,
+    0,
     0,
     0,
     30,
-    0,
-    0,
-    0,
-    0,
-    0,
-    0,
-    0,
-    2,
-    26,
-    17,
-    0,
-    0,
-    0,
-    0,
-    13,
-    0,
-    0,
-    0,
-    0,
-    0,
-    0,
-    0,
-    0,
-    0,
-    0,
-    24,
-    0,
-    0,
-    0,
-    0,
-    0,
-    0,
-    29,
-    0,
-    0,
-    0,
-    0,
-    18,
-    0,
-    5,
-    0,
-    0,
-    0,
-    0,
-    0,
-    0,
-    0,
-    0,
-    0,
-    21,
-    0,
-    0,
-    0,
-    0,
-    0,
-    0,
-    0,
-    0,
-    0,
     15,
     0,
-    8,
-    0,
-    20,
-    27,
-    3,
-    14,
-    12,
-    0,
-    0,
-    0,
-    0,
-    10,
-    0,
-    0,
-    0,
-    25,
-    0,
-    0,
-    0,
+    16,
+    7,
     6,
+    13,
+    2,
+    18,
+    11,
     0,
+    22,
+    24,
     0,
+    14,
+    0,
+    29,
+    12,
+    25,
+    5,
+    26,
     0,
     0,
     19,
     0,
     0,
+    3,
+    0,
     9,
-    7,
+    20,
+    21,
+    23,
+    0,
+    0,
+    17,
+    0,
+    10,
     0,
     0,
     0,
@@ -202,21 +176,10 @@ const BY_SLOT: [u8; 128] = [
     0,
     0,
     0,
-    0,
-    0,
-    0,
-    0,
-    0,
-    0,
-    22,
-    0,
-    0,
-    0,
+    8,
+    4,
+    28,
     1,
-    0,
-    0,
-    0,
-    0,
 ];
 
 pub fn number_of(op: Op) -> u8
@@ -268,69 +231,51 @@ pub fn operator_of(number: u8) -> Operator
     }
 }
 
+// The name of a number.
+fn name_at(number: u8) -> Name
+    requires { ⌜ number < 31 ⌝ }
+    ensures { λ r. ⌜ r ≡ nameOf (getD operators number []) ⌝ }
+{
+    let at = number as usize;
+    let start = wide(STARTS[at]);
+    let end = wide(STARTS[at + 1]);
+    name_in(
+        b"+-/*%_==><>=<=!=!&&||MINMAXPOWFLOORCEILINGINTFLOAT?!?^LIST_MINLIST_MAXLIST_ALLLIST_COUNTLIST_VALUELIST_INVERT",
+        start,
+        end,
+    )
+}
+
 pub fn get_name(op: Op) -> Name
     ensures { λ r. ⌜ r ≡ nameOf (getD operators (operatorNumber op) []) ⌝ }
 {
-    match op {
-        Op::Add => name_of(b"+"),
-        Op::Subtract => name_of(b"-"),
-        Op::Divide => name_of(b"/"),
-        Op::Multiply => name_of(b"*"),
-        Op::Mod => name_of(b"%"),
-        Op::Negate => name_of(b"_"),
-        Op::Equal => name_of(b"=="),
-        Op::Greater => name_of(b">"),
-        Op::Less => name_of(b"<"),
-        Op::GreaterThanOrEquals => name_of(b">="),
-        Op::LessThanOrEquals => name_of(b"<="),
-        Op::NotEquals => name_of(b"!="),
-        Op::Not => name_of(b"!"),
-        Op::And => name_of(b"&&"),
-        Op::Or => name_of(b"||"),
-        Op::Min => name_of(b"MIN"),
-        Op::Max => name_of(b"MAX"),
-        Op::Pow => name_of(b"POW"),
-        Op::Floor => name_of(b"FLOOR"),
-        Op::Ceiling => name_of(b"CEILING"),
-        Op::Int => name_of(b"INT"),
-        Op::Float => name_of(b"FLOAT"),
-        Op::Has => name_of(b"?"),
-        Op::Hasnt => name_of(b"!?"),
-        Op::Intersect => name_of(b"^"),
-        Op::ListMin => name_of(b"LIST_MIN"),
-        Op::ListMax => name_of(b"LIST_MAX"),
-        Op::All => name_of(b"LIST_ALL"),
-        Op::Count => name_of(b"LIST_COUNT"),
-        Op::ValueOfList => name_of(b"LIST_VALUE"),
-        Op::Invert => name_of(b"LIST_INVERT"),
-    }
+    name_at(number_of(op))
 }
 
-// The only operator that the text may spell.
-fn only(text: &[u8]) -> Op
-    ensures { λ r. ⌜ ((c : Op) → now (text .entry) ≡ getD operators (operatorNumber c) [] → r ≡ c) ⌝ }
+// The number of the only operator that the text may name.
+fn only(text: &[u8]) -> u8
+    ensures { λ r. ⌜ (r < 31) × ((k : ℕ) → k < 31 → now (text .entry) ≡ getD operators k [] → r ≡ k) ⌝ }
 {
-    let at = slot(text);
-    let number = wide(BY_SLOT[at]);
-    OPERATORS[number]
-}
-
-pub fn new_from_name(text: &[u8]) -> Operator
-    ensures { λ r. ⌜ knownOperator r ≡ operatorNamed (now (text .entry)) ⌝ }
-{
-    let op = only(text);
-    if is_spelled(get_name(op), text) {
-        Operator::Known(op)
-    } else {
-        Operator::Unknown
-    }
+    let at = hash(text) % 54;
+    BY_HASH[at]
 }
 
 pub fn operator_number(text: &[u8]) -> Number
     ensures { λ r. ⌜ numbered r ≡ numberIn operators (now (text .entry)) ⌝ }
 {
-    match new_from_name(text) {
-        Operator::Known(op) => Number::Known(number_of(op)),
-        Operator::Unknown => Number::Unknown,
+    let number = only(text);
+    if is_spelled(name_at(number), text) {
+        Number::Known(number)
+    } else {
+        Number::Unknown
+    }
+}
+
+pub fn new_from_name(text: &[u8]) -> Operator
+    ensures { λ r. ⌜ knownOperator r ≡ operatorNamed (now (text .entry)) ⌝ }
+{
+    match operator_number(text) {
+        Number::Known(number) => operator_of(number),
+        Number::Unknown => Operator::Unknown,
     }
 }

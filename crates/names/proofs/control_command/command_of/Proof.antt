@@ -1,5 +1,4 @@
 -- `names::control_command::command_of` meets its contract. Assumes nothing.
-use Prim.Native.Nat.{_≤_, _<_}
 use mathlib.Core.Path.{sym}
 use native.Mathlib.Omega.{arith}
 use borrow.Author.Needs.{needs}

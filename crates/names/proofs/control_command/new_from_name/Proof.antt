@@ -1,32 +1,32 @@
 -- `names::control_command::new_from_name` meets its contract. Assumes nothing.
-use mathlib.Core.Path.{sym}
-use Rattle.names.specs.Names.{commands}
-use Rattle.names.specs.ControlCommand.{commandNumber}
-use Rattle.names.proofs.Numbered.{nameIn}
 use borrow.Author.Needs.{needs}
-use Rattle.names.proofs.Spelled.{name-held, answer-yes, answer-no}
-use Rattle.names.proofs.Commands.{commandsNumbered}
+use Rattle.names.specs.Names.{commands}
+use Rattle.names.specs.ControlCommand.{commandTypes}
+use Rattle.names.proofs.Numbered.{named-yes, named-no}
 use Rattle.names.proofs.control_command.new_from_name.Statement.{statement}
 use Rattle.names.proofs.control_command.new_from_name.Tie as tie
 
-only-requires : tie.Need-only-requires
-only-requires c κs = search needs
+command-number-requires : tie.Need-command-number-requires
+command-number-requires c κs = search needs
 
-get-name-requires : tie.Need-get-name-requires
-get-name-requires c κs = search needs
+enum-known-number : tie.Need-enum-known-number
+enum-known-number c = search needs
 
-is-spelled-requires : tie.Need-is-spelled-requires
-is-spelled-requires c κs = rw (c .get-name .ensures) (name-held (nameIn commandNumber commands (c .before .only .result)))
+command-of-requires : tie.Need-command-of-requires
+command-of-requires c κs = search needs
+
+enum-told : tie.Need-enum-told
+enum-told c = search needs
 
 returns : tie.Need-returns
-returns c = sym (answer-yes commandsNumbered _ _ _ _ (c .before .is-spelled .ensures) (c .before .before .get-name .ensures) (c .if1 .taken))
+returns c =
+    named-yes commandTypes commands _ _ _
+    (rw (c .before .before .number .given .1) at (c .before .before .before .before .command-number .ensures))
+    (c .command-of .ensures)
 
 returns-2 : tie.Need-returns-2
-returns-2 c =
-    sym
-    (answer-no commandsNumbered _ _ _ _ (c .before .is-spelled .ensures) (c .before .before .get-name .ensures)
-    (c .before .before .before .only .ensures)
-    (c .if1 .left))
+returns-2 c = named-no commandTypes commands _ (rw (c .enum-told .given .1) at (c .before .before .command-number .ensures))
 
 pub new-from-name-spec : {M : Type 1} → statement M
-new-from-name-spec = tie.close (tie.spec only-requires get-name-requires is-spelled-requires returns returns-2)
+new-from-name-spec =
+    tie.close (tie.spec command-number-requires enum-known-number command-of-requires enum-told returns returns-2)

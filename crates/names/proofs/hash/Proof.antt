@@ -1,15 +1,12 @@
--- `names::slot` meets its contract. Assumes nothing.
-use mathlib.Core.Path.{refl}
+-- `names::hash` meets its contract. Assumes nothing.
 use native.Mathlib.Omega.{arith}
 use borrow.Author.Needs.{needs}
-use lib.ListN.{length, getD}
-use Rattle.names.specs.Spelling.{slotOf}
-use Rattle.names.proofs.Slots.{slot-none, slot-some}
-use Rattle.names.proofs.slot.Statement.{statement}
-use Rattle.names.proofs.slot.Tie as tie
+use Rattle.names.proofs.Hashes.{hash-none, hash-some}
+use Rattle.names.proofs.hash.Statement.{statement}
+use Rattle.names.proofs.hash.Tie as tie
 
 returns : tie.Need-returns
-returns c = slot-none _ (omega arith)
+returns c = hash-none _ (omega arith)
 
 shared-slice-read-wide : tie.Need-shared-slice-read-wide
 shared-slice-read-wide c = search needs
@@ -42,10 +39,10 @@ add-result-2 : tie.Need-add-result-2
 add-result-2 c = search needs
 
 returns-2 : tie.Need-returns-2
-returns-2 c = slot-some _ _ _ (c .before .before .wide .ensures .0) (c .wide2 .ensures .0)
+returns-2 c = hash-some _ _ _ (c .before .before .wide .ensures .0) (c .wide2 .ensures .0)
 
-pub slot-spec : {M : Type 1} → statement M
-slot-spec =
+pub hash-spec : {M : Type 1} → statement M
+hash-spec =
     tie.close
     (tie.spec
     returns

@@ -1,0 +1,16 @@
+//! Names the static library to the linker: in the folder STORY_IMAGE_LIBRARY, by default target/staticlib of the
+//! repository.
+
+use std::{env, path::PathBuf};
+
+fn main() {
+    println!("cargo:rerun-if-env-changed=STORY_IMAGE_LIBRARY");
+    let root = PathBuf::from(env::var_os("CARGO_MANIFEST_DIR").unwrap()).join("../..");
+    let folder = match env::var_os("STORY_IMAGE_LIBRARY") {
+        Some(folder) => root.join(folder),
+        None => root.join("target/staticlib"),
+    };
+    println!("cargo:rerun-if-changed={}", folder.join("libstory_image.a").display());
+    println!("cargo:rustc-link-search=native={}", folder.display());
+    println!("cargo:rustc-link-lib=static=story_image");
+}

@@ -1,0 +1,1 @@
+pub use std::{borrow::ToOwned, boxed::Box, format, string::String, string::ToString, vec, vec::Vec};

@@ -1,0 +1,3 @@
+// The player is not part of the comparison.
+pub struct Story;
+pub struct ChoiceInfo;

@@ -1,0 +1,1 @@
+// The story's storage is not part of the comparison.

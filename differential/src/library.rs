@@ -1,0 +1,81 @@
+//! What both sides are asked: the interface of a story-image library in plain types.
+
+use reference::{Draft, Named, NodeView, Step};
+
+/// Ink version, then offset and count of each of the eight sections.
+pub type View = [u32; 17];
+
+pub type Place = (u32, u32);
+
+/// A list entry: optional origin, name, value.
+#[derive(Clone, Debug, PartialEq)]
+pub struct Entry {
+    pub origin: Option<Place>,
+    pub name: Place,
+    pub value: i32,
+}
+
+/// Absence of an answer is number 18.
+pub trait Library {
+    /// The number, and the view if it is 0.
+    fn load(&self, bytes: &[u8], work: &mut [u32]) -> (u32, View);
+    fn node_view(&self, bytes: &[u8], view: &View, node: u32) -> Option<NodeView>;
+    fn child_count(&self, bytes: &[u8], view: &View, node: u32) -> Option<u32>;
+    fn child_at(&self, bytes: &[u8], view: &View, node: u32, index: u32) -> Option<u32>;
+    fn named_child_count(&self, bytes: &[u8], view: &View, node: u32) -> Option<u32>;
+    fn named_child_at(&self, bytes: &[u8], view: &View, node: u32, index: u32) -> Option<Named>;
+    fn find_named_child(&self, bytes: &[u8], view: &View, node: u32, name: &[u8]) -> Option<u32>;
+    /// Start and length, in the image's bytes, of a text of the strings.
+    fn text(&self, bytes: &[u8], view: &View, text: Place) -> Option<(usize, usize)>;
+    /// Item j and origin j of a list value, by its place in the payload.
+    fn list_entry(&self, bytes: &[u8], view: &View, list: Place, index: u32) -> Option<Entry>;
+    fn list_origin(&self, bytes: &[u8], view: &View, list: Place, index: u32) -> Option<Place>;
+    /// Name, and how many items.
+    fn definition(&self, bytes: &[u8], view: &View, index: u32) -> Option<(Place, u32)>;
+    fn definition_item(&self, bytes: &[u8], view: &View, index: u32, item: u32) -> Option<(Place, i32)>;
+    /// Name of the origin, name of the item, value.
+    fn list_item(&self, bytes: &[u8], view: &View, name: &[u8]) -> Option<(Place, Place, i32)>;
+    fn resolve_path(&self, bytes: &[u8], view: &View, origin: u32, relative: bool, steps: &[Step]) -> Option<u32>;
+    /// The same, from a component's three words each and the bytes of names.
+    fn resolve_components(
+        &self,
+        bytes: &[u8],
+        view: &View,
+        origin: u32,
+        relative: bool,
+        components: &[u32],
+        names: &[u8],
+    ) -> Option<u32>;
+    /// The number, and the length written if it is 0.
+    fn write(&self, ink: u32, draft: &Draft, work: &mut [u32], output: &mut [u8]) -> (u32, usize);
+    /// Whether it answers where the published Rust does not: unaccepted bytes, broken drafts.
+    fn answers_all(&self) -> bool {
+        true
+    }
+}
+
+/// Steps as components and names.
+pub fn components(steps: &[Step]) -> (Vec<u32>, Vec<u8>) {
+    let (mut words, mut names) = (vec![], vec![]);
+    for step in steps {
+        words.extend(match step {
+            Step::Parent => [0, 0, 0],
+            Step::Index(index) => [1, *index, 0],
+            Step::Name(name) => [2, names.len() as u32, name.len() as u32],
+        });
+        if let Step::Name(name) = step {
+            names.extend_from_slice(name.as_bytes());
+        }
+    }
+    (words, names)
+}
+
+pub fn load_words(bytes: &[u8]) -> usize {
+    let count = |section: usize| crate::parts::word_at(bytes, 24 + 8 * section) as usize;
+    count(0) + count(1) + count(2) + 1
+}
+
+pub fn write_words(draft: &Draft) -> usize {
+    let entries = draft.children.len() + draft.named.len() / 3 + draft.definitions.len() / 4 + draft.items.len() / 3;
+    16 * (draft.nodes.len() / 10) + 4 * (entries + draft.payload.len())
+}

@@ -1,0 +1,217 @@
+//! The published Rust in the place of our library, with a mistake planted in it: the comparison must notice.
+
+use crate::library::{Entry, Library, Place, View, load_words, write_words};
+use crate::parts::word_at;
+use crate::rows::{row_of, writer_row};
+use reference::{Draft, Image, Kind, ListEntries, Named, NodeView, Step, Written};
+
+#[derive(Clone, Copy, Debug, PartialEq)]
+pub enum Mistake {
+    None,
+    Number,
+    WorkLeft,
+    NoSeven,
+    ViewParent,
+    ChildAt,
+    NamedAt,
+    FindNamed,
+    Text,
+    ListValue,
+    ListOrigin,
+    Definition,
+    FirstListItem,
+    RelativeSkip,
+    WrittenByte,
+    PastOutput,
+    NoTwentyThree,
+    DraftNumber,
+}
+
+pub const MISTAKES: [Mistake; 17] = [
+    Mistake::Number,
+    Mistake::WorkLeft,
+    Mistake::NoSeven,
+    Mistake::ViewParent,
+    Mistake::ChildAt,
+    Mistake::NamedAt,
+    Mistake::FindNamed,
+    Mistake::Text,
+    Mistake::ListValue,
+    Mistake::ListOrigin,
+    Mistake::Definition,
+    Mistake::FirstListItem,
+    Mistake::RelativeSkip,
+    Mistake::WrittenByte,
+    Mistake::PastOutput,
+    Mistake::NoTwentyThree,
+    Mistake::DraftNumber,
+];
+
+pub struct Published(pub Mistake);
+
+impl Published {
+    fn has(&self, mistake: Mistake) -> bool {
+        self.0 == mistake
+    }
+}
+
+fn image(bytes: &[u8]) -> Option<Image<'_>> {
+    reference::load(bytes).ok()
+}
+
+/// The place of a text that is known to stand in the strings.
+fn place_of(bytes: &[u8], text: &str) -> Place {
+    let strings = &bytes[word_at(bytes, 76) as usize..];
+    let at =
+        if text.is_empty() { Some(0) } else { strings.windows(text.len()).position(|part| part == text.as_bytes()) };
+    (at.expect("a stored text") as u32, text.len() as u32)
+}
+
+fn entries(bytes: &[u8], list: Place) -> Option<ListEntries> {
+    let image = image(bytes)?;
+    let holds = |node: &u32| image.node_view(*node).is_some_and(|view| view.kind == Kind::List(list));
+    image.list_entries((0..image.node_count() as u32).find(holds)?)
+}
+
+impl Library for Published {
+    fn answers_all(&self) -> bool {
+        false
+    }
+
+    fn load(&self, bytes: &[u8], work: &mut [u32]) -> (u32, View) {
+        let row = reference::load(bytes).err().map_or(0, |reason| row_of(&reason).unwrap());
+        if (1..=6).contains(&row) {
+            return (row, [0; 17]);
+        }
+        let words = load_words(bytes);
+        if work.len() < words && !self.has(Mistake::NoSeven) {
+            return (7, [0; 17]);
+        }
+        let zeros = words.min(work.len()) - usize::from(self.has(Mistake::WorkLeft));
+        work[..zeros].fill(0);
+        let mut view = [word_at(bytes, 12); 17];
+        for (k, word) in view[1..].iter_mut().enumerate() {
+            *word = word_at(bytes, 20 + 4 * k);
+        }
+        (if self.has(Mistake::Number) && row == 14 { 9 } else { row }, view)
+    }
+
+    fn node_view(&self, bytes: &[u8], _: &View, node: u32) -> Option<NodeView> {
+        let mut view = image(bytes)?.node_view(node)?;
+        if self.has(Mistake::ViewParent) && view.parent == Some(0) {
+            view.parent = None;
+        }
+        Some(view)
+    }
+
+    fn child_count(&self, bytes: &[u8], _: &View, node: u32) -> Option<u32> {
+        image(bytes)?.child_count(node).map(|count| count as u32)
+    }
+
+    fn child_at(&self, bytes: &[u8], _: &View, node: u32, index: u32) -> Option<u32> {
+        let index = if self.has(Mistake::ChildAt) { index / 2 } else { index };
+        image(bytes)?.child_at(node, index as usize)
+    }
+
+    fn named_child_count(&self, bytes: &[u8], _: &View, node: u32) -> Option<u32> {
+        image(bytes)?.named_child_count(node).map(|count| count as u32)
+    }
+
+    fn named_child_at(&self, bytes: &[u8], _: &View, node: u32, index: u32) -> Option<Named> {
+        let mut entry = image(bytes)?.named_child_at(node, index as usize)?;
+        entry.name.1 += u32::from(self.has(Mistake::NamedAt));
+        Some(entry)
+    }
+
+    fn find_named_child(&self, bytes: &[u8], _: &View, node: u32, name: &[u8]) -> Option<u32> {
+        if self.has(Mistake::FindNamed) && name.is_empty() {
+            return None;
+        }
+        image(bytes)?.find_named_child(node, core::str::from_utf8(name).ok()?)
+    }
+
+    fn text(&self, _: &[u8], view: &View, text: Place) -> Option<(usize, usize)> {
+        let start = if self.has(Mistake::Text) { 0 } else { view[15] as usize };
+        Some((start + text.0 as usize, text.1 as usize))
+    }
+
+    fn list_entry(&self, bytes: &[u8], _: &View, list: Place, index: u32) -> Option<Entry> {
+        let entries = entries(bytes, list)?;
+        let entry = entries.items.get(index as usize)?;
+        Some(Entry {
+            origin: entry.origin.as_deref().map(|origin| place_of(bytes, origin)),
+            name: place_of(bytes, &entry.name),
+            value: if self.has(Mistake::ListValue) { entry.value.wrapping_neg() } else { entry.value },
+        })
+    }
+
+    fn list_origin(&self, bytes: &[u8], _: &View, list: Place, index: u32) -> Option<Place> {
+        let index = if self.has(Mistake::ListOrigin) { 0 } else { index };
+        Some(place_of(bytes, entries(bytes, list)?.origins.get(index as usize)?))
+    }
+
+    fn definition(&self, bytes: &[u8], _: &View, index: u32) -> Option<(Place, u32)> {
+        let (name, items) = image(bytes)?.definition(index as usize)?;
+        Some((name, items as u32 + u32::from(self.has(Mistake::Definition))))
+    }
+
+    fn definition_item(&self, bytes: &[u8], _: &View, index: u32, item: u32) -> Option<(Place, i32)> {
+        image(bytes)?.definition_item(index as usize, item as usize)
+    }
+
+    fn list_item(&self, bytes: &[u8], _: &View, name: &[u8]) -> Option<(Place, Place, i32)> {
+        let image = image(bytes)?;
+        let name = core::str::from_utf8(name).ok()?;
+        let (origin, item, value) = image.list_item(name)?;
+        let mut place = place_of(bytes, &origin);
+        if self.has(Mistake::FirstListItem) {
+            place = image.definition(0)?.0;
+        }
+        Some((place, place_of(bytes, &item), value))
+    }
+
+    fn resolve_path(&self, bytes: &[u8], _: &View, origin: u32, relative: bool, steps: &[Step]) -> Option<u32> {
+        let image = image(bytes)?;
+        let container = || matches!(image.node_view(origin).map(|view| view.kind), Some(Kind::Container { .. }));
+        if self.has(Mistake::RelativeSkip) && relative && !container() {
+            return image.resolve_path(image.node_view(origin)?.parent?, true, steps);
+        }
+        image.resolve_path(origin, relative, steps)
+    }
+
+    fn resolve_components(&self, _: &[u8], _: &View, _: u32, _: bool, _: &[u32], _: &[u8]) -> Option<u32> {
+        unreachable!("the published Rust takes no such words")
+    }
+
+    fn write(&self, ink: u32, draft: &Draft, work: &mut [u32], output: &mut [u8]) -> (u32, usize) {
+        if !(18..=21).contains(&ink) {
+            return (3, 0);
+        }
+        let words = write_words(draft);
+        let written = reference::write(ink, draft);
+        if matches!(written, Written::NoStory | Written::Panicked) {
+            return (19, 0);
+        }
+        if work.len() < words {
+            return (7, 0);
+        }
+        work[..words].fill(0);
+        let number = match written {
+            Written::Image(image) if reference::load(&image).is_err() => 21,
+            Written::Image(image) if image.len() > output.len() => 23 * u32::from(!self.has(Mistake::NoTwentyThree)),
+            Written::Image(image) => {
+                output[..image.len()].copy_from_slice(&image);
+                if self.has(Mistake::WrittenByte) {
+                    output[12] ^= 1;
+                }
+                if self.has(Mistake::PastOutput) && output.len() > image.len() {
+                    output[image.len()] = 0;
+                }
+                return (0, image.len());
+            }
+            Written::Refused(message) => writer_row(&message).unwrap(),
+            _ => 21,
+        };
+        (if self.has(Mistake::DraftNumber) && number == 20 { 22 } else { number }, 0)
+    }
+}

@@ -1,0 +1,289 @@
+//! Every query on an accepted image, on both sides.
+
+use crate::library::{Library, View};
+use crate::parts::NONE;
+use crate::random::Random;
+use crate::tally::Tally;
+use crate::texts;
+use reference::{Image, Kind, NodeView, Step};
+use std::fmt::Debug;
+
+type Ours<'a> = Option<(&'a dyn Library, &'a View)>;
+
+struct Asking<'a> {
+    image: &'a Image<'a>,
+    bytes: &'a [u8],
+    ours: Ours<'a>,
+    tally: &'a mut Tally,
+}
+
+impl Asking<'_> {
+    /// Compares one answer.
+    fn same<T: PartialEq + Debug>(
+        &mut self,
+        name: &'static str,
+        theirs: Option<T>,
+        ask: impl FnOnce(&dyn Library, &[u8], &View) -> Option<T>,
+    ) {
+        self.tally.query(name, &theirs);
+        if let Some((library, view)) = self.ours {
+            let ours = ask(library, self.bytes, view);
+            self.tally.check(
+                ours == theirs,
+                || format!("{name}: the published Rust answers {theirs:?}, ours {ours:?}"),
+                self.bytes,
+            );
+        }
+    }
+
+    fn text_of(&self, place: (u32, u32)) -> &str {
+        let start = crate::parts::word_at(self.bytes, 76) as usize + place.0 as usize;
+        core::str::from_utf8(&self.bytes[start..start + place.1 as usize]).expect("a text")
+    }
+}
+
+pub fn all(image: &Image<'_>, bytes: &[u8], ours: Ours<'_>, random: &mut Random, tally: &mut Tally) {
+    let mut asking = Asking { image, bytes, ours, tally };
+    if let Some((_, view)) = ours {
+        let right = view[0] == image.ink_version() as u32
+            && view[1..].iter().enumerate().all(|(i, word)| *word == crate::parts::word_at(bytes, 20 + 4 * i));
+        asking.tally.check(right, || "the view's words".to_owned(), bytes);
+    }
+    let count = image.node_count() as u32;
+    // of large images, some nodes
+    let step = 1 + count as usize / 100;
+    let some = (0..count).step_by(step).chain([count, count + 1, NONE]);
+    for node in some {
+        asking.node(node);
+        asking.names(node, random);
+    }
+    asking.definitions(random);
+    for _ in 0..8 {
+        asking.walk(random);
+    }
+}
+
+impl Asking<'_> {
+    fn node(&mut self, node: u32) {
+        let image = self.image;
+        let view = image.node_view(node);
+        if let Some(view) = &view {
+            *self.tally.kinds.entry(kind_name(&view.kind)).or_default() += 1;
+            self.texts(view);
+            if let Kind::List(list) = view.kind {
+                self.list(node, list);
+            }
+        }
+        self.same("node view", view, |ours, bytes, view| ours.node_view(bytes, view, node));
+        let (children, named) = (image.child_count(node), image.named_child_count(node));
+        self.same("child count", children.map(|n| n as u32), |ours, bytes, view| ours.child_count(bytes, view, node));
+        self.same("named count", named.map(|n| n as u32), |ours, bytes, view| {
+            ours.named_child_count(bytes, view, node)
+        });
+        for index in (0..children.unwrap_or(0) as u32 + 1).chain([NONE]) {
+            let child = image.child_at(node, index as usize);
+            self.same("child", child, |ours, bytes, view| ours.child_at(bytes, view, node, index));
+        }
+        for index in (0..named.unwrap_or(0) as u32 + 1).chain([NONE]) {
+            let child = image.named_child_at(node, index as usize);
+            self.same("named child", child, |ours, bytes, view| ours.named_child_at(bytes, view, node, index));
+        }
+    }
+
+    /// Where the texts of a view lie in the image.
+    fn texts(&mut self, view: &NodeView) {
+        let places = match view.kind {
+            Kind::Container { name, .. } => [name, None],
+            Kind::Divert { path, variable, .. } => [path, variable],
+            Kind::Tag(text) | Kind::String(text) | Kind::DivertTarget(text) => [Some(text), None],
+            Kind::Pointer { name, .. } | Kind::Assignment { name, .. } | Kind::Reference { name, .. } => {
+                [Some(name), None]
+            }
+            _ => [None, None],
+        };
+        let strings = crate::parts::word_at(self.bytes, 76) as usize;
+        for (offset, length) in places.into_iter().flatten() {
+            let part = (strings + offset as usize, length as usize);
+            self.same("text", Some(part), |ours, bytes, view| ours.text(bytes, view, (offset, length)));
+        }
+    }
+
+    fn list(&mut self, node: u32, list: (u32, u32)) {
+        let Some(entries) = self.image.list_entries(node) else {
+            return;
+        };
+        let text = |this: &Self, place| this.text_of(place).to_owned();
+        for index in 0..entries.items.len() as u32 + 1 {
+            let theirs = entries.items.get(index as usize);
+            let theirs = theirs.map(|entry| (entry.origin.clone(), entry.name.clone(), entry.value));
+            self.tally.query("list entry", &theirs);
+            if let Some((library, view)) = self.ours {
+                let ours = library.list_entry(self.bytes, view, list, index);
+                let ours = ours
+                    .map(|entry| (entry.origin.map(|origin| text(self, origin)), text(self, entry.name), entry.value));
+                self.tally.check(ours == theirs, || format!("list entry: {theirs:?}, ours {ours:?}"), self.bytes);
+            }
+        }
+        for index in 0..entries.origins.len() as u32 + 1 {
+            let theirs = entries.origins.get(index as usize).cloned();
+            self.tally.query("list origin", &theirs);
+            if let Some((library, view)) = self.ours {
+                let ours = library.list_origin(self.bytes, view, list, index).map(|origin| text(self, origin));
+                self.tally.check(ours == theirs, || format!("list origin: {theirs:?}, ours {ours:?}"), self.bytes);
+            }
+        }
+    }
+
+    /// Named children by name: all that there are, and some that are not.
+    fn names(&mut self, node: u32, random: &mut Random) {
+        let count = self.image.named_child_count(node).unwrap_or(0);
+        let mut names = vec![texts::name(random), String::new()];
+        for index in 0..count.min(40) {
+            let entry = self.image.named_child_at(node, index).expect("a named child");
+            let name = self.text_of(entry.name).to_owned();
+            if index == 0 || random.once_in(4) {
+                names.extend([format!("{name}a"), name.chars().skip(1).collect()]);
+            }
+            names.push(name);
+        }
+        for name in names {
+            let theirs = self.image.find_named_child(node, &name);
+            self.same("find named child", theirs, |ours, bytes, view| {
+                ours.find_named_child(bytes, view, node, name.as_bytes())
+            });
+        }
+    }
+
+    fn definitions(&mut self, random: &mut Random) {
+        let image = self.image;
+        let count = image.definition_count();
+        let mut names = vec![texts::name(random), " \t\u{3000}".to_owned(), ".".to_owned(), "low".to_owned()];
+        let mut origins = vec![];
+        for index in (0..count as u32 + 1).chain([NONE]) {
+            let theirs = image.definition(index as usize).map(|(name, items)| (name, items as u32));
+            origins.extend(theirs.map(|(name, _)| self.text_of(name).to_owned()));
+            self.same("definition", theirs, |ours, bytes, view| ours.definition(bytes, view, index));
+            let items = theirs.map_or(0, |(_, items)| items);
+            for item in (0..items + 1).chain([NONE]) {
+                let theirs = image.definition_item(index as usize, item as usize);
+                names.extend(theirs.map(|(name, _)| self.text_of(name).to_owned()));
+                self.same("definition item", theirs, |ours, bytes, view| {
+                    ours.definition_item(bytes, view, index, item)
+                });
+            }
+        }
+        if count > 0 {
+            let dotted: Vec<String> = names.iter().map(|name| format!("{}.{name}", random.pick(&origins))).collect();
+            names.extend(dotted);
+        }
+        for name in names {
+            self.list_item(&name);
+        }
+    }
+
+    fn list_item(&mut self, name: &str) {
+        let theirs = self.image.list_item(name);
+        self.tally.query("list item", &theirs);
+        if let Some((library, view)) = self.ours {
+            let ours = library.list_item(self.bytes, view, name.as_bytes());
+            let ours = ours
+                .map(|(origin, item, value)| (self.text_of(origin).to_owned(), self.text_of(item).to_owned(), value));
+            self.tally.check(ours == theirs, || format!("list item {name:?}: {theirs:?}, ours {ours:?}"), self.bytes);
+        }
+    }
+
+    /// A walk that mostly follows what is there.
+    fn walk(&mut self, random: &mut Random) {
+        let count = self.image.node_count();
+        let origin = if random.once_in(12) { NONE } else { random.below(count + 1) as u32 };
+        let relative = random.once_in(2);
+        let mut at = if relative { Some(origin) } else { Some(0) };
+        let mut steps = vec![];
+        if let Some(view) = at.and_then(|at| self.image.node_view(at)).filter(|_| relative) {
+            if !matches!(view.kind, Kind::Container { .. }) {
+                steps.push(random_step(random));
+                at = view.parent;
+            }
+        }
+        for _ in 0..random.below(5) {
+            let step = match at {
+                Some(at) => self.step_from(at, random),
+                None => random_step(random),
+            };
+            at = at.and_then(|at| self.image.resolve_path(at, true, std::slice::from_ref(&step)));
+            steps.push(step);
+        }
+        let theirs = self.image.resolve_path(origin, relative, &steps);
+        let name = if relative { "relative walk" } else { "absolute walk" };
+        self.same(name, theirs, |ours, bytes, view| ours.resolve_path(bytes, view, origin, relative, &steps));
+    }
+
+    fn step_from(&self, node: u32, random: &mut Random) -> Step {
+        let (children, named) = (self.image.child_count(node), self.image.named_child_count(node));
+        match random.below(4) {
+            0 => Step::Parent,
+            1 if named.unwrap_or(0) > 0 => {
+                let index = random.below(named.unwrap_or(0));
+                let entry = self.image.named_child_at(node, index).expect("a named child");
+                named_step(self.text_of(entry.name))
+            }
+            1 | 2 if children.unwrap_or(0) > 0 => Step::Index(random.below(children.unwrap_or(0)) as u32),
+            _ => random_step(random),
+        }
+    }
+}
+
+fn random_step(random: &mut Random) -> Step {
+    match random.below(3) {
+        0 => Step::Parent,
+        1 => Step::Index(*random.pick(&[0, 1, 2, 0x8000_0000, NONE])),
+        _ => named_step(&texts::name(random)),
+    }
+}
+
+/// A name spelled like the published parent mark is outside the comparison.
+fn named_step(name: &str) -> Step {
+    if name == "^" { Step::Parent } else { Step::Name(name.to_owned()) }
+}
+
+pub const KINDS: [&str; 17] = [
+    "container",
+    "choice",
+    "command",
+    "divert",
+    "glue",
+    "operator",
+    "tag",
+    "bool",
+    "int",
+    "float",
+    "string",
+    "list",
+    "divert target",
+    "pointer",
+    "assignment",
+    "reference",
+    "void",
+];
+
+fn kind_name(kind: &Kind) -> &'static str {
+    KINDS[match kind {
+        Kind::Container { .. } => 0,
+        Kind::Choice { .. } => 1,
+        Kind::Command(_) => 2,
+        Kind::Divert { .. } => 3,
+        Kind::Glue => 4,
+        Kind::Operator(_) => 5,
+        Kind::Tag(_) => 6,
+        Kind::Bool(_) => 7,
+        Kind::Int(_) => 8,
+        Kind::Float(_) => 9,
+        Kind::String(_) => 10,
+        Kind::List(_) => 11,
+        Kind::DivertTarget(_) => 12,
+        Kind::Pointer { .. } => 13,
+        Kind::Assignment { .. } => 14,
+        Kind::Reference { .. } => 15,
+        Kind::Void => 16,
+    }]
+}

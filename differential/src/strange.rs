@@ -1,0 +1,102 @@
+//! What the published Rust cannot be asked: queries on bytes that were not accepted or under another view, which must
+//! end with parts inside the bytes; names that are no text; walks along wrong words.
+
+use crate::library::{Library, View};
+use crate::parts::NONE;
+use crate::random::Random;
+use crate::stories::edge;
+use crate::tally::Tally;
+use reference::{Kind, NodeView, Step};
+
+/// The view of an accepted image, over damaged or cut bytes, or itself damaged.
+pub fn bytes(bytes: &[u8], view: &View, ours: &dyn Library, random: &mut Random, tally: &mut Tally) {
+    let mut view = *view;
+    let mut bytes = bytes.to_vec();
+    match random.below(3) {
+        0 => bytes.truncate(random.below(bytes.len())),
+        1 => view[random.below(17)] = edge(random),
+        _ => {
+            for _ in 0..1 + random.below(8) {
+                let at = random.below(bytes.len());
+                bytes[at] = random.next() as u8;
+            }
+        }
+    }
+    let mut outside = 0;
+    for node in (0..view[2].min(20)).chain([view[2], NONE]) {
+        outside += ask(&bytes, &view, node, ours, random);
+    }
+    tally.check(outside == 0, || format!("{outside} parts outside strange bytes"), &bytes);
+}
+
+/// Asks everything about a node; counts parts that lie outside.
+fn ask(bytes: &[u8], view: &View, node: u32, ours: &dyn Library, random: &mut Random) -> usize {
+    let mut places = vec![];
+    let kind = ours.node_view(bytes, view, node).map(|view| view.kind);
+    match kind {
+        Some(Kind::Container { name, .. }) => places.extend(name),
+        Some(Kind::Divert { path, variable, .. }) => places.extend(path.into_iter().chain(variable)),
+        Some(Kind::Tag(text) | Kind::String(text) | Kind::DivertTarget(text)) => places.push(text),
+        Some(Kind::Pointer { name, .. } | Kind::Assignment { name, .. } | Kind::Reference { name, .. }) => {
+            places.push(name)
+        }
+        Some(Kind::List(list)) => {
+            for index in [0, 1, 2, 3, NONE] {
+                let entry = ours.list_entry(bytes, view, list, index);
+                places.extend(entry.iter().map(|entry| entry.name));
+                places.extend(entry.and_then(|entry| entry.origin));
+                places.extend(ours.list_origin(bytes, view, list, index));
+            }
+        }
+        _ => {}
+    }
+    for index in [0, 1, 2, NONE] {
+        let _ = ours.child_at(bytes, view, node, index);
+        places.extend(ours.named_child_at(bytes, view, node, index).map(|entry| entry.name));
+        places.extend(ours.definition(bytes, view, index).map(|(name, _)| name));
+        places.extend(ours.definition_item(bytes, view, node, index).map(|(name, _)| name));
+    }
+    let name = crate::texts::name(random);
+    let _ = ours.find_named_child(bytes, view, node, name.as_bytes());
+    let _ = ours.list_item(bytes, view, name.as_bytes());
+    let _ = ours.resolve_path(bytes, view, node, true, &[Step::Parent, Step::Index(0), Step::Name(name)]);
+    let parts = places.into_iter().filter_map(|place| ours.text(bytes, view, place));
+    parts.filter(|(start, length)| start.checked_add(*length).is_none_or(|end| end > bytes.len())).count()
+}
+
+/// On an accepted image: names that are no text name nothing, texts outside are not there, and a walk finds nothing
+/// where its words go wrong.
+pub fn asked(bytes: &[u8], view: &View, ours: &dyn Library, random: &mut Random, tally: &mut Tally) {
+    let node = random.below(view[2] as usize) as u32;
+    let no_text = *random.pick(&[&b"\xff"[..], b"a\x80", b"\xc0\xaf", b"\xed\xa0\x80", b".\xff"]);
+    let nothing =
+        ours.find_named_child(bytes, view, node, no_text).is_none() && ours.list_item(bytes, view, no_text).is_none();
+    tally.check(nothing, || format!("something is named {no_text:?}"), bytes);
+    let count = view[16];
+    for place in [(count + 1, 0), (0, count + 1), (NONE, 0), (0, NONE), (NONE, NONE), (1, NONE - 1)] {
+        let part = ours.text(bytes, view, place);
+        tally.check(part.is_none(), || format!("a text at {place:?} of {count} bytes: {part:?}"), bytes);
+    }
+    let end = (view[15] as usize + count as usize, 0);
+    let part = ours.text(bytes, view, (count, 0));
+    tally.check(part == Some(end), || format!("the empty text at the end: {part:?}"), bytes);
+    let Some(NodeView { kind, parent, .. }) = ours.node_view(bytes, view, node) else {
+        return;
+    };
+    let wrong: &[u32] = match random.below(5) {
+        0 => &[3, 0, 0],
+        1 => &[2, 0, 4],
+        2 => &[2, 4, 0],
+        3 => &[NONE, NONE, NONE],
+        _ => &[2, NONE, NONE],
+    };
+    let walk = |components: &[u32]| ours.resolve_components(bytes, view, node, true, components, b"abc");
+    let skipped = !matches!(kind, Kind::Container { .. });
+    let expected = if skipped { parent } else { None };
+    let end = walk(wrong);
+    tally.check(end == expected, || format!("walk of {wrong:?} from {node} ends at {end:?}"), bytes);
+    let twice = walk(&[wrong, wrong].concat());
+    tally.check(twice.is_none(), || format!("walk of {wrong:?} twice from {node} ends at {twice:?}"), bytes);
+    let left_over = walk(&[0, 0, 0, 0][..if skipped { 4 } else { 1 }]);
+    tally.check(left_over.is_none(), || format!("walk with words left over ends at {left_over:?}"), bytes);
+}

@@ -1,0 +1,81 @@
+//! Counts of a run: answers by row, reason, kind and query, and what passed and failed.
+
+use std::collections::BTreeMap;
+
+#[derive(Default)]
+pub struct Tally {
+    pub rows: [u64; 24],
+    pub reasons: BTreeMap<String, u64>,
+    pub kinds: BTreeMap<&'static str, u64>,
+    /// Of each query, how often it found something, and how often nothing.
+    pub queries: BTreeMap<&'static str, [u64; 2]>,
+    /// By how they were made: how many, and how many of them are accepted.
+    pub images: BTreeMap<&'static str, [u64; 2]>,
+    pub drafts: BTreeMap<&'static str, u64>,
+    pub written: BTreeMap<String, u64>,
+    pub numbers: BTreeMap<u32, u64>,
+    pub passed: u64,
+    pub failed: u64,
+    quiet: bool,
+}
+
+impl Tally {
+    /// One that prints no failures.
+    pub fn quiet() -> Self {
+        Tally { quiet: true, ..Tally::default() }
+    }
+
+    /// One check, with what to say and which bytes to keep if it fails.
+    pub fn check(&mut self, right: bool, what: impl FnOnce() -> String, bytes: &[u8]) {
+        if right {
+            self.passed += 1;
+            return;
+        }
+        self.failed += 1;
+        if !self.quiet && self.failed <= 20 {
+            println!("failed: {}", what());
+            self.keep(bytes);
+        }
+    }
+
+    fn keep(&self, bytes: &[u8]) {
+        let folder = std::path::Path::new(env!("CARGO_MANIFEST_DIR")).join("target/failed");
+        let file = folder.join(format!("{}.image", self.failed));
+        if std::fs::create_dir_all(&folder).is_ok() && std::fs::write(&file, bytes).is_ok() {
+            println!("        {} bytes in {}", bytes.len(), file.display());
+        }
+    }
+
+    pub fn query<T>(&mut self, name: &'static str, answer: &Option<T>) {
+        self.queries.entry(name).or_default()[usize::from(answer.is_none())] += 1;
+    }
+
+    pub fn print(&self) {
+        println!("loads by row (0 is accepted):");
+        for (row, count) in self.rows.iter().enumerate().filter(|(_, count)| **count > 0) {
+            println!("    {row:2} {count:>10}");
+        }
+        println!("images by how they were made: all, accepted");
+        for (name, [all, accepted]) in &self.images {
+            println!("    {name:30} {all:>10} {accepted:>10}");
+        }
+        print("reasons", self.reasons.iter());
+        print("views by kind", self.kinds.iter());
+        println!("queries: found, nothing");
+        for (name, [found, nothing]) in &self.queries {
+            println!("    {name:30} {found:>10} {nothing:>10}");
+        }
+        print("drafts by how they were made", self.drafts.iter());
+        print("what the published writer did", self.written.iter());
+        if !self.numbers.is_empty() {
+            print("our numbers for drafts", self.numbers.iter());
+        }
+    }
+}
+
+fn print<'a, K: std::fmt::Display + 'a>(title: &str, counts: impl Iterator<Item = (&'a K, &'a u64)>) {
+    println!("{title}:");
+    for (name, count) in counts {
+        println!("    {name:50} {count:>10}");
+    }
+}
