@@ -16,7 +16,8 @@ use Rattle.texts.specs.declared.Order.{Order}
 use Rattle.texts.specs.Text.{before, rising, orderOf, isLess}
 use Rattle.image.specs.declared.TextEntry.{TextEntry}
 use Rattle.image.specs.Entries.{textEntryOf}
-use Rattle.image.proofs.Parts.{both-true, good-part}
+use Rattle.image.proofs.Tests.{both-true}
+use Rattle.image.proofs.Parts.{good-part}
 use Rattle.image.specs.Sections.{Sections, nodeCount, nodeWord, parentOf, placeOf, tagOf, inside, isContainer, insideContainer, goodText, goodIn, textIn, partAt, f, childWord, namedWord, childCount, namedCount}
 use Rattle.tree.specs.Tree.{childAt, namedAt, namedText, rightChild, childRule, namedRule}
 use Rattle.tree.specs.Parts.{partsOf, LastGood, namedNode, shown, follows}

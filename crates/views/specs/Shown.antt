@@ -47,7 +47,7 @@ withName tag strings r t =
     (cond (eqb tag 13) (kindly.Kind (kind.Value (value.DivertTarget t)))
     (cond (eqb tag 14) (kindly.Kind (kind.Value (value.VariablePointer t (signed (r .f2)))))
     (cond (eqb tag 16) (kindly.Kind (kind.VariableAssignment t (odd (r .f2)) (odd (r .f2 / 2))))
-    (kindly.Kind (kind.VariableReference t (optionalWord (r .f4)))))))))))
+    (kindly.Kind (kind.VariableReference t (optionalWord (r .f4))))))))))
 
 unfoldable pub textKind : ℕ → List ℕ → NodeRecord → KindAnswer
 textKind tag strings r = withText strings r (withName tag strings r)

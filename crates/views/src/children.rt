@@ -21,7 +21,7 @@ pub fn child_count(bytes: &[u8], view: ImageView, id: u32) -> Count
 {
     match container_of(bytes, view, id) {
         RecordFound::NotFound => Count::NotFound,
-        RecordFound::Record(record) => Count::Of(record.f4),
+        RecordFound::Record(node) => Count::Of(node.f4),
     }
 }
 
@@ -30,7 +30,7 @@ pub fn named_child_count(bytes: &[u8], view: ImageView, id: u32) -> Count
 {
     match container_of(bytes, view, id) {
         RecordFound::NotFound => Count::NotFound,
-        RecordFound::Record(record) => Count::Of(record.f6),
+        RecordFound::Record(node) => Count::Of(node.f6),
     }
 }
 
@@ -40,9 +40,9 @@ pub fn child_at(bytes: &[u8], view: ImageView, id: u32, j: u32) -> Found
 {
     match container_of(bytes, view, id) {
         RecordFound::NotFound => Found::NotFound,
-        RecordFound::Record(record) => {
-            if j < record.f4 {
-                child_of(bytes, view, record.f3 as usize + j as usize)
+        RecordFound::Record(node) => {
+            if j < node.f4 {
+                child_of(bytes, view, node.f3 as usize + j as usize)
             } else {
                 Found::NotFound
             }
@@ -56,9 +56,9 @@ pub fn named_child_at(bytes: &[u8], view: ImageView, id: u32, j: u32) -> NamedAn
 {
     match container_of(bytes, view, id) {
         RecordFound::NotFound => NamedAnswer::NotFound,
-        RecordFound::Record(record) => {
-            if j < record.f6 {
-                named_entry(bytes, view, record.f5 as usize + j as usize)
+        RecordFound::Record(node) => {
+            if j < node.f6 {
+                named_entry(bytes, view, node.f5 as usize + j as usize)
             } else {
                 NamedAnswer::NotFound
             }

@@ -43,9 +43,9 @@ pub fn container_of(bytes: &[u8], view: ImageView, id: u32) -> RecordFound
 {
     match node_of(bytes, view, id) {
         RecordFound::NotFound => RecordFound::NotFound,
-        RecordFound::Record(record) => {
-            if record.tag == 1 {
-                RecordFound::Record(record)
+        RecordFound::Record(node) => {
+            if node.tag == 1 {
+                RecordFound::Record(node)
             } else {
                 RecordFound::NotFound
             }

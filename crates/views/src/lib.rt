@@ -158,8 +158,8 @@ pub enum ItemAnswer {
 
 // An item found by name: its definition, which is its origin, its number among all items, and its value.
 pub struct ListItem {
-    pub definition: u32,
-    pub item: u32,
+    pub definition: usize,
+    pub item: usize,
     pub value: i32,
 }
 

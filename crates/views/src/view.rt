@@ -88,31 +88,31 @@ fn push_type(n: u32) -> PushPopType
     }
 }
 
-fn container(record: NodeRecord, strings: usize) -> KindAnswer
-    ensures { λ r. ⌜ r ≡ containerView strings record ⌝ }
+fn container(node: NodeRecord, strings: usize) -> KindAnswer
+    ensures { λ r. ⌜ r ≡ containerView strings node ⌝ }
 {
-    let count_flags = signed_of(record.f2);
-    let name = optional_text(strings, record.f0, record.f1);
+    let count_flags = signed_of(node.f2);
+    let name = optional_text(strings, node.f0, node.f1);
     KindAnswer::Kind(NodeKindView::Container { count_flags, name })
 }
 
-fn divert(record: NodeRecord, strings: usize) -> KindAnswer
-    ensures { λ r. ⌜ r ≡ divertView strings record ⌝ }
+fn divert(node: NodeRecord, strings: usize) -> KindAnswer
+    ensures { λ r. ⌜ r ≡ divertView strings node ⌝ }
 {
-    let flags = record.f6;
+    let flags = node.f6;
     let stack = flags / 8;
     if 2 < stack {
         return KindAnswer::NotFound;
     }
-    let path = optional_text(strings, record.f0, record.f1);
-    let target = optional_word(record.f2);
-    let variable_name = optional_text(strings, record.f3, record.f4);
+    let path = optional_text(strings, node.f0, node.f1);
+    let target = optional_word(node.f2);
+    let variable_name = optional_text(strings, node.f3, node.f4);
     let stack_push_type = push_type(stack);
     KindAnswer::Kind(NodeKindView::Divert {
         path,
         target,
         variable_name,
-        external_args: record.f5,
+        external_args: node.f5,
         conditional: flags % 2 != 0,
         external: flags / 2 % 2 != 0,
         pushes_to_stack: flags / 4 % 2 != 0,
@@ -149,11 +149,11 @@ fn list(payload: usize, start: u32, len: u32) -> KindAnswer
 }
 
 // A kind that is made of its text, by the tag.
-fn with_name(record: NodeRecord, name: Span, strings: &[u8]) -> KindAnswer
-    ensures { λ r. ⌜ r ≡ withName (record .tag) (now (strings .entry)) record name ⌝ }
+fn with_name(node: NodeRecord, name: Span, strings: &[u8]) -> KindAnswer
+    ensures { λ r. ⌜ r ≡ withName (node .tag) (now (strings .entry)) node name ⌝ }
 {
-    let tag = record.tag;
-    let flags = record.f2;
+    let tag = node.tag;
+    let flags = node.f2;
     match tag {
         3 => command(image::text_part(strings, name.offset, name.len)),
         6 => operator(image::text_part(strings, name.offset, name.len)),
@@ -171,58 +171,59 @@ fn with_name(record: NodeRecord, name: Span, strings: &[u8]) -> KindAnswer
         }),
         _ => KindAnswer::Kind(NodeKindView::VariableReference {
             name,
-            count_target: optional_word(record.f4),
+            count_target: optional_word(node.f4),
         }),
     }
 }
 
 // The same, where the text is present and inside.
-fn text_kind(record: NodeRecord, strings: &[u8]) -> KindAnswer
-    ensures { λ r. ⌜ r ≡ textKind (record .tag) (now (strings .entry)) record ⌝ }
+fn text_kind(node: NodeRecord, strings: &[u8]) -> KindAnswer
+    ensures { λ r. ⌜ r ≡ textKind (node .tag) (now (strings .entry)) node ⌝ }
 {
-    match optional_text(strings.len(), record.f0, record.f1) {
+    match optional_text(strings.len(), node.f0, node.f1) {
         OptionalText::Absent => KindAnswer::NotFound,
-        OptionalText::Present(name) => with_name(record, name, strings),
+        OptionalText::Present(name) => with_name(node, name, strings),
     }
 }
 
 // The kind that a record gives: one decision over the tag's number.
-fn kind_view(record: NodeRecord, payload: usize, strings: &[u8]) -> KindAnswer
-    ensures { λ r. ⌜ r ≡ kindView (now (strings .entry)) payload record (kindOf (record .tag)) ⌝ }
+fn kind_view(node: NodeRecord, payload: usize, strings: &[u8]) -> KindAnswer
+    ensures { λ r. ⌜ r ≡ kindView (now (strings .entry)) payload node (kindOf (node .tag)) ⌝ }
 {
-    let tag = record.tag;
+    let tag = node.tag;
     match tag {
-        1 => container(record, strings.len()),
+        1 => container(node, strings.len()),
         2 => KindAnswer::Kind(NodeKindView::ChoicePoint {
-            flags: signed_of(record.f3),
-            target: optional_word(record.f2),
+            flags: signed_of(node.f3),
+            target: optional_word(node.f2),
         }),
-        4 => divert(record, strings.len()),
+        4 => divert(node, strings.len()),
         5 => KindAnswer::Kind(NodeKindView::Glue),
-        3 | 11 | 13 | 14 => text_kind(record, strings),
-        6..=7 => text_kind(record, strings),
-        8 => KindAnswer::Kind(NodeKindView::Value(ValueView::Bool(record.f0 != 0))),
-        9 => KindAnswer::Kind(NodeKindView::Value(ValueView::Int(signed_of(record.f0)))),
+        3 | 11 | 13 => text_kind(node, strings),
+        6..=7 => text_kind(node, strings),
+        8 => KindAnswer::Kind(NodeKindView::Value(ValueView::Bool(node.f0 != 0))),
+        9 => KindAnswer::Kind(NodeKindView::Value(ValueView::Int(signed_of(node.f0)))),
         10 => KindAnswer::Kind(NodeKindView::Value(ValueView::Float {
-            bits: record.f0,
-            value: float_of(record.f0),
+            bits: node.f0,
+            value: float_of(node.f0),
         })),
-        12 => list(payload, record.f0, record.f1),
-        16..=17 => text_kind(record, strings),
+        12 => list(payload, node.f0, node.f1),
+        14 => text_kind(node, strings),
+        16..=17 => text_kind(node, strings),
         18 => KindAnswer::Kind(NodeKindView::Void),
         _ => KindAnswer::NotFound,
     }
 }
 
-// The view of a record, beside a payload of so many bytes and the strings.
-pub fn record_view(record: NodeRecord, payload: usize, strings: &[u8]) -> NodeAnswer
-    ensures { λ r. ⌜ r ≡ recordView (now (strings .entry)) payload record ⌝ }
+// The view of a node, beside a payload of so many bytes and the strings.
+pub fn record_view(node: NodeRecord, payload: usize, strings: &[u8]) -> NodeAnswer
+    ensures { λ r. ⌜ r ≡ recordView (now (strings .entry)) payload node ⌝ }
 {
-    match kind_view(record, payload, strings) {
+    match kind_view(node, payload, strings) {
         KindAnswer::NotFound => NodeAnswer::NotFound,
         KindAnswer::Kind(kind) => {
-            let parent = optional_word(record.parent);
-            let child_index = optional_word(record.place);
+            let parent = optional_word(node.parent);
+            let child_index = optional_word(node.place);
             NodeAnswer::View(NodeView {
                 parent,
                 child_index,
@@ -237,10 +238,10 @@ pub fn node_view(bytes: &[u8], view: ImageView, id: u32) -> NodeAnswer
 {
     match node_of(bytes, view, id) {
         RecordFound::NotFound => NodeAnswer::NotFound,
-        RecordFound::Record(record) => {
+        RecordFound::Record(node) => {
             let payload = image::section_part(bytes, view.payload, ImageView::PAYLOAD_SIZE);
             let strings = image::section_part(bytes, view.strings, ImageView::STRINGS_SIZE);
-            record_view(record, payload.len(), strings)
+            record_view(node, payload.len(), strings)
         }
     }
 }
