@@ -8,15 +8,18 @@ use native.Mathlib.Nat.{add-zero}
 use lib.ListN.{length}
 use lib.IntN.{ℤ}
 use lib.Dec.{leb, ltb}
-use borrow.Author.Tests.{lt-ltb, le-ltb, le-leb, lt-leb, leb-true, not-true, not-false}
-use Rattle.words.specs.Words.{wordAt}
+use borrow.Author.Tests.{eq-eqb, ne-eqb, lt-ltb, le-ltb, le-leb, lt-leb, leb-true, not-true, not-false}
+use Rattle.words.specs.Words.{wordAt, NONE}
 use Rattle.image.specs.declared.NodeRecord.{NodeRecord}
 use Rattle.image.specs.declared.TextEntry.{TextEntry}
 use Rattle.image.specs.declared.Definition.{Definition}
 use Rattle.image.specs.Sections.{Sections, namedCount, definitionCount, itemCount, f, namedWord, definitionWord, itemWord, inside, insideContainer, present, textIn}
 use Rattle.image.specs.Entries.{nodeIn, namedIn, itemIn, definitionIn}
 use Rattle.image.proofs.Tests.{and-false, both-true}
+use Rattle.image.specs.declared.ImageView.{ImageView}
+use Rattle.image.specs.Header.{sectionBytes, sectionsBy}
 use Rattle.image.proofs.Parts.{text-inside}
+use Rattle.image.proofs.Views.{payload-by, strings-by}
 use Rattle.index.specs.Definitions.{firstItem, itemsOf}
 use Rattle.views.specs.declared.Span.{Span}
 use Rattle.views.specs.declared.OptionalText.{OptionalText}
@@ -44,7 +47,7 @@ use Rattle.views.specs.declared.entries.DefinitionFound.the-variants as 
 use Rattle.views.specs.View.{signed, span, shown, optionalText, recordView, nodeView}
 use Rattle.views.specs.Found.{nodeFound, containerFound, childFound, namedFound, definitionFound, itemFound}
 use Rattle.views.specs.Children.{childCountOf, namedCountOf, childQuery, namedEntry, namedQuery, textQuery, textPart}
-use Rattle.views.specs.Lists.{listEntry, listOrigin, definitionQuery, itemEntry, itemQuery}
+use Rattle.views.specs.Lists.{listPart, listEntry, listOrigin, definitionQuery, itemEntry, itemQuery}
 use Rattle.views.proofs.Reading.{no-node, a-node, no-container, a-container, no-named, a-named, no-item, an-item, no-definition, a-definition}
 
 -- ---- a node's view
@@ -220,6 +223,27 @@ module _ (strings : List ℕ) (at len : ℕ) (b : Bool) (g : b ≡ shown (length
   pub part-hidden : b ≡ false → [] ≡ textPart strings at len
   unfolding textPart
   part-hidden n = rw (← g, n)
+
+-- of a view's strings; of its payload, which holds a list value
+module _ (bs : List ℕ) (v : ImageView) (t : Span) (part p : List ℕ) where
+  pub text-of : part ≡ sectionBytes bs (v .strings) 1 → p ≡ textPart part (t .offset) (t .len) → p ≡ textPart (sectionsBy bs v .strings) (t .offset) (t .len)
+  text-of q e = e ∙ λ j. textPart ((q ∙ sym (strings-by bs v)) j) (t .offset) (t .len)
+
+  pub payload-of : part ≡ sectionBytes bs (v .payload) 1 → p ≡ textIn part (t .offset) (t .len) → p ≡ listPart (sectionsBy bs v) t
+  unfolding listPart
+  payload-of q e = e ∙ λ j. textIn ((q ∙ sym (payload-by bs v)) j) (t .offset) (t .len)
+
+-- ---- whether a text is shown
+
+module _ (strings at len : ℕ) where
+  pub no-offset : at ≡ NONE → false ≡ shown strings at len
+  no-offset h = rw (eq-eqb at NONE h)
+
+  pub no-length : (at ≡ NONE → ⊥) → len ≡ NONE → false ≡ shown strings at len
+  no-length d h = rw (ne-eqb at NONE d, eq-eqb len NONE h)
+
+  pub within : (at ≡ NONE → ⊥) → (len ≡ NONE → ⊥) → leb (at + len) strings ≡ shown strings at len
+  within d k = rw (ne-eqb at NONE d, ne-eqb len NONE k)
 
 -- ---- entries of a list value
 

@@ -77,3 +77,75 @@ module _ (t : ℕ → List ℕ) (name : List ℕ) where
 
   pub search-end : (count lo hi : ℕ) → hi ≤ lo → Searching count lo hi → halving t name count 0 count ≡ none
   search-end count lo hi h e = e ∙ over (hi - lo) lo hi h
+
+  -- ---- what is found is there
+
+  pub record There (lo hi j : ℕ) : Type 0 where
+    pub from : lo ≤ j
+    pub below : j < hi
+    pub same : t j ≡ name
+
+  some-same : (i j : ℕ) → _≡_ {A = Option ℕ} (some i) (some j) → i ≡ j
+  some-same i j e = cc
+
+  none-some : (j : ℕ) → _≡_ {A = Option ℕ} none (some j) → ⊥
+  none-some j e = let z : _≡_ {A = ℕ} 0 1 = cc in omega arith
+
+  there-by : (n lo hi j : ℕ) → lo < hi → ((a b : ℕ) → halving t name n a b ≡ some j → There a b j)
+      → (o : Order) → orderOf (t (middleOf lo hi)) name ≡ o
+      → towards t name o (middleOf lo hi) (halving t name n (middleOf lo hi + 1) hi) (halving t name n lo (middleOf lo hi)) ≡ some j → There lo hi j
+  there-by n lo hi j l next Less q e =
+      let r = next (middleOf lo hi + 1) hi e in
+      record { from = omega arith; below = r .below; same = r .same }
+  there-by n lo hi j l next Equal q e =
+      let z = some-same (middleOf lo hi) j e in
+      record { from = omega arith; below = omega arith; same = subst (λ (x : ℕ). t x ≡ name) z (order-equal (t (middleOf lo hi)) name q) }
+  there-by n lo hi j l next Greater q e =
+      let r = next lo (middleOf lo hi) e in
+      record { from = r .from; below = omega arith; same = r .same }
+
+  there-in : (n lo hi j : ℕ) → ((a b : ℕ) → halving t name n a b ≡ some j → There a b j) → Dec (lo < hi) → halving t name (suc n) lo hi ≡ some j → There lo hi j
+  there-in n lo hi j next (yes l) e = there-by n lo hi j l next (orderOf (t (middleOf lo hi)) name) refl (sym (turn n lo hi l) ∙ e)
+  there-in n lo hi j next (no l) e = absurd (none-some j (sym (over (suc n) lo hi (omega arith)) ∙ e))
+
+  pub found-there : (n lo hi j : ℕ) → halving t name n lo hi ≡ some j → There lo hi j
+  found-there zero lo hi j e = absurd (none-some j (unfold halving in e))
+  found-there (suc n) lo hi j e = there-in n lo hi j (λ a b. found-there n a b j) (decLt lo hi) e
+
+  -- ---- what is there is found, where the texts rise
+
+  pub record Rising (lo hi : ℕ) : Type 0 where
+    pub rises : (i j : ℕ) → lo ≤ i → i < j → j < hi → before (t i) (t j) ≡ true
+
+  module _ (lo hi j : ℕ) (up : Rising lo hi) (th : There lo hi j) (m : ℕ) (a : lo ≤ m) (b : m < hi) where
+    -- on which side of the middle it lies
+    lies-below : j < m → orderOf (t m) name ≡ Greater
+    lies-below l = rw (sym (th .same)) (before-greater (t m) (t j) (up .rises j m (th .from) l b))
+
+    lies-above : m < j → orderOf (t m) name ≡ Less
+    lies-above l = rw (sym (th .same)) (before-less (t m) (t j) (up .rises m j a l (th .below)))
+
+    lies-here : m ≡ j → orderOf (t m) name ≡ Equal
+    lies-here e = rw (e, th .same) (order-self name)
+
+  lies : (n lo hi j : ℕ) → lo < hi → hi ≤ lo + suc n → Rising lo hi → There lo hi j
+      → ((a b : ℕ) → b ≤ a + n → Rising a b → There a b j → halving t name n a b ≡ some j)
+      → Dec (j < middleOf lo hi) → Dec (middleOf lo hi < j) → halving t name (suc n) lo hi ≡ some j
+  lies n lo hi j l h up th next (yes p) q =
+      turn n lo hi l
+      ∙ rw (lies-below lo hi j up th (middleOf lo hi) (omega arith) (omega arith) p)
+      (next lo (middleOf lo hi) (omega arith) (record { rises = λ x y u v w. up .rises x y u v (omega arith) })
+      (record { from = th .from; below = p; same = th .same }))
+  lies n lo hi j l h up th next (no p) (yes q) =
+      turn n lo hi l
+      ∙ rw (lies-above lo hi j up th (middleOf lo hi) (omega arith) (omega arith) q)
+      (next (middleOf lo hi + 1) hi (omega arith) (record { rises = λ x y u v w. up .rises x y (omega arith) v w })
+      (record { from = omega arith; below = th .below; same = th .same }))
+  lies n lo hi j l h up th next (no p) (no q) =
+      let e : middleOf lo hi ≡ j = omega arith in
+      turn n lo hi l ∙ rw (lies-here lo hi j up th (middleOf lo hi) (omega arith) (omega arith) e) (ap some e)
+
+  pub there-found : (n lo hi j : ℕ) → hi ≤ lo + n → Rising lo hi → There lo hi j → halving t name n lo hi ≡ some j
+  there-found zero lo hi j h up th = absurd (omega arith)
+  there-found (suc n) lo hi j h up th =
+      lies n lo hi j (omega arith) h up th (λ a b. there-found n a b j) (decLt j (middleOf lo hi)) (decLt (middleOf lo hi) j)

@@ -2,3 +2,4 @@ pub mod Reading
 pub mod Tags
 pub mod Answers
 pub mod Halving
+pub mod Lookups

@@ -20,29 +20,30 @@ use Rattle.views.specs.View.{span, shown, optionalText, optionalWord, wi
 use Rattle.views.specs.Shown.{containerView, divertView, commandView, operatorView, listView, withName, textKind}
 use Rattle.views.proofs.Reading.{missing, there}
 
+-- the answer at a tag that is known
+pub at-tag : (strings : List ℕ) (payload : ℕ) (r : NodeRecord) (k : ℕ) → r .tag ≡ k → (a : KindAnswer) → a ≡ kindView strings payload r (kindOf k)
+    → a ≡ kindView strings payload r (kindOf (r .tag))
+at-tag strings payload r k e a h = h ∙ ap (λ (t : ℕ). kindView strings payload r (kindOf t)) (sym e)
+
 module _ (strings : List ℕ) (payload : ℕ) (r : NodeRecord) (a : KindAnswer) where
   abbrev Right : ℕ → Type 0
   Right t = a ≡ kindView strings payload r (kindOf t)
 
-  -- the answer at a tag that is known
-  pub at-tag : (k : ℕ) → r .tag ≡ k → Right k → Right (r .tag)
-  at-tag k e h = h ∙ ap (λ (t : ℕ). kindView strings payload r (kindOf t)) (sym e)
-
   pub at-container : r .tag ≡ 1 → a ≡ containerView (length strings) r → Right (r .tag)
   unfolding kindView kinds containerView
-  at-container e h = at-tag 1 e h
+  at-container e h = at-tag strings payload r 1 e a h
 
   pub at-divert : r .tag ≡ 4 → a ≡ divertView (length strings) r → Right (r .tag)
   unfolding kindView kinds divertView
-  at-divert e h = at-tag 4 e h
+  at-divert e h = at-tag strings payload r 4 e a h
 
   pub at-list : r .tag ≡ 12 → a ≡ listView payload (r .f0) (r .f1) → Right (r .tag)
   unfolding kindView kinds listView
-  at-list e h = at-tag 12 e h
+  at-list e h = at-tag strings payload r 12 e a h
 
   -- a kind that is made of a text
   text-at : (k : ℕ) → a ≡ textKind (r .tag) strings r → textKind k strings r ≡ kindView strings payload r (kindOf k) → r .tag ≡ k → Right (r .tag)
-  text-at k h q e = at-tag k e (h ∙ ap (λ (t : ℕ). textKind t strings r) e ∙ q)
+  text-at k h q e = at-tag strings payload r k e a (h ∙ ap (λ (t : ℕ). textKind t strings r) e ∙ q)
 
   pub at-text : a ≡ textKind (r .tag) strings r → (r .tag ≡ 3) ⊎ ((r .tag ≡ 11) ⊎ (r .tag ≡ 13)) → Right (r .tag)
   unfolding kindView kinds textKind withName commandView operatorView
@@ -66,8 +67,8 @@ module _ (strings : List ℕ) (payload : ℕ) (r : NodeRecord) (a : KindAnswer) 
 pub at-unknown : (strings : List ℕ) (payload : ℕ) (r : NodeRecord) → (r .tag ≡ 0) ⊎ ((r .tag ≡ 15) ⊎ (19 ≤ r .tag))
     → kindly.NotFound ≡ kindView strings payload r (kindOf (r .tag))
 unfolding kindView kinds
-at-unknown strings payload r (inl e) = at-tag strings payload r kindly.NotFound 0 e refl
-at-unknown strings payload r (inr (inl e)) = at-tag strings payload r kindly.NotFound 15 e refl
+at-unknown strings payload r (inl e) = at-tag strings payload r 0 e kindly.NotFound refl
+at-unknown strings payload r (inr (inl e)) = at-tag strings payload r 15 e kindly.NotFound refl
 at-unknown strings payload r (inr (inr l)) = ap (kindView strings payload r) (sym (past-kinds (r .tag) l))
 
 -- ---- tags in the decision's ranges
@@ -88,12 +89,13 @@ from-six t r h =
     let five : 5 ≤ t = up 4 t (up 3 t three (λ e. r .0 .0 .0 .0 .0 .0 .1 (inl e))) (r .0 .0 .0 .0 .0 .0 .0 .0 .1) in
     up 5 t five (r .0 .0 .0 .0 .0 .0 .0 .1)
 
-pub from-fifteen : (t : ℕ) → Rest t → 8 ≤ t → 15 ≤ t
-from-fifteen t r h =
+pub fifteen : (t : ℕ) → Rest t → 8 ≤ t → t < 16 → t ≡ 15
+fifteen t r h l =
     let ten : 10 ≤ t = up 9 t (up 8 t h (r .0 .0 .0 .0 .0 .1)) (r .0 .0 .0 .0 .1) in
     let twelve : 12 ≤ t = up 11 t (up 10 t ten (r .0 .0 .0 .1)) (λ e. r .0 .0 .0 .0 .0 .0 .1 (inr (inl e))) in
     let fourteen : 14 ≤ t = up 13 t (up 12 t twelve (r .0 .0 .1)) (λ e. r .0 .0 .0 .0 .0 .0 .1 (inr (inr e))) in
-    up 14 t fourteen (r .0 .1)
+    let last : 15 ≤ t = up 14 t fourteen (r .0 .1) in
+    omega arith
 
 pub from-nineteen : (t : ℕ) → Rest t → 18 ≤ t → 19 ≤ t
 from-nineteen t r h = up 18 t h (r .1)
@@ -106,12 +108,13 @@ text-equal x y h = cc
 
 -- ---- a kind that is made of a text
 
-module _ (strings : List ℕ) (r : NodeRecord) (a : KindAnswer) where
-  -- by the tag, the text being there
-  pub name-at : (t : Span) (k : ℕ) → r .tag ≡ k → a ≡ withName k strings r t → a ≡ withName (r .tag) strings r t
-  name-at t k e h = h ∙ ap (λ (x : ℕ). withName x strings r t) (sym e)
+-- by the tag, the text being there
+pub name-at : (strings : List ℕ) (r : NodeRecord) (t : Span) (k : ℕ) → r .tag ≡ k → (a : KindAnswer) → a ≡ withName k strings r t
+    → a ≡ withName (r .tag) strings r t
+name-at strings r t k e a h = h ∙ ap (λ (x : ℕ). withName x strings r t) (sym e)
 
-  -- by the text
+-- by the text
+module _ (strings : List ℕ) (r : NodeRecord) (a : KindAnswer) where
   module _ (o : OptionalText) (e : o ≡ optionalText (length strings) (r .f0) (r .f1)) where
     pub text-absent : o ≡ text.Absent → a ≡ kindly.NotFound → a ≡ textKind (r .tag) strings r
     unfolding textKind withText optionalText

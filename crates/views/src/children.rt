@@ -116,5 +116,8 @@ pub fn shown_part(strings: &[u8], text: Span) -> &[u8]
 pub fn text(bytes: &[u8], view: ImageView, text: Span) -> &[u8]
     ensures { λ r. ⌜ now r ≡ textPart (sectionsBy (now (bytes .entry)) view .strings) (text .offset) (text .len) ⌝ }
 {
-    shown_part(image::section_part(bytes, view.strings, ImageView::STRINGS_SIZE), text)
+    shown_part(
+        image::section_part(bytes, view.strings, ImageView::STRINGS_SIZE),
+        text,
+    )
 }

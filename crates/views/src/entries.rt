@@ -77,13 +77,19 @@ pub fn entry_of(part: &[u8], k: usize) -> EntryFound
 pub fn named_of(bytes: &[u8], view: ImageView, k: usize) -> EntryFound
     ensures { λ r. ⌜ r ≡ namedFound (sectionsBy (now (bytes .entry)) view) k ⌝ }
 {
-    entry_of(image::section_part(bytes, view.named, ImageView::NAMED_SIZE), k)
+    entry_of(
+        image::section_part(bytes, view.named, ImageView::NAMED_SIZE),
+        k,
+    )
 }
 
 pub fn item_of(bytes: &[u8], view: ImageView, k: usize) -> EntryFound
     ensures { λ r. ⌜ r ≡ itemFound (sectionsBy (now (bytes .entry)) view) k ⌝ }
 {
-    entry_of(image::section_part(bytes, view.items, ImageView::ITEM_SIZE), k)
+    entry_of(
+        image::section_part(bytes, view.items, ImageView::ITEM_SIZE),
+        k,
+    )
 }
 
 pub fn definition_of(bytes: &[u8], view: ImageView, d: usize) -> DefinitionFound

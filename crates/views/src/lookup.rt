@@ -93,7 +93,15 @@ fn is_origin(given: bool, origin: &[u8], text: &[u8]) -> bool
 }
 
 // The place of the item in definition `d`, where that is the origin that was given, if one was, and holds the item.
-fn place_in(definitions: &[u8], items: &[u8], strings: &[u8], d: usize, given: bool, origin: &[u8], name: &[u8]) -> Place
+fn place_in(
+    definitions: &[u8],
+    items: &[u8],
+    strings: &[u8],
+    d: usize,
+    given: bool,
+    origin: &[u8],
+    name: &[u8],
+) -> Place
     requires { ⌜ 16 * d + 16 ≤ length (now definitions) ⌝ }
     ensures { λ r. ⌜ placed r ≡ placeIn (listParts (now (definitions .entry)) (now (items .entry)) (now (strings .entry))) given (now (origin .entry)) (now (name .entry)) d ⌝ }
 {
@@ -125,7 +133,14 @@ fn item_at(definitions: &[u8], items: &[u8], d: usize, j: usize) -> ListItemAnsw
 }
 
 // The item of the last definition that answers.
-fn last_item(definitions: &[u8], items: &[u8], strings: &[u8], given: bool, origin: &[u8], name: &[u8]) -> ListItemAnswer
+fn last_item(
+    definitions: &[u8],
+    items: &[u8],
+    strings: &[u8],
+    given: bool,
+    origin: &[u8],
+    name: &[u8],
+) -> ListItemAnswer
     ensures { λ r. ⌜ r ≡ lastItem (listParts (now (definitions .entry)) (now (items .entry)) (now (strings .entry))) given (now (origin .entry)) (now (name .entry)) ⌝ }
 {
     let mut d = definitions.len() / 16;
@@ -153,7 +168,14 @@ pub fn list_item(bytes: &[u8], view: ImageView, name: &[u8]) -> ListItemAnswer
     let strings = image::section_part(bytes, view.strings, ImageView::STRINGS_SIZE);
     let dot = texts::first_dot(name);
     if dot < name.len() {
-        last_item(definitions, items, strings, true, &name[..dot], &name[dot + 1..])
+        last_item(
+            definitions,
+            items,
+            strings,
+            true,
+            &name[..dot],
+            &name[dot + 1..],
+        )
     } else {
         last_item(definitions, items, strings, false, name, name)
     }

@@ -1,9 +1,5 @@
 -- `views::children::text` meets its contract. Assumes nothing.
-use mathlib.Core.Path.{sym, ap, _∙_}
-use mathlib.Core.List.{List}
-use Prim.Native.Nat.{ℕ}
-use Rattle.image.proofs.Views.{strings-by}
-use Rattle.views.specs.Children.{textPart}
+use Rattle.views.proofs.Answers.{text-of}
 use borrow.Author.Needs.{needs}
 use Rattle.views.proofs.children.text.Statement.{statement}
 use Rattle.views.proofs.children.text.Tie as tie
@@ -15,7 +11,7 @@ shown-part-requires : tie.Need-shown-part-requires
 shown-part-requires c κs = search needs
 
 returns : tie.Need-returns
-returns c = c .shown-part .ensures ∙ ap (λ (l : List ℕ). textPart l _ _) (c .before .section-part .ensures ∙ sym (strings-by _ _))
+returns c = text-of _ _ _ _ _ (c .before .section-part .ensures) (c .shown-part .ensures)
 
 pub text-spec : {M : Type 1} → statement M
 text-spec = tie.close (tie.spec section-part-requires shown-part-requires returns)

@@ -28,7 +28,7 @@ returns : tie.Need-returns
 returns c = item-missing _ _ (strings-by _ _ ∙ sym (c .before .before .before .section-part .ensures)) _ _ (c .before .before .item-of .ensures) (c .enum-told .given .1)
 
 returns-2 : tie.Need-returns-2
-returns-2 c = item-shown _ _ (strings-by _ _ ∙ sym (c .before .before .before .before .before .before .before .section-part .ensures)) _ _ (c .before .before .before .before .before .before .item-of .ensures) _ (c .before .before .before .before .entry .given .1) _ (c .before .before .is-shown .ensures) (c .before .if1 .taken) _ (c .signed-of .ensures)
+returns-2 c = search (needs, item-shown _ _ (strings-by _ _ ∙ sym (c .before .before .before .before .before .before .before .section-part .ensures)) _ _ (c .before .before .before .before .before .before .item-of .ensures) _ (c .before .before .before .before .entry .given .1) _ (c .before .before .is-shown .ensures) (c .before .if1 .taken))
 
 returns-3 : tie.Need-returns-3
 returns-3 c = item-hidden _ _ (strings-by _ _ ∙ sym (c .before .before .before .before .before .before .section-part .ensures)) _ _ (c .before .before .before .before .before .item-of .ensures) _ (c .before .before .before .entry .given .1) _ (c .before .is-shown .ensures) (c .if1 .left)

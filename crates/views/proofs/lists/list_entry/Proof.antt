@@ -1,4 +1,5 @@
 -- `views::lists::list_entry` meets its contract. Assumes nothing.
+use denote.Ref.{now}
 use Rattle.views.proofs.Answers.{list-short, list-past, list-hidden, list-shown}
 use borrow.Author.Needs.{needs}
 use Rattle.views.proofs.lists.list_entry.Statement.{statement}
@@ -62,7 +63,7 @@ signed-of-requires : tie.Need-signed-of-requires
 signed-of-requires c κs = search needs
 
 returns-4 : tie.Need-returns-4
-returns-4 c = list-shown _ _ _ (c .before .before .before .before .before .before .before .before .before .before .before .if1 .left) _ (c .before .before .before .before .before .before .before .before .before .before .word .ensures) (c .before .before .before .before .before .before .before .before .before .if2 .left) _ _ (c .before .before .before .before .before .before .before .before .word2 .ensures) (c .before .before .before .before .before .before .before .word3 .ensures) _ (c .before .before .before .before .before .before .is-shown .ensures) (c .before .before .before .before .before .if3 .left) _ _ _ (c .before .before .before .before .word4 .ensures) (c .before .before .before .word5 .ensures) (c .before .word6 .ensures) _ (c .before .before .optional-text .ensures) _ (c .signed-of .ensures)
+returns-4 c = search (needs, list-shown (now (c .before .before .before .before .before .before .before .before .before .before .before .before .before .before .args .payload)) (now (c .before .before .before .before .before .before .before .before .before .before .before .before .before .before .args .strings)) (c .before .before .before .before .before .before .before .before .before .before .before .before .before .before .args .j) (c .before .before .before .before .before .before .before .before .before .before .before .if1 .left) _ (c .before .before .before .before .before .before .before .before .before .before .word .ensures) (c .before .before .before .before .before .before .before .before .before .if2 .left) _ _ (c .before .before .before .before .before .before .before .before .word2 .ensures) (c .before .before .before .before .before .before .before .word3 .ensures) _ (c .before .before .before .before .before .before .is-shown .ensures) (c .before .before .before .before .before .if3 .left) _ _ _ (c .before .before .before .before .word4 .ensures) (c .before .before .before .word5 .ensures) (c .before .word6 .ensures) _ (c .before .before .optional-text .ensures))
 
 pub list-entry-spec : {M : Type 1} → statement M
 list-entry-spec =

@@ -1,84 +1,66 @@
+-- `views::lookup::find` meets its contract. The loop's invariant: the range lo to hi is all that is left to search. Assumes nothing.
+use borrow.Author.Needs.{needs}
+use Prim.Native.Nat.{_-_}
+use Rattle.views.proofs.Lookups.{Halved, halved-start, halved-above, halved-below, halved-here, halved-end}
 use Rattle.views.proofs.lookup.find.Statement.{statement}
 use Rattle.views.proofs.lookup.find.Tie as tie
-use Rattle.views.proofs.lookup.find.Reads as reads
-use Rattle.views.proofs.lookup.find.Lts as lts
-use Rattle.image.proofs.text_entry.Reads as text-entry-reads
-use Rattle.image.proofs.text_part.Reads as text-part-reads
-use Rattle.texts.proofs.compare.Reads as compare-reads
 
 abbrev Inv-loop : tie.InvT-loop
-Inv-loop part strings from count name lo₀ hi₀ lo hi = ?
+Inv-loop part strings from count name lo₀ hi₀ lo hi = Halved part strings from count name lo hi
 
 abbrev μ-loop : tie.MeasureT-loop
-μ-loop part strings from count name lo₀ hi₀ lo hi = ?
+μ-loop part strings from count name lo₀ hi₀ lo hi = hi - lo
 
--- src/lookup.rt:36:5
 loop-holds : tie.Need-loop-holds Inv-loop μ-loop
-loop-holds c = ?
+loop-holds c = halved-start _ _ _ _ _
 
--- src/lookup.rt:37:28
 sub-middle : tie.Need-sub-middle Inv-loop μ-loop
-sub-middle c = ?
+sub-middle c = search needs
 
--- src/lookup.rt:37:22
 add-middle : tie.Need-add-middle Inv-loop μ-loop
-add-middle c = ?
+add-middle c = search needs
 
--- src/lookup.rt:38:45
 add-text-entry : tie.Need-add-text-entry Inv-loop μ-loop
-add-text-entry c = ?
+add-text-entry c = search needs
 
--- src/lookup.rt:38:13
 text-entry-requires : tie.Need-text-entry-requires Inv-loop μ-loop
-text-entry-requires c κs = ?
+text-entry-requires c κs = search needs
 
--- src/lookup.rt:39:30
 text-part-requires : tie.Need-text-part-requires Inv-loop μ-loop
-text-part-requires c κs = ?
+text-part-requires c κs = search needs
 
--- src/lookup.rt:39:15
 compare-requires : tie.Need-compare-requires Inv-loop μ-loop
-compare-requires c κs = ?
+compare-requires c κs = search needs
 
--- src/lookup.rt:41:22
 enum-told : tie.Need-enum-told Inv-loop μ-loop
-enum-told c = ?
+enum-told c = search needs
 
--- src/lookup.rt:41:22
 add-lo : tie.Need-add-lo Inv-loop μ-loop
-add-lo c = ?
+add-lo c = search needs
 
--- src/lookup.rt:36:5
 loop-less : tie.Need-loop-less Inv-loop μ-loop
-loop-less c = ?
+loop-less c = search needs
 
--- src/lookup.rt:36:5
 loop-again : tie.Need-loop-again Inv-loop μ-loop
-loop-again c = ?
+loop-again c = halved-above (c .before .before .before .before .before .before .loop .inv) (c .before .before .before .before .before .loop-test .taken) _ (c .before .before .before .before .text-entry .ensures) _ (c .before .before .before .text-part .ensures) _ (c .before .before .compare .ensures) (c .enum-told .given .1)
 
--- src/lookup.rt:44:17
 enum-told-2 : tie.Need-enum-told-2 Inv-loop μ-loop
-enum-told-2 c = ?
+enum-told-2 c = search needs
 
--- src/lookup.rt:44:17
 returns : tie.Need-returns Inv-loop μ-loop
-returns c = ?
+returns c = halved-here (c .before .before .before .before .before .before .loop .inv) (c .before .before .before .before .before .loop-test .taken) _ (c .before .before .before .before .text-entry .ensures) _ (c .before .before .before .text-part .ensures) _ (c .before .before .compare .ensures) (c .enum-told2 .given .1)
 
--- src/lookup.rt:47:17
 enum-told-3 : tie.Need-enum-told-3 Inv-loop μ-loop
-enum-told-3 c = ?
+enum-told-3 c = search needs
 
--- src/lookup.rt:36:5
 loop-less-2 : tie.Need-loop-less-2 Inv-loop μ-loop
-loop-less-2 c = ?
+loop-less-2 c = search needs
 
--- src/lookup.rt:36:5
 loop-again-2 : tie.Need-loop-again-2 Inv-loop μ-loop
-loop-again-2 c = ?
+loop-again-2 c = halved-below (c .before .before .before .before .before .before .loop .inv) (c .before .before .before .before .before .loop-test .taken) _ (c .before .before .before .before .text-entry .ensures) _ (c .before .before .before .text-part .ensures) _ (c .before .before .compare .ensures) (c .enum-told3 .given .1)
 
--- src/lookup.rt:30:1
 returns-2 : tie.Need-returns-2 Inv-loop μ-loop
-returns-2 c = ?
+returns-2 c = halved-end (c .before .loop .inv) (c .loop-test .left)
 
 pub find-spec : {M : Type 1} → statement M
 find-spec =

@@ -1,43 +1,32 @@
+-- `views::lookup::find_named_child` meets its contract. Assumes nothing.
+use Rattle.views.proofs.Lookups.{find-missing, find-found}
 use borrow.Author.Needs.{needs}
 use Rattle.views.proofs.lookup.find_named_child.Statement.{statement}
 use Rattle.views.proofs.lookup.find_named_child.Tie as tie
-use Rattle.views.proofs.lookup.find_named_child.Reads as reads
-use Rattle.views.proofs.lookup.find_named_child.Lts as lts
-use Rattle.image.proofs.section_part.Reads as section-part-reads
-use Rattle.views.proofs.entries.container_of.Reads as container-of-reads
-use Rattle.views.proofs.lookup.named_by.Reads as named-by-reads
 
--- src/lookup.rt:73:11
 container-of-requires : tie.Need-container-of-requires
 container-of-requires c κs = search needs
 
--- src/lookup.rt:74:34
 enum-told : tie.Need-enum-told
 enum-told c = search needs
 
--- src/lookup.rt:75:29
 enum-known-container : tie.Need-enum-known-container
 enum-known-container c = search needs
 
--- src/lookup.rt:77:13
 section-part-requires : tie.Need-section-part-requires
 section-part-requires c κs = search needs
 
--- src/lookup.rt:78:13
 section-part-requires-2 : tie.Need-section-part-requires-2
 section-part-requires-2 c κs = search needs
 
--- src/lookup.rt:75:43
 named-by-requires : tie.Need-named-by-requires
 named-by-requires c κs = search needs
 
--- src/lookup.rt:70:1
 returns : tie.Need-returns
-returns c = ?
+returns c = find-missing _ _ _ _ _ (c .before .before .container-of .ensures) (c .enum-told .given .1)
 
--- src/lookup.rt:70:1
 returns-2 : tie.Need-returns-2
-returns-2 c = ?
+returns-2 c = find-found _ _ _ _ _ (c .before .before .before .before .before .before .container-of .ensures) _ (c .before .before .before .before .container .given .1) _ _ (c .before .before .section-part .ensures) (c .before .section-part2 .ensures) _ (c .named-by .ensures)
 
 pub find-named-child-spec : {M : Type 1} → statement M
 find-named-child-spec =

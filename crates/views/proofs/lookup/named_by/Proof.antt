@@ -1,62 +1,48 @@
+-- `views::lookup::named_by` meets its contract. Assumes nothing.
+use native.Mathlib.Omega.{arith}
+use Rattle.views.proofs.Lookups.{named-outside, named-nowhere, named-at, named-place}
 use borrow.Author.Needs.{needs}
 use Rattle.views.proofs.lookup.named_by.Statement.{statement}
 use Rattle.views.proofs.lookup.named_by.Tie as tie
-use Rattle.views.proofs.lookup.named_by.Reads as reads
-use Rattle.views.proofs.lookup.named_by.Lts as lts
-use Rattle.image.proofs.part_word.Reads as part-word-reads
-use Rattle.views.proofs.lookup.find.Reads as find-reads
 
--- src/lookup.rt:58:16
 cast-from : tie.Need-cast-from
 cast-from c = search needs
 
--- src/lookup.rt:59:17
 cast-count : tie.Need-cast-count
 cast-count c = search needs
 
--- src/lookup.rt:60:27
 add-if1 : tie.Need-add-if1
 add-if1 c = search needs
 
--- src/lookup.rt:61:9
 returns : tie.Need-returns
-returns c = ?
+returns c = named-outside _ _ _ _ _ (c .if1 .taken)
 
--- src/lookup.rt:63:11
 find-requires : tie.Need-find-requires
 find-requires c κs = search needs
 
--- src/lookup.rt:64:27
 enum-told : tie.Need-enum-told
 enum-told c = search needs
 
--- src/lookup.rt:65:19
 enum-known-j : tie.Need-enum-known-j
 enum-known-j c = search needs
 
--- src/lookup.rt:65:62
 add-part-word : tie.Need-add-part-word
-add-part-word c = ?
+add-part-word c = omega (arith, named-place _ _ _ _ _ (c .before .before .before .find .result) (c .before .before .before .find .ensures) _ (c .before .j .given .1))
 
--- src/lookup.rt:65:61
 mul-part-word : tie.Need-mul-part-word
-mul-part-word c = ?
+mul-part-word c = omega (arith, named-place _ _ _ _ _ (c .before .before .before .find .result) (c .before .before .before .find .ensures) _ (c .before .j .given .1))
 
--- src/lookup.rt:65:61
 add-part-word-2 : tie.Need-add-part-word-2
-add-part-word-2 c = ?
+add-part-word-2 c = omega (arith, named-place _ _ _ _ _ (c .before .before .before .find .result) (c .before .before .before .find .ensures) _ (c .before .j .given .1))
 
--- src/lookup.rt:65:37
 part-word-requires : tie.Need-part-word-requires
-part-word-requires c κs = ?
+part-word-requires c κs = omega (arith, named-place _ _ _ _ _ (c .before .before .before .find .result) (c .before .before .before .find .ensures) _ (c .before .j .given .1))
 
--- src/lookup.rt:55:1
 returns-2 : tie.Need-returns-2
-returns-2 c = ?
+returns-2 c = named-nowhere _ _ _ _ _ (c .before .before .find .result) (c .before .before .find .ensures) (c .before .before .before .if1 .left) (c .enum-told .given .1)
 
--- src/lookup.rt:55:1
 returns-3 : tie.Need-returns-3
-returns-3 c = ?
+returns-3 c = named-at _ _ _ _ _ (c .before .before .before .before .find .result) (c .before .before .before .before .find .ensures) (c .before .before .before .before .before .if1 .left) _ (c .before .before .j .given .1) _ (c .part-word .ensures)
 
 pub named-by-spec : {M : Type 1} → statement M
 named-by-spec =

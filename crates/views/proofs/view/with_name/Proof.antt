@@ -1,4 +1,5 @@
 -- `views::view::with_name` meets its contract. Assumes nothing.
+use denote.Ref.{now}
 use mathlib.Core.Path.{refl, ap, _∙_}
 use Rattle.views.specs.Shown.{commandView, operatorView, withName}
 use Rattle.views.proofs.Tags.{name-at, name-other}
@@ -29,31 +30,31 @@ optional-word-requires c κs = search needs
 
 returns : tie.Need-returns
 unfolding withName
-returns c = name-at _ _ _ _ 3 (c .before .before .match .keys1) (c .command .ensures ∙ ap commandView (c .before .text-part .ensures))
+returns c = name-at (now (c .before .before .before .before .args .strings)) (c .before .before .before .before .args .node) (c .before .before .before .before .args .name) 3 (c .before .before .match .keys1) _ (c .command .ensures ∙ ap commandView (c .before .text-part .ensures))
 
 returns-2 : tie.Need-returns-2
 unfolding withName
-returns-2 c = name-at _ _ _ _ 6 (c .before .before .match .keys2) (c .operator .ensures ∙ ap operatorView (c .before .text-part2 .ensures))
+returns-2 c = name-at (now (c .before .before .before .before .args .strings)) (c .before .before .before .before .args .node) (c .before .before .before .before .args .name) 6 (c .before .before .match .keys2) _ (c .operator .ensures ∙ ap operatorView (c .before .text-part2 .ensures))
 
 returns-3 : tie.Need-returns-3
 unfolding withName
-returns-3 c = name-at _ _ _ _ 7 (c .match .keys3) refl
+returns-3 c = name-at (now (c .before .before .args .strings)) (c .before .before .args .node) (c .before .before .args .name) 7 (c .match .keys3) _ refl
 
 returns-4 : tie.Need-returns-4
 unfolding withName
-returns-4 c = name-at _ _ _ _ 11 (c .match .keys4) refl
+returns-4 c = name-at (now (c .before .before .args .strings)) (c .before .before .args .node) (c .before .before .args .name) 11 (c .match .keys4) _ refl
 
 returns-5 : tie.Need-returns-5
 unfolding withName
-returns-5 c = name-at _ _ _ _ 13 (c .match .keys5) refl
+returns-5 c = name-at (now (c .before .before .args .strings)) (c .before .before .args .node) (c .before .before .args .name) 13 (c .match .keys5) _ refl
 
 returns-6 : tie.Need-returns-6
 unfolding withName
-returns-6 c = name-at _ _ _ _ 14 (c .before .match .keys6) (search needs)
+returns-6 c = search (needs, name-at (now (c .before .before .before .args .strings)) (c .before .before .before .args .node) (c .before .before .before .args .name) 14 (c .before .match .keys6))
 
 returns-7 : tie.Need-returns-7
 unfolding withName
-returns-7 c = name-at _ _ _ _ 16 (c .match .keys7) (search needs)
+returns-7 c = search (needs, name-at (now (c .before .before .args .strings)) (c .before .before .args .node) (c .before .before .args .name) 16 (c .match .keys7))
 
 returns-8 : tie.Need-returns-8
 returns-8 c = let r = c .before .match .rest in ap (λ (w : OptionalWord). kindly.Kind (kind.VariableReference _ w)) (c .optional-word .ensures) ∙ name-other _ _ _ _ (r .0 .0 .0 .0 .0 .0 .1) (r .0 .0 .0 .0 .0 .1) (r .0 .0 .0 .0 .1) (r .0 .0 .0 .1) (r .0 .0 .1) (r .0 .1) (r .1)
