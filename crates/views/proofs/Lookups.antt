@@ -10,14 +10,13 @@ use lib.ListN.{length, getD, take, drop, length-drop}
 use lib.Seq.{take-all}
 use lib.IntN.{ℤ}
 use lib.Dec.{leb, ltb}
-use borrow.Author.Tests.{le-leb, lt-leb, leb-true, not-true, not-false}
+use borrow.Author.Tests.{lt-ltb, le-ltb, le-leb, lt-leb, leb-true, not-true, not-false}
 use Rattle.laws.specs.Counted.{lastOf}
 use Rattle.words.specs.Words.{wordsOf}
 use Rattle.texts.specs.declared.Order.{Order}
 use Rattle.texts.specs.declared.Order.the-variants.{Less, Equal, Greater}
 use Rattle.texts.specs.Text.{orderOf, same}
-use Rattle.texts.specs.Dots.{firstDot, hasDot, beforeDot, afterDot}
-use Rattle.texts.proofs.Dots.{has-dot, has-no-dot}
+use Rattle.texts.specs.Dots.{firstDot, beforeDot, afterDot}
 use Rattle.utf8.specs.White.{blank}
 use Rattle.image.specs.declared.NodeRecord.{NodeRecord}
 use Rattle.image.specs.declared.TextEntry.{TextEntry}
@@ -141,6 +140,15 @@ module _ (bs : List ℕ) (v : ImageView) (i : ℕ) (name : List ℕ) (r : Record
 
 -- ---- a list item
 
+chosen : (b : Bool) (x : Option ℕ) (j : ℕ) → cond b x none ≡ some j → (b ≡ true) × (x ≡ some j)
+chosen true x j e = (refl, e)
+chosen false x j e = absurd (let z : _≡_ {A = ℕ} 0 1 = cc in omega arith)
+
+pub item-made : (ds is : List ℕ) (d j w v : ℕ) → w ≡ getD (wordsOf ds) (d * 4 + 2) 0 → v ≡ getD (wordsOf is) ((w + j) * 3 + 2) 0
+    → (z : ℤ) → z ≡ signed v → answer.Item (record { definition = d; item = w + j; value = z }) ≡ listItemAt (listParts ds is []) d (some j)
+unfolding definitionWord itemWord
+item-made ds is d j w v p q z r = rw (r, q, p)
+
 -- definitions, items and strings alone answer as a view's sections do
 module _ (bs : List ℕ) (v : ImageView) (given : Bool) (origin name : List ℕ) where
   abbrev lent : Sections
@@ -189,6 +197,17 @@ module _ (ds is ss : List ℕ) where
             rw (← origin-told, not-false b y, triple-count is, le-leb (firstItem parts d + itemsOf parts d) (length is / 12) (rw told at l))
             (q ∙ λ j. searched (wordsOf is) ss (told j .first) (told j .count) name)
 
+  -- an item that is found is one of the section
+  item-bound : (given : Bool) (origin name : List ℕ) (d j : ℕ) → placeIn parts given origin name d ≡ some j
+      → firstItem (listParts ds is []) d + j < length is / 12
+  unfolding placeIn itemIn definitionWord
+  item-bound given origin name d j e =
+      let mine = chosen (not given || same origin (definitionName parts d)) (itemIn parts d name) j e in
+      let here = chosen (leb (firstItem parts d + itemsOf parts d) (itemCount parts)) (searched (wordsOf is) ss (firstItem parts d) (itemsOf parts d) name) j (mine .1) in
+      let last = place-below (wordsOf is) ss (firstItem parts d) (itemsOf parts d) name j (here .1) in
+      let inside = leb-true (firstItem parts d + itemsOf parts d) (itemCount parts) (here .0) in
+      omega (arith, triple-count is)
+
   -- ---- the last definition that answers
 
   module _ (given : Bool) (origin name : List ℕ) where
@@ -226,14 +245,11 @@ module _ (ds is ss : List ℕ) where
       pub left-found : (j : ℕ) → p ≡ place.At j → (a : ListItemAnswer) → a ≡ listItemAt (listParts ds is []) (d - 1) (some j)
           → a ≡ lastItem parts given origin name
       unfolding lastOf definitionWord itemWord
-      left-found j n a q = q ∙ sym (rw (← e, n) at turned)
+      left-found j n a q = q ∙ sym (rw (← e, n, ← e, n) at turned)
 
       -- the item that it answers is inside
       pub item-inside : (j : ℕ) → p ≡ place.At j → firstItem (listParts ds is []) (d - 1) + j < length is / 12
-      item-inside j n = item-bound (d - 1) j (sym e ∙ ap placed n)
-        where
-          item-bound : (k j : ℕ) → placeIn parts given origin name k ≡ some j → firstItem (listParts ds is []) k + j < length is / 12
-          item-bound k j q = ?
+      item-inside j n = item-bound given origin name (d - 1) j (sym e ∙ ap placed n)
 
     pub left-end : (d : ℕ) → d ≤ 0 → Left d → answer.NotFound ≡ lastItem parts given origin name
     left-end d h l = sym (l .same-answer ∙ ap (λ (n : ℕ). listItemIn parts given origin name (lastOf n (answers parts given origin name))) nothing ∙ empty)
@@ -243,3 +259,30 @@ module _ (ds is ss : List ℕ) where
 
         empty : listItemIn parts given origin name (lastOf 0 (answers parts given origin name)) ≡ answer.NotFound
         empty = unfold lastOf in refl
+
+-- ---- by the name's form
+
+to-end : (k : ℕ) (s : List ℕ) → take (length s - k) (drop k s) ≡ drop k s
+to-end k s = take-all (length s - k) (drop k s) (simp length-drop (omega arith))
+
+module _ (bs : List ℕ) (v : ImageView) (name : List ℕ) (b : Bool) (hb : b ≡ blank name) where
+  pub list-blank : b ≡ true → answer.NotFound ≡ listItem (sectionsBy bs v) name
+  unfolding listItem
+  list-blank y = rw (← hb, y)
+
+  module _ (n : b ≡ false) (ds is ss : List ℕ) (p : ds ≡ sectionBytes bs (v .definitions) 16) (q : is ≡ sectionBytes bs (v .items) 12)
+      (r : ss ≡ sectionBytes bs (v .strings) 1) (dot : ℕ) (k : dot ≡ firstDot name) (a : ListItemAnswer) where
+    lent-by : (given : Bool) (origin item : List ℕ) → a ≡ lastItem (listParts ds is ss) given origin item → a ≡ lastItem (sectionsBy bs v) given origin item
+    lent-by given origin item g = g ∙ (λ j. lastItem (listParts (p j) (q j) (r j)) given origin item) ∙ lists-by bs v given origin item
+
+    pub list-plain : length name ≤ dot → a ≡ lastItem (listParts ds is ss) false name name → a ≡ listItem (sectionsBy bs v) name
+    unfolding listItem
+    list-plain l g = rw (← hb, n, ← k, le-ltb dot (length name) l) (lent-by false name name g)
+
+    pub list-dotted : dot < length name
+        → a ≡ lastItem (listParts ds is ss) true (take dot name) (take (length name - (dot + 1)) (drop (dot + 1) name))
+        → a ≡ listItem (sectionsBy bs v) name
+    unfolding listItem beforeDot afterDot
+    list-dotted l g =
+        rw (← hb, n, ← k, lt-ltb dot (length name) l)
+        (lent-by true (take dot name) (drop (suc dot) name) (rw (to-end (dot + 1) name, add-one dot) at g))

@@ -13,6 +13,7 @@ use borrow.Author.Tests.{ne-eqb}
 use Rattle.views.specs.declared.Span.{Span}
 use Rattle.views.specs.declared.OptionalText.{OptionalText}
 use Rattle.views.specs.declared.OptionalText.the-variants as text
+use Rattle.views.specs.declared.OptionalWord.{OptionalWord}
 use Rattle.views.specs.declared.NodeKindView.the-variants as kind
 use Rattle.views.specs.declared.KindAnswer.{KindAnswer}
 use Rattle.views.specs.declared.KindAnswer.the-variants as kindly
@@ -129,7 +130,7 @@ module _ (strings : List ℕ) (r : NodeRecord) (a : KindAnswer) where
 
 -- the tag is none of those before
 pub name-other : (strings : List ℕ) (r : NodeRecord) (t : Span) (n : ℕ) → (n ≡ 3 → ⊥) → (n ≡ 6 → ⊥) → (n ≡ 7 → ⊥) → (n ≡ 11 → ⊥) → (n ≡ 13 → ⊥)
-    → (n ≡ 14 → ⊥) → (n ≡ 16 → ⊥) → kindly.Kind (kind.VariableReference t (optionalWord (r .f4))) ≡ withName n strings r t
+    → (n ≡ 14 → ⊥) → (n ≡ 16 → ⊥) → (w : OptionalWord) → w ≡ optionalWord (r .f4) → kindly.Kind (kind.VariableReference t w) ≡ withName n strings r t
 unfolding withName
-name-other strings r t n a b c d e f g =
-    rw (ne-eqb n 3 a, ne-eqb n 6 b, ne-eqb n 7 c, ne-eqb n 11 d, ne-eqb n 13 e, ne-eqb n 14 f, ne-eqb n 16 g)
+name-other strings r t n a b c d e f g w q =
+    rw (ne-eqb n 3 a, ne-eqb n 6 b, ne-eqb n 7 c, ne-eqb n 11 d, ne-eqb n 13 e, ne-eqb n 14 f, ne-eqb n 16 g, q)

@@ -1,54 +1,44 @@
+-- `views::lookup::last_item` meets its contract. The loop's invariant: the definitions before d are all that is left to ask. Assumes nothing.
+use borrow.Author.Needs.{needs}
+use Rattle.views.proofs.Lookups.{Left, left-start, left-next, left-found, left-end, item-inside}
 use Rattle.views.proofs.lookup.last_item.Statement.{statement}
 use Rattle.views.proofs.lookup.last_item.Tie as tie
-use Rattle.views.proofs.lookup.last_item.Reads as reads
-use Rattle.views.proofs.lookup.last_item.Lts as lts
-use Rattle.views.proofs.lookup.item_at.Reads as item-at-reads
-use Rattle.views.proofs.lookup.place_in.Reads as place-in-reads
 
 abbrev Inv-loop : tie.InvT-loop
-Inv-loop definitions items strings given origin name d₀ d = ?
+Inv-loop definitions items strings given origin name d₀ d = Left definitions items strings given origin name d
 
 abbrev μ-loop : tie.MeasureT-loop
-μ-loop definitions items strings given origin name d₀ d = ?
+μ-loop definitions items strings given origin name d₀ d = d
 
--- src/lookup.rt:132:5
 loop-holds : tie.Need-loop-holds Inv-loop μ-loop
-loop-holds c = ?
+loop-holds c = left-start _ _ _ _ _ _
 
--- src/lookup.rt:133:9
 sub-d : tie.Need-sub-d Inv-loop μ-loop
-sub-d c = ?
+sub-d c = search needs
 
--- src/lookup.rt:134:15
 place-in-requires : tie.Need-place-in-requires Inv-loop μ-loop
-place-in-requires c κs = ?
+place-in-requires c κs = search needs
 
 enum-told : tie.Need-enum-told Inv-loop μ-loop
-enum-told c = ?
+enum-told c = search needs
 
--- src/lookup.rt:132:5
 loop-less : tie.Need-loop-less Inv-loop μ-loop
-loop-less c = ?
+loop-less c = search needs
 
--- src/lookup.rt:132:5
 loop-again : tie.Need-loop-again Inv-loop μ-loop
-loop-again c = ?
+loop-again c = left-next _ _ _ _ _ _ (c .before .before .before .before .loop .d) (c .before .before .before .loop-test .taken) (c .before .before .place-in .result) (c .before .before .place-in .ensures) (c .before .before .before .before .loop .inv) (c .enum-told .given .1)
 
--- src/lookup.rt:136:23
 enum-known-j : tie.Need-enum-known-j Inv-loop μ-loop
-enum-known-j c = ?
+enum-known-j c = search needs
 
--- src/lookup.rt:137:17
 item-at-requires : tie.Need-item-at-requires Inv-loop μ-loop
-item-at-requires c κs = ?
+item-at-requires c κs = (search needs, item-inside _ _ _ _ _ _ (c .before .before .before .before .before .loop .d) (c .before .before .before .before .loop-test .taken) (c .before .before .before .place-in .result) (c .before .before .before .place-in .ensures) (c .before .before .before .before .before .loop .inv) _ (c .before .j .given .1))
 
--- src/lookup.rt:137:17
 returns : tie.Need-returns Inv-loop μ-loop
-returns c = ?
+returns c = left-found _ _ _ _ _ _ (c .before .before .before .before .before .before .loop .d) (c .before .before .before .before .before .loop-test .taken) (c .before .before .before .before .place-in .result) (c .before .before .before .before .place-in .ensures) (c .before .before .before .before .before .before .loop .inv) _ (c .before .before .j .given .1) _ (c .item-at .ensures)
 
--- src/lookup.rt:128:1
 returns-2 : tie.Need-returns-2 Inv-loop μ-loop
-returns-2 c = ?
+returns-2 c = left-end _ _ _ _ _ _ _ (c .loop-test .left) (c .before .loop .inv)
 
 pub last-item-spec : {M : Type 1} → statement M
 last-item-spec =

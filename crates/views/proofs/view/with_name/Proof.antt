@@ -3,9 +3,6 @@ use denote.Ref.{now}
 use mathlib.Core.Path.{refl, ap, _∙_}
 use Rattle.views.specs.Shown.{commandView, operatorView, withName}
 use Rattle.views.proofs.Tags.{name-at, name-other}
-use Rattle.views.specs.declared.OptionalWord.{OptionalWord}
-use Rattle.views.specs.declared.NodeKindView.the-variants as kind
-use Rattle.views.specs.declared.KindAnswer.the-variants as kindly
 use borrow.Author.Needs.{needs}
 use Rattle.views.proofs.view.with_name.Statement.{statement}
 use Rattle.views.proofs.view.with_name.Tie as tie
@@ -57,7 +54,7 @@ unfolding withName
 returns-7 c = search (needs, name-at (now (c .before .before .args .strings)) (c .before .before .args .node) (c .before .before .args .name) 16 (c .match .keys7))
 
 returns-8 : tie.Need-returns-8
-returns-8 c = let r = c .before .match .rest in ap (λ (w : OptionalWord). kindly.Kind (kind.VariableReference _ w)) (c .optional-word .ensures) ∙ name-other _ _ _ _ (r .0 .0 .0 .0 .0 .0 .1) (r .0 .0 .0 .0 .0 .1) (r .0 .0 .0 .0 .1) (r .0 .0 .0 .1) (r .0 .0 .1) (r .0 .1) (r .1)
+returns-8 c = let r = c .before .match .rest in name-other _ _ _ _ (r .0 .0 .0 .0 .0 .0 .1) (r .0 .0 .0 .0 .0 .1) (r .0 .0 .0 .0 .1) (r .0 .0 .0 .1) (r .0 .0 .1) (r .0 .1) (r .1) _ (c .optional-word .ensures)
 
 pub with-name-spec : {M : Type 1} → statement M
 with-name-spec =
