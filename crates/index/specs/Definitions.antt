@@ -38,9 +38,13 @@ itemsBefore s d = sumOf d (itemsOf s)
 abbrev pub itemsRight : Sections → ℕ → Bool
 itemsRight s d = leb (firstItem s d + itemsOf s d) (itemCount s) && eqb (firstItem s d) (itemsBefore s d)
 
+-- the rule of the j-th item from the first one of a definition on
+unfoldable pub itemRuleFrom : Sections → ℕ → ℕ → ℕ
+itemRuleFrom s first j = unless (goodItem s (first + j)) 17 ▸ unless (rising (λ k. itemText s (first + k)) j) 17
+
 -- the rule of the j-th item of definition d
-unfoldable pub itemRule : Sections → ℕ → ℕ → ℕ
-itemRule s d j = unless (goodItem s (firstItem s d + j)) 17 ▸ unless (rising (itemTextOf s d) j) 17
+abbrev pub itemRule : Sections → ℕ → ℕ → ℕ
+itemRule s d j = itemRuleFrom s (firstItem s d) j
 
 unfoldable pub definitionRule : Sections → ℕ → ℕ
 definitionRule s d =
@@ -57,5 +61,5 @@ definitionsRule s = firstOf (definitionCount s) (definitionRule s) ▸ unless (i
 
 -- names on an `unfolding` line what a computation with this module needs
 unfoldable pub definitions : Unit {0}
-unfolding itemRule definitionRule itemsUsedUp definitionsRule refusals counted sections texts
+unfolding itemRuleFrom definitionRule itemsUsedUp definitionsRule refusals counted sections texts
 definitions = tt

@@ -6,15 +6,21 @@ use lib.Dec.{eqb}
 use Rattle.texts.specs.Text.{same, texts}
 use Rattle.texts.specs.Decimal.{decimal, decimals}
 use Rattle.texts.specs.Dots.{dot}
-use Rattle.image.specs.Sections.{Sections, nodeCount, nodeWord, parentOf, placeOf, f, textAt, absent, sections}
+use Rattle.image.specs.Sections.{Sections, nodeCount, nodeWord, parentOf, placeOf, f, partAt, absent, sections}
 
 -- no name, or the empty one
+abbrev pub noName : ℕ → ℕ → Bool
+noName at len = absent at len || eqb len 0
+
 unfoldable pub nameless : Sections → ℕ → Bool
-nameless s i = absent (f s i 0) (f s i 1) || eqb (f s i 1) 0
+nameless s i = noName (f s i 0) (f s i 1)
 
 -- a container's piece of a path: its non-empty name, else its place in decimal
+unfoldable pub pieceOf : List ℕ → ℕ → ℕ → ℕ → List ℕ
+pieceOf strings place at len = cond (noName at len) (decimal place) (partAt strings at len)
+
 unfoldable pub piece : Sections → ℕ → List ℕ
-piece s i = cond (nameless s i) (decimal (placeOf s i)) (textAt s (f s i 0) (f s i 1))
+piece s i = pieceOf (s .strings) (placeOf s i) (f s i 0) (f s i 1)
 
 -- joined by a dot, below the root without one
 abbrev pub joined : ℕ → List ℕ → List ℕ → List ℕ
@@ -39,11 +45,15 @@ topPlace (suc n) s i =
     let above = topPlace n s (parentOf s i) in
     cond (eqb i 0) false (cond (eqb (parentOf s i) 0) (nameless s i) above)
 
--- an index text fits its target: the canonical path, or a dot before it where the topmost piece is a place
+-- a text fits a path: it is the path, or a dot before it where the topmost piece is a place
+unfoldable pub fitsPath : Bool → List ℕ → List ℕ → Bool
+fitsPath placed t path = same t path || (placed && same t (dot ∷ path))
+
+-- an index text fits its target
 unfoldable pub fits : Sections → ℕ → List ℕ → Bool
-fits s i t = same t (canonicalPath s i) || (topPlace (nodeCount s) s i && same t (dot ∷ canonicalPath s i))
+fits s i t = fitsPath (topPlace (nodeCount s) s i) t (canonicalPath s i)
 
 -- names on an `unfolding` line what a computation with this module needs
 unfoldable pub paths : Unit {0}
-unfolding nameless piece pathFrom topPlace fits sections texts decimals
+unfolding nameless pieceOf piece pathFrom topPlace fitsPath fits sections texts decimals
 paths = tt

@@ -1,5 +1,5 @@
 -- What a load answers: 0, or the number of the first rule that is broken; and the work words on return. Assumes nothing.
-use Prim.Native.Nat.{ℕ, _+_}
+use Prim.Native.Nat.{ℕ, zero, suc, _+_}
 use mathlib.Core.List.{List, _++_}
 use mathlib.Core.Bool.{Bool, cond, _&&_}
 use mathlib.Core.Path.{_≡_}
@@ -9,11 +9,14 @@ use Rattle.laws.specs.Refusal.{unless, _▸_, firstOf, refusals}
 use Rattle.words.specs.Words.{wordAt}
 use Rattle.checksum.specs.Crc.{checksumOf, crcs}
 use Rattle.image.specs.Sections.{Sections, nodeCount, childCount, namedCount, indexCount}
-use Rattle.image.specs.Header.{headerRule, sectionsOf, headers}
+use Rattle.image.specs.declared.ImageView.{ImageView}
+use Rattle.image.specs.Header.{headerRule, viewOf, sectionsOf, headers}
 use Rattle.records.specs.Records.{nodeRule, rootRight, usedUp, containersBefore, records}
 use Rattle.tree.specs.Tree.{treeRule, trees}
 use Rattle.index.specs.Index.{indexRule, indexes}
 use Rattle.index.specs.Definitions.{definitionsRule, definitions}
+use Rattle.load.specs.declared.Loaded.{Loaded}
+use Rattle.load.specs.declared.Loaded.the-variants.{View, Refused}
 
 -- row 6
 unfoldable pub checksumRule : List ℕ → ℕ
@@ -23,15 +26,13 @@ checksumRule bs = unless (eqb (wordAt bs 84) (checksumOf bs)) 6
 unfoldable pub leftoverRule : Sections → ℕ
 leftoverRule s = unless (usedUp s && eqb (containersBefore s (nodeCount s)) (indexCount s)) 13
 
+-- rows 8 to 13
+unfoldable pub recordsRule : Sections → ℕ
+recordsRule s = unless (rootRight s) 8 ▸ firstOf (nodeCount s) (nodeRule s) ▸ leftoverRule s
+
 -- rows 8 to 17
 unfoldable pub sectionsRule : Sections → ℕ
-sectionsRule s =
-    unless (rootRight s) 8
-    ▸ firstOf (nodeCount s) (nodeRule s)
-    ▸ leftoverRule s
-    ▸ treeRule s
-    ▸ indexRule s
-    ▸ definitionsRule s
+sectionsRule s = recordsRule s ▸ treeRule s ▸ indexRule s ▸ definitionsRule s
 
 -- work words for loading
 abbrev pub loadWords : Sections → ℕ
@@ -40,6 +41,19 @@ loadWords s = nodeCount s + childCount s + namedCount s + 1
 -- a load of bytes with a count of work words
 unfoldable pub loadRule : List ℕ → ℕ → ℕ
 loadRule bs work = headerRule bs ▸ checksumRule bs ▸ unless (leb (loadWords (sectionsOf bs)) work) 7 ▸ sectionsRule (sectionsOf bs)
+
+-- the answer: the view that the header gives, or the number
+abbrev pub loadedBy : ℕ → ImageView → Loaded
+loadedBy zero v = View v
+loadedBy (suc r) v = Refused (suc r)
+
+unfoldable pub loadedOf : List ℕ → ℕ → Loaded
+loadedOf bs work = loadedBy (loadRule bs work) (viewOf bs)
+
+-- document 01's number for an answer
+abbrev pub loadedNumber : Loaded → ℕ
+loadedNumber (View v) = 0
+loadedNumber (Refused r) = r
 
 -- the bytes break none of the rules
 abbrev pub Accepted : List ℕ → Type 0
@@ -55,5 +69,5 @@ workAfter needed r work = cond (early r) work (replicate needed 0 ++ drop needed
 
 -- names on an `unfolding` line what a computation with this module needs
 unfoldable pub loads : Unit {0}
-unfolding checksumRule leftoverRule sectionsRule loadRule workAfter headers records trees indexes definitions crcs refusals
+unfolding checksumRule leftoverRule recordsRule sectionsRule loadRule loadedOf workAfter headers records trees indexes definitions crcs refusals
 loads = tt

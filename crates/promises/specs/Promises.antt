@@ -1,17 +1,18 @@
 -- Demand 3, 'nothing sticks', as types: what is claimed of every accepted image, at every node. Assumes nothing.
-use Prim.Native.Nat.{ℕ, zero, suc, _+_, _≤_, _<_}
+use Prim.Native.Nat.{ℕ, suc, _+_, _≤_, _<_}
 use mathlib.Core.Path.{_≡_}
 use mathlib.Core.Logic.{_≢_}
-use mathlib.Core.List.{List, [], _∷_, List·Memᴰ}
-use mathlib.Core.Bool.{Bool, true, false}
+use mathlib.Core.List.{List, _∷_, List·Memᴰ}
+use mathlib.Core.Bool.{true}
 use lib.ListN.{length}
 use Rattle.laws.specs.Lists.{Below}
 use Rattle.words.specs.Words.{NONE}
-use Rattle.image.specs.Sections.{Sections, nodeCount, childCount, namedCount, definitionCount, itemCount, indexCount, nodeWord, parentOf, placeOf, tagOf, f, childWord, namedWord, definitionWord, itemWord, indexWord, isContainer}
+use Rattle.image.specs.Sections.{Sections, nodeCount, namedCount, definitionCount, itemCount, indexCount, parentOf, placeOf, tagOf, f, namedWord, definitionWord, itemWord, indexWord, isContainer}
 use Rattle.image.specs.Header.{sectionsOf}
 use Rattle.records.specs.Fields.{kindOf, Field, text, optional, command, operator, node, optionalNode, container, optionalContainer, plain, atMost, children, named, payload, wrong}
-use Rattle.records.specs.Records.{targetOf, fieldsAt, listItems, listOrigins, listWord, listItemWord, listOriginWord}
+use Rattle.records.specs.Records.{targetOf, fieldsAt, listItems, listOrigins, listItemWord, listOriginWord}
 use Rattle.tree.specs.Tree.{childAt, namedAt}
+use Rattle.tree.specs.Reach.{climb}
 use Rattle.texts.specs.Dots.{dot}
 use Rattle.index.specs.Paths.{canonicalPath}
 use Rattle.index.specs.Index.{indexText}
@@ -20,17 +21,14 @@ use Rattle.views.specs.View.{nodeView, viewNumber}
 
 -- ---- parent steps
 
--- the node after k parent steps: each goes to the node in the parent word
-unfoldable pub climb : Sections → ℕ → ℕ → ℕ
-climb s zero i = i
-climb s (suc k) i = climb s k (parentOf s i)
-
+-- a parent step goes to the node in the parent word
 pub record ReachesRoot (s : Sections) (i : ℕ) : Type 0 where
   pub steps : ℕ
   -- fewer steps than nodes
   pub few : steps < nodeCount s
   pub arrives : climb s steps i ≡ 0
-  -- every node that a step arrives at, node 0 too, is a container
+  -- every node that a step arrives at, node 0 too, is inside and a container
+  pub inside : (k : ℕ) → k < steps → climb s (suc k) i < nodeCount s
   pub containers : (k : ℕ) → k < steps → isContainer s (climb s (suc k) i) ≡ true
 
 -- ---- targets and texts

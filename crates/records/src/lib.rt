@@ -55,18 +55,20 @@ fn is_inside(nodes: usize, n: u32) -> bool
     ensures { λ r. ⌜ r ≡ insideAmong nodes n ⌝ }
 {
     if n == NONE {
-        return false;
+        false
+    } else {
+        (n as usize) < nodes
     }
-    (n as usize) < nodes
 }
 
-fn is_optional_node(nodes: usize, n: u32) -> bool
-    ensures { λ r. ⌜ r ≡ (isNone n || insideAmong nodes n) ⌝ }
+fn is_optional_node(nodes: usize, word: u32) -> bool
+    ensures { λ r. ⌜ r ≡ (isNone word || insideAmong nodes word) ⌝ }
 {
-    if n == NONE {
-        return true;
+    if word == NONE {
+        true
+    } else {
+        (word as usize) < nodes
     }
-    (n as usize) < nodes
 }
 
 // Whether a node number is in the table and the tag, which is that node's, is a container's.
@@ -79,13 +81,13 @@ fn is_container(nodes: usize, n: u32, tag: u32) -> bool
     is_inside(nodes, n)
 }
 
-fn is_optional_container(nodes: usize, n: u32, tag: u32) -> bool
-    ensures { λ r. ⌜ r ≡ (isNone n || containerAmong nodes n tag) ⌝ }
+fn is_optional_container(nodes: usize, word: u32, tag: u32) -> bool
+    ensures { λ r. ⌜ r ≡ (isNone word || containerAmong nodes word tag) ⌝ }
 {
-    if n == NONE {
+    if word == NONE {
         return true;
     }
-    is_container(nodes, n, tag)
+    is_container(nodes, word, tag)
 }
 
 // Whether a range begins where those before it end, and ends inside its section.

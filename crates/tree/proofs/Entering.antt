@@ -1,22 +1,22 @@
 -- A node taken: its ordered children are tested and pushed, then its named ones. Assumes nothing.
-use Prim.Native.Nat.{ℕ, zero, suc, _+_, _-_, _*_, _/_, _≤_, _<_}
-use mathlib.Core.Path.{_≡_, refl, sym, ap, _∙_, subst}
+use Prim.Native.Nat.{ℕ, suc, _+_, _-_, _≤_, _<_}
+use mathlib.Core.Path.{_≡_, refl, sym, ap, _∙_}
 use mathlib.Core.List.{List, [], _∷_, _++_, reverse, reverse-append, append-assoc}
-use mathlib.Core.Bool.{Bool, true, false, cond}
+use mathlib.Core.Bool.{true, false}
 use native.Mathlib.Omega.{arith}
 use native.Mathlib.Nat.{add-zero}
-use lib.ListN.{length, take, drop, length-append, length-reverse}
+use lib.ListN.{length, length-append, length-reverse}
 use borrow.Author.Tests.{eq-eqb, ne-eqb}
 use Rattle.laws.specs.Refusal.{_▸_, firstOf}
 use Rattle.laws.specs.Counted.{joinOf}
 use Rattle.laws.proofs.First.{first, second}
-use Rattle.image.specs.Sections.{Sections, nodeCount, nodeWord, childWord, namedWord, tagOf, f, goodText, isContainer, childCount, namedCount}
+use Rattle.image.specs.Sections.{Sections, nodeCount, nodeWord, childWord, namedWord, tagOf, f, isContainer, childCount, namedCount}
 use Rattle.image.specs.declared.NodeRecord.{NodeRecord}
 use Rattle.image.proofs.Entries.{IsNode}
 use Rattle.records.specs.Records.{childrenOf, namedOf}
-use Rattle.tree.specs.Tree.{childAt, namedAt, childRule, namedRule, entriesRule, entryNodes}
+use Rattle.tree.specs.Tree.{childAt, childRule, namedRule, entriesRule, entryNodes}
 use Rattle.tree.specs.Work.{stackOf, Pushed, Entered}
-use Rattle.tree.specs.Parts.{partsOf, namedNode, Fit, Ranges}
+use Rattle.tree.specs.Parts.{partsOf, namedNode, Fit}
 use Rattle.tree.proofs.Members.{length-join}
 use Rattle.tree.proofs.Entries.{length-entries}
 use Rattle.tree.proofs.Stack.{take-less, drop-more}

@@ -1,23 +1,21 @@
 -- A walk's turns in work words: marks in the words below n, the stack from word base on. The loader's walk and the writer's both go so.
 -- Assumes nothing.
 use Prim.Native.Nat.{ℕ, zero, suc, _+_, _-_, _≤_, _<_}
-use mathlib.Core.Path.{_≡_, refl, sym, ap, _∙_, subst}
+use mathlib.Core.Path.{_≡_, refl, sym, ap, _∙_}
 use mathlib.Core.List.{List, [], _∷_, _++_}
 use mathlib.Core.Bool.{Bool, true, false, cond, _||_, not, false≢true}
 use native.Mathlib.Omega.{arith}
-use native.Mathlib.Nat.{zero-add, add-zero}
 use native.Mathlib.Decide.{ℕ-discrete}
-use native.Mathlib.Numerals.{add-one}
-use lib.ListN.{length, getD, take, drop, set, length-set, length-append}
+use lib.ListN.{length, getD, drop, set, length-set}
 use lib.Dec.{eqb}
-use lib.Seq.{getD-take, getD-set-other, getD-set-same, take-set-lt, take-set-le, drop-set-lt}
-use borrow.Author.Tests.{eq-eqb, ne-eqb, eqb-true}
+use lib.Seq.{getD-take, getD-set-other, getD-set-same, drop-set-lt}
+use borrow.Author.Tests.{eq-eqb, ne-eqb}
 use Rattle.laws.specs.Counted.{sumOf}
 use Rattle.laws.specs.Lists.{has}
-use Rattle.tree.specs.Tree.{Walked, walk, stop}
+use Rattle.tree.specs.Tree.{walk}
 use Rattle.tree.specs.Work.{stackOf, markIn, unmarked, Entered}
 use Rattle.tree.proofs.Members.{All, all-append, sum-ext, sum-point}
-use Rattle.tree.proofs.Stack.{take-less, drop-more, stack-under, stack-push, stack-pop, stack-none}
+use Rattle.tree.proofs.Stack.{drop-more, stack-under, stack-push, stack-pop, stack-none}
 
 -- ---- the walk by cases
 

@@ -1,5 +1,5 @@
 -- The writer's walk: its marks are each node once, the root first, and all that entries lead to. Assumes nothing.
-use Prim.Native.Nat.{ℕ, zero, suc, _+_, _≤_, _<_}
+use Prim.Native.Nat.{ℕ, suc, _+_, _<_}
 use mathlib.Core.Path.{_≡_, refl, sym, ap, _∙_, subst}
 use mathlib.Core.List.{List, [], _∷_, _++_, reverse, reverse-cons}
 use mathlib.Core.Bool.{Bool, true, false, cond, _||_, false≢true}
@@ -7,14 +7,13 @@ use native.Mathlib.Omega.{arith}
 use lib.ListN.{length, length-reverse}
 use lib.Dec.{eqb}
 use borrow.Author.Tests.{eqb-true}
-use Rattle.laws.specs.Counted.{sumOf}
 use Rattle.laws.specs.Lists.{has, placeIn}
 use Rattle.image.specs.Sections.{Sections, nodeCount, childCount, namedCount}
-use Rattle.tree.specs.Tree.{childAt, namedAt, entryNodes, Walked, walk, turns, readWalk}
+use Rattle.tree.specs.Tree.{entryNodes, walk, turns, readWalk}
 use Rattle.tree.specs.Reach.{Reached, root, child, named}
 use Rattle.tree.specs.Work.{markIn}
 use Rattle.tree.specs.Parts.{Counts}
-use Rattle.tree.proofs.Members.{or-false, has-reverse, All, all-map, all-at, Distinct}
+use Rattle.tree.proofs.Members.{or-false, has-reverse, All, all-map, Distinct}
 use Rattle.tree.proofs.Walks.{walk-keeps, walk-passes, walk-marks, walk-closed, walk-first, Behind, Closed, pending, pushed}
 use Rattle.tree.proofs.Entries.{entry-each, child-entry, named-entry, entries-counted}
 

@@ -4,12 +4,11 @@ use Prim.Native.Nat.{ℕ}
 use mathlib.Core.Path.{_≡_, refl, sym, ap, _∙_, subst}
 use mathlib.Core.List.{List, []}
 use Rattle.words.specs.Words.{wordsOf}
-use Rattle.image.specs.Header.{nodeWords, sectionBytes, sectionsIn, sectionsBy}
-use Rattle.image.specs.declared.ImageView.{ImageView}
+use Rattle.image.specs.Header.{nodeWords}
 use Rattle.image.specs.Sections.{Sections, nodeWord, childWord, namedWord}
 use Rattle.records.specs.Records.{childrenOf, namedOf}
 use Rattle.tree.specs.Tree.{childRule, namedRule, entriesRule, entryNodes, loadWalk, allSeen, treeRule}
-use Rattle.tree.specs.Parts.{partsOf, Counts, Ranges, Fit}
+use Rattle.tree.specs.Parts.{partsOf, Fit}
 use Rattle.tree.specs.Work.{treeWords}
 
 -- the sections of an image or a draft without those that do not matter here

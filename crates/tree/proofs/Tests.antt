@@ -1,8 +1,8 @@
 -- The rules of entries by the tests that the code makes, one at a time. Assumes nothing.
 use Prim.Native.Nat.{ℕ, zero, suc, _+_, _*_, _-_, _/_, _≤_, _<_}
-use mathlib.Core.Path.{_≡_, refl, sym, ap, _∙_, subst}
-use mathlib.Core.List.{List, [], _∷_}
-use mathlib.Core.Bool.{Bool, true, false, _&&_, _||_, not}
+use mathlib.Core.Path.{_≡_, refl, ap, _∙_}
+use mathlib.Core.List.{List, []}
+use mathlib.Core.Bool.{Bool, true, false, _&&_}
 use native.Mathlib.Omega.{arith}
 use native.Mathlib.Nat.{add-zero}
 use lib.ListN.{length, getD}
@@ -10,7 +10,7 @@ use lib.Dec.{eqb, ltb}
 use borrow.Author.Tests.{ltb-true, lt-ltb, le-ltb, eq-eqb, ne-eqb}
 use Rattle.laws.specs.Refusal.{unless, _▸_, firstOf}
 use Rattle.laws.proofs.First.{pass, fail, first-all}
-use Rattle.words.specs.Words.{wordsOf, NONE, isNone}
+use Rattle.words.specs.Words.{wordsOf, NONE}
 use Rattle.words.proofs.Words.{length-words}
 use Rattle.texts.specs.declared.Order.{Order}
 use Rattle.texts.specs.Text.{before, rising, orderOf, isLess}
@@ -18,10 +18,10 @@ use Rattle.image.specs.declared.TextEntry.{TextEntry}
 use Rattle.image.specs.Entries.{textEntryOf}
 use Rattle.image.proofs.Tests.{both-true}
 use Rattle.image.proofs.Parts.{good-part}
-use Rattle.image.specs.Sections.{Sections, nodeCount, nodeWord, parentOf, placeOf, tagOf, inside, isContainer, insideContainer, goodText, goodIn, textIn, partAt, f, childWord, namedWord, childCount, namedCount}
+use Rattle.image.specs.Sections.{Sections, nodeWord, parentOf, placeOf, inside, isContainer, insideContainer, goodText, goodIn, textIn, f, childWord, namedWord, childCount, namedCount}
 use Rattle.tree.specs.Tree.{childAt, namedAt, namedText, rightChild, childRule, namedRule}
 use Rattle.tree.specs.Parts.{partsOf, LastGood, namedNode, shown, follows}
-use Rattle.tree.proofs.Entries.{NamedRight, named-right}
+use Rattle.tree.proofs.Entries.{named-right}
 
 -- ---- a node in the bytes of the nodes
 

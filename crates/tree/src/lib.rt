@@ -29,7 +29,7 @@ fn right_child(nodes: &[u8], child: u32, id: usize, place: usize) -> bool
 }
 
 // Whether the word is a container.
-fn is_container(nodes: &[u8], node: u32) -> bool
+pub fn is_container(nodes: &[u8], node: u32) -> bool
     ensures { λ r. ⌜ r ≡ insideContainer (partsOf (now (nodes .entry)) [] [] []) node ⌝ }
 {
     let at = node as usize;
@@ -167,43 +167,24 @@ fn enter(
 {
     let node = image::node_record(nodes, id);
     if node.tag != 1 {
-        return Step {
-            refused: 0,
-            depth: depth,
-        };
+        return Step { refused: 0, depth };
     }
+    let start = node.f3 as usize;
     let ordered = node.f4 as usize;
-    let first = push_children(
-        nodes,
-        children,
-        id,
-        node.f3 as usize,
-        ordered,
-        work,
-        base,
-        depth,
-    );
+    let first = push_children(nodes, children, id, start, ordered, work, base, depth);
     if first != 0 {
         return Step {
             refused: first,
-            depth: depth,
+            depth,
         };
     }
+    let start = node.f5 as usize;
     let count = node.f6 as usize;
-    let second = push_named(
-        nodes,
-        named,
-        strings,
-        id,
-        node.f5 as usize,
-        count,
-        work,
-        base,
-        depth + ordered,
-    );
+    let top = depth + ordered;
+    let second = push_named(nodes, named, strings, id, start, count, work, base, top);
     Step {
         refused: second,
-        depth: depth + ordered + count,
+        depth: top + count,
     }
 }
 

@@ -1,5 +1,5 @@
 -- `tree::enter` meets its contract. Assumes nothing.
-use mathlib.Core.Path.{_≡_, refl, sym, _∙_}
+use mathlib.Core.Path.{_≡_, refl}
 use Prim.Native.Nat.{_+_, _<_, _^_}
 use native.Mathlib.Omega.{arith}
 use Rattle.image.specs.Sections.{Sections}
@@ -36,11 +36,11 @@ node-record-requires c κs = omega (arith, node-count (c .before .before .before
 returns : tie.Need-returns
 returns c = enter-leaf _ _ _ _ _ _ _ _ (leaf _ _ _ (node-is (c .before .before)) (c .if1 .taken))
 
+cast-start : tie.Need-cast-start
+cast-start c = search needs
+
 cast-ordered : tie.Need-cast-ordered
 cast-ordered c = search needs
-
-cast-push-children : tie.Need-cast-push-children
-cast-push-children c = search needs
 
 push-children-requires : tie.Need-push-children-requires
 push-children-requires c κs =
@@ -54,24 +54,21 @@ returns-2 c =
     enter-refused _ _ _ _ _ _ _ _ (container _ _ _ (node-is (c .before .before .before .before .before .before .before .before .before)) (c .before .before .before .before .before .before .before .if1 .left)) _ (node-is (c .before .before .before .before .before .before .before .before .before) .f4) _ _
     (c .before .before .before .push-children .ensures) _ (c .if2 .taken)
 
+cast-start-2 : tie.Need-cast-start-2
+cast-start-2 c = search needs
+
 cast-count : tie.Need-cast-count
 cast-count c = search needs
 
-cast-push-named : tie.Need-cast-push-named
-cast-push-named c = search needs
-
-add-push-named : tie.Need-add-push-named
-add-push-named c = omega (arith, fits (c .before .before .before .before .before .before .before .before .before .before .before .before) (c .before .before .before .before .before .before .before .before .before .before .if1 .left))
+add-top : tie.Need-add-top
+add-top c = omega (arith, fits (c .before .before .before .before .before .before .before .before .before .before .before) (c .before .before .before .before .before .before .before .before .before .if1 .left))
 
 push-named-requires : tie.Need-push-named-requires
 push-named-requires c κs =
     let r = room-of (c .before .before .before .before .before .before .before .before .before .before .before .before) (c .before .before .before .before .before .before .before .before .before .before .if1 .left) in (r .named-start, (r .named, omega arith))
 
-add-t15 : tie.Need-add-t15
-add-t15 c = omega (arith, fits (c .before .before .before .before .before .before .before .before .before .before .before .before .before .before .before) (c .before .before .before .before .before .before .before .before .before .before .before .before .before .if1 .left))
-
-add-t20 : tie.Need-add-t20
-add-t20 c = omega (arith, fits (c .before .before .before .before .before .before .before .before .before .before .before .before .before .before .before) (c .before .before .before .before .before .before .before .before .before .before .before .before .before .if1 .left))
+add-t22 : tie.Need-add-t22
+add-t22 c = omega (arith, fits (c .before .before .before .before .before .before .before .before .before .before .before .before .before .before .before) (c .before .before .before .before .before .before .before .before .before .before .before .before .before .if1 .left))
 
 same-length-2 : tie.Need-same-length-2
 same-length-2 c = search needs
@@ -87,16 +84,15 @@ enter-spec =
     (tie.spec
     node-record-requires
     returns
+    cast-start
     cast-ordered
-    cast-push-children
     push-children-requires
     same-length
     returns-2
+    cast-start-2
     cast-count
-    cast-push-named
-    add-push-named
+    add-top
     push-named-requires
-    add-t15
-    add-t20
+    add-t22
     same-length-2
     returns-3)

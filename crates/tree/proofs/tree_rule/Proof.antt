@@ -1,12 +1,11 @@
 -- `tree::tree_rule` meets its contract. Assumes nothing.
-use mathlib.Core.Path.{_≡_, refl, sym, _∙_, ap}
-use Prim.Native.Nat.{ℕ, _/_, _≤_}
+use mathlib.Core.Path.{_≡_, sym, _∙_, ap}
+use Prim.Native.Nat.{ℕ, _/_}
 use native.Mathlib.Omega.{arith}
 use lib.ListN.{length, getD}
 use mathlib.Core.List.{List}
 use Rattle.image.specs.Sections.{Sections, nodeCount}
-use Rattle.tree.specs.Work.{treeWords, marked}
-use Rattle.tree.specs.Parts.{partsOf, Fit}
+use Rattle.tree.specs.Parts.{partsOf}
 use Rattle.tree.proofs.Tests.{node-count}
 use Rattle.tree.proofs.Loading.{tree-refused, tree-passes, tree-unreached, cleared-zero, kept-words}
 use borrow.Author.Needs.{needs}

@@ -1,11 +1,9 @@
 -- `tree::walk` meets its contract. Assumes nothing.
-use mathlib.Core.Path.{_≡_, refl, sym, _∙_}
-use Prim.Native.Nat.{ℕ, _+_, _-_, _≤_, _<_}
+use mathlib.Core.Path.{refl, _∙_}
+use Prim.Native.Nat.{ℕ, _+_, _-_, _<_}
 use native.Mathlib.Omega.{arith}
-use lib.ListN.{length, getD, set, length-set}
-use Rattle.image.specs.Sections.{Sections}
-use Rattle.tree.specs.Parts.{partsOf, Fit}
-use Rattle.tree.proofs.Reading.{backwards}
+use lib.ListN.{getD, length-set}
+use Rattle.tree.specs.Parts.{partsOf}
 use Rattle.tree.proofs.Loading.{LoadWalking, loadTurns, load-start, load-end, load-below, load-skip, load-room, load-less, load-entered, load-refused}
 use borrow.Author.Needs.{needs}
 use Rattle.tree.proofs.walk.Statement.{statement}

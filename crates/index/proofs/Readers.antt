@@ -1,0 +1,216 @@
+-- What the code reads out of the bytes of nodes, index, definitions and items, in the terms of the rules. Assumes nothing.
+use Prim.Native.Nat.{ℕ, suc, _+_, _-_, _*_, _/_, _≤_, _<_}
+use mathlib.Core.Path.{_≡_, refl, sym, ap, _∙_}
+use mathlib.Core.List.{List, []}
+use mathlib.Core.Bool.{Bool, true, false, _&&_, _||_}
+use native.Mathlib.Omega.{arith}
+use native.Mathlib.Nat.{zero-add}
+use native.Mathlib.Decide.{decLe}
+use native.Mathlib.Numerals.{add-one}
+use lib.Dec.{eqb, leb}
+use lib.ListN.{length, getD, take, drop, length-drop, drop-of-length-le, List·getD-eq-default}
+use lib.Seq.{take-all, take-nil}
+use borrow.Author.Tests.{eq-eqb, ne-eqb}
+use Rattle.laws.specs.Refusal.{unless, _▸_, firstOf}
+use Rattle.laws.specs.Counted.{sumOf}
+use Rattle.laws.proofs.First.{first, second}
+use Rattle.words.specs.Words.{NONE, isNone, wordAt, wordIn, wordsOf}
+use Rattle.words.proofs.Words.{word-in, word-out, word-at, length-words}
+use Rattle.texts.specs.Text.{before, rising}
+use Rattle.image.specs.declared.TextEntry.{TextEntry}
+use Rattle.image.specs.declared.Definition.{Definition}
+use Rattle.image.specs.Sections.{Sections, nodeWord, definitionWord, partAt, goodIn, insideContainer, itemCount}
+use Rattle.image.specs.Entries.{textEntryOf, definitionOf}
+use Rattle.image.proofs.Entries.{index-entry, item-entry, definition-entry}
+use Rattle.index.specs.Paths.{noName, fits}
+use Rattle.index.specs.Index.{indexText, indexEntryRule, indexRule}
+use Rattle.index.specs.Definitions.{definitionText, itemText, itemsOf, itemsBefore, itemRuleFrom, definitionRule, itemsUsedUp, definitionsRule}
+use Rattle.index.specs.Parts.{indexParts, definitionParts, pathNodeOf, entryTextFrom, definitionTextIn}
+use Rattle.index.proofs.Rising.{rising-next, rising-like}
+use Rattle.index.proofs.Runs.{run-stops}
+use Rattle.index.proofs.Definitions.{definition-passed}
+
+-- ---- a text as far as the strings go
+
+pub text-to-end : (bs : List ℕ) (at len : ℕ) → length bs ≤ at + len → partAt bs at len ≡ take (length bs - at) (drop at bs)
+unfolding partAt
+text-to-end bs at len h =
+    let n : length (drop at bs) ≡ length bs - at = length-drop at bs in
+    take-all len (drop at bs) (omega arith) ∙ sym (take-all (length bs - at) (drop at bs) (omega arith))
+
+pub text-past : (bs : List ℕ) (at len : ℕ) → length bs ≤ at → partAt bs at len ≡ []
+unfolding partAt
+text-past bs at len h = rw (drop-of-length-le bs h) (take-nil len)
+
+-- ---- nodes
+
+-- word k, which stands at byte 4 * k, or 0 past the end
+word-get : (bs : List ℕ) (k at : ℕ) → at ≡ 4 * k → getD (wordsOf bs) k 0 ≡ wordIn bs at
+word-get bs k at e = by (decLe (at + 4) (length bs))
+  where
+    by : Dec (at + 4 ≤ length bs) → getD (wordsOf bs) k 0 ≡ wordIn bs at
+    by (yes h) = word-at bs k (omega arith) ∙ ap (wordAt bs) (sym e) ∙ sym (word-in bs at h)
+    by (no h) = List·getD-eq-default (wordsOf bs) 0 (omega (arith, length-words bs)) ∙ sym (word-out bs at (omega arith))
+
+pub node-words : (nodes : List ℕ) (i : ℕ)
+    → pathNodeOf (indexParts nodes [] []) i
+    ≡ record { parent = wordIn nodes (i * 40); place = wordIn nodes (i * 40 + 4); offset = wordIn nodes (i * 40 + 12); len = wordIn nodes (i * 40 + 16) }
+unfolding nodeWord
+node-words nodes i =
+    rw (
+      word-get nodes (i * 10 + 0) (i * 40) (omega arith),
+      word-get nodes (i * 10 + 1) (i * 40 + 4) (omega arith),
+      word-get nodes (i * 10 + 3) (i * 40 + 12) (omega arith),
+      word-get nodes (i * 10 + 4) (i * 40 + 16) (omega arith),
+    )
+
+-- ---- names
+
+or-true : (a : Bool) → (a || true) ≡ true
+or-true true = refl
+or-true false = refl
+
+pub name-empty : (at len : ℕ) → len ≡ 0 → noName at len ≡ true
+name-empty at len h = rw (eq-eqb len 0 h) (or-true (isNone at && isNone len))
+
+pub name-none : (at len : ℕ) → len ≡ NONE → noName at len ≡ isNone at
+name-none at len h = rw h (by (isNone at))
+  where
+    by : (a : Bool) → ((a && true) || false) ≡ a
+    by true = refl
+    by false = refl
+
+pub name-there : (at len : ℕ) → (len ≡ 0 → ⊥) → (len ≡ NONE → ⊥) → noName at len ≡ false
+name-there at len h g = rw (ne-eqb len 0 h, ne-eqb len NONE g) (by (isNone at))
+  where
+    by : (a : Bool) → ((a && false) || false) ≡ false
+    by true = refl
+    by false = refl
+
+-- ---- entries
+
+-- the texts of an entry and of the one before it
+pub entry-rises : (ws strings : List ℕ) (first place : ℕ) (last entry : TextEntry) (a b : List ℕ) → (place ≡ 0 → ⊥)
+    → last ≡ textEntryOf ws (first + (place - 1)) → entry ≡ textEntryOf ws (first + place)
+    → a ≡ partAt strings (last .offset) (last .len) → b ≡ partAt strings (entry .offset) (entry .len)
+    → before a b ≡ rising (entryTextFrom ws strings first) place
+unfolding entryTextFrom
+entry-rises ws strings first place last entry a b h p q u v = rw (rising-next (entryTextFrom ws strings first) place h, u, v, p, q)
+
+pub definition-rises : (ws strings : List ℕ) (d : ℕ) (last entry : Definition) (a b : List ℕ) → (d ≡ 0 → ⊥)
+    → last ≡ definitionOf ws (d - 1) → entry ≡ definitionOf ws d
+    → a ≡ partAt strings (last .offset) (last .len) → b ≡ partAt strings (entry .offset) (entry .len)
+    → before a b ≡ rising (definitionTextIn ws strings) d
+unfolding definitionTextIn
+definition-rises ws strings d last entry a b h p q u v = rw (rising-next (definitionTextIn ws strings) d h, u, v, p, q)
+
+module _ (s : Sections) (ws : List ℕ) where
+  pub index-texts : s .index ≡ ws → (j : ℕ) → rising (entryTextFrom ws (s .strings) 0) j ≡ rising (indexText s) j
+  unfolding entryTextFrom
+  index-texts e j = rising-like (entryTextFrom ws (s .strings) 0) (indexText s) (λ k. rw (zero-add, index-entry s ws k e)) j
+
+  pub item-texts : s .items ≡ ws → (first j : ℕ) → rising (entryTextFrom ws (s .strings) first) j ≡ rising (λ k. itemText s (first + k)) j
+  unfolding entryTextFrom
+  item-texts e first j = rising-like (entryTextFrom ws (s .strings) first) (λ k. itemText s (first + k)) (λ k. rw (item-entry s ws (first + k) e)) j
+
+  pub definition-texts : s .definitions ≡ ws → (d : ℕ) → rising (definitionTextIn ws (s .strings)) d ≡ rising (definitionText s) d
+  unfolding definitionTextIn
+  definition-texts e d = rising-like (definitionTextIn ws (s .strings)) (definitionText s) (λ k. rw (definition-entry s ws k e)) d
+
+-- ---- rules by the answers of their tests
+
+pub item-by : (s : Sections) (ws : List ℕ) (first j : ℕ) (e : TextEntry) (good rises : Bool) → s .items ≡ ws → e ≡ textEntryOf ws (first + j)
+    → good ≡ goodIn (s .strings) (e .offset) (e .len) → rises ≡ rising (entryTextFrom ws (s .strings) first) j
+    → itemRuleFrom s first j ≡ (unless good 17 ▸ unless rises 17)
+unfolding itemRuleFrom
+item-by s ws first j e good rises q r g u = rw (g, r, item-entry s ws (first + j) q, u, item-texts s ws q first j)
+
+pub index-by : (s : Sections) (ws : List ℕ) (j : ℕ) (e : TextEntry) (good there rises fitting : Bool) → s .index ≡ ws → e ≡ textEntryOf ws j
+    → good ≡ goodIn (s .strings) (e .offset) (e .len) → there ≡ insideContainer s (e .value) → rises ≡ rising (entryTextFrom ws (s .strings) 0) j
+    → fitting ≡ fits s (e .value) (partAt (s .strings) (e .offset) (e .len))
+    → indexEntryRule s j ≡ (unless good 10 ▸ unless there 9 ▸ unless rises 16 ▸ unless fitting 16)
+unfolding indexEntryRule
+index-by s ws j e good there rises fitting q r g t u m = rw (g, t, m, r, index-entry s ws j q, u, index-texts s ws q j)
+
+pub definition-by : (s : Sections) (ws : List ℕ) (d used : ℕ) (e : Definition) (good rises : Bool) → s .definitions ≡ ws → used ≡ itemsBefore s d
+    → e ≡ definitionOf ws d → good ≡ goodIn (s .strings) (e .offset) (e .len) → rises ≡ rising (definitionTextIn ws (s .strings)) d
+    → definitionRule s d
+    ≡ (unless good 10 ▸ unless rises 17 ▸ unless (leb (e .first + e .count) (itemCount s) && eqb (e .first) used) 11 ▸ firstOf (e .count) (itemRuleFrom s (e .first)))
+unfolding definitionRule
+definition-by s ws d used e good rises q n r g u = rw (g, n, r, definition-entry s ws d q, u, definition-texts s ws q d)
+
+-- an entry whose text is good and whose target is a container
+pub index-past : (s : Sections) (ws : List ℕ) (j : ℕ) (e : TextEntry) (good there : Bool) → s .index ≡ ws → e ≡ textEntryOf ws j
+    → good ≡ goodIn (s .strings) (e .offset) (e .len) → there ≡ insideContainer s (e .value) → good ≡ true → there ≡ true
+    → indexEntryRule s j ≡ (unless (rising (entryTextFrom ws (s .strings) 0) j) 16 ▸ unless (fits s (e .value) (partAt (s .strings) (e .offset) (e .len))) 16)
+unfolding unless _▸_
+index-past s ws j e good there q r g t x y =
+    index-by s ws j e good there (rising (entryTextFrom ws (s .strings) 0) j) (fits s (e .value) (partAt (s .strings) (e .offset) (e .len))) q r g t refl refl ∙ rw (x, y)
+
+-- a definition whose text is good and rises
+pub definition-past : (s : Sections) (ws : List ℕ) (d used : ℕ) (e : Definition) (good rises : Bool) → s .definitions ≡ ws → used ≡ itemsBefore s d
+    → e ≡ definitionOf ws d → good ≡ goodIn (s .strings) (e .offset) (e .len) → rises ≡ rising (definitionTextIn ws (s .strings)) d → good ≡ true → rises ≡ true
+    → definitionRule s d ≡ (unless (leb (e .first + e .count) (itemCount s) && eqb (e .first) used) 11 ▸ firstOf (e .count) (itemRuleFrom s (e .first)))
+unfolding unless _▸_
+definition-past s ws d used e good rises q n r g u x y = definition-by s ws d used e good rises q n r g u ∙ rw (x, y)
+
+-- ---- runs by the lengths of the bytes
+
+pub index-run : (nodes index strings : List ℕ)
+    → indexRule (indexParts nodes index strings) ≡ firstOf (length index / 12) (indexEntryRule (indexParts nodes index strings))
+unfolding indexRule
+index-run nodes index strings =
+    ap (λ (n : ℕ). firstOf n (indexEntryRule (indexParts nodes index strings))) (omega (arith, length-words index))
+
+pub items-length : (items : List ℕ) → length (wordsOf items) / 3 ≡ length items / 12
+items-length items = omega (arith, length-words items)
+
+-- the refusals of the definitions, then of items that are left over
+pub definitions-run : (definitions items strings : List ℕ)
+    → definitionsRule (definitionParts definitions items strings)
+    ≡ (firstOf (length definitions / 16) (definitionRule (definitionParts definitions items strings))
+    ▸ unless (eqb (itemsBefore (definitionParts definitions items strings) (length definitions / 16)) (length items / 12)) 17)
+unfolding definitionsRule itemsUsedUp
+definitions-run definitions items strings =
+    let s = definitionParts definitions items strings in
+    let n : length (wordsOf definitions) / 4 ≡ length definitions / 16 = omega (arith, length-words definitions) in
+    ap (λ (k : ℕ). firstOf k (definitionRule s) ▸ unless (eqb (itemsBefore s k) (length (wordsOf items) / 3)) 17) n
+    ∙ ap (λ (k : ℕ). firstOf (length definitions / 16) (definitionRule s) ▸ unless (eqb (itemsBefore s (length definitions / 16)) k) 17) (items-length items)
+
+-- the loop over definitions: the one at d is refused; none is; its items, whose count w was read, are added to those used
+module _ (definitions items strings : List ℕ) (d : ℕ) where
+  abbrev parts : Sections
+  parts = definitionParts definitions items strings
+
+  pub definitions-stop : (r : ℕ) → d < length definitions / 16 → firstOf d (definitionRule parts) ≡ 0 → r ≡ definitionRule parts d → (r ≡ 0 → ⊥) → r ≡ definitionsRule parts
+  definitions-stop r h p q z =
+      let n = length definitions / 16 in
+      let e : r ≡ suc (r - 1) = omega arith in
+      e
+      ∙ sym (definitions-run definitions items strings
+      ∙ first (firstOf n (definitionRule parts)) (unless (eqb (itemsBefore parts n) (length items / 12)) 17) (r - 1)
+      (sym (run-stops n d r (definitionRule parts) h p q z) ∙ e))
+
+  pub definitions-end : (used : ℕ) → d ≤ length definitions / 16 → length definitions / 16 ≤ d → used ≡ itemsBefore parts d → firstOf d (definitionRule parts) ≡ 0
+      → definitionsRule parts ≡ unless (eqb used (length items / 12)) 17
+  definitions-end used h g u p =
+      let n = length definitions / 16 in
+      let e : n ≡ d = omega arith in
+      definitions-run definitions items strings
+      ∙ second (firstOf n (definitionRule parts)) (unless (eqb (itemsBefore parts n) (length items / 12)) 17) (ap (λ (k : ℕ). firstOf k (definitionRule parts)) e ∙ p)
+      ∙ ap (λ (k : ℕ). unless (eqb k (length items / 12)) 17) (ap (itemsBefore parts) e ∙ sym u)
+
+  count-read : (w : ℕ) → w ≡ getD (wordsOf definitions) (d * 4 + 3) 0 → w ≡ itemsOf parts d
+  unfolding definitionWord
+  count-read w e = e
+
+  pub used-more : (used w : ℕ) → used ≡ itemsBefore parts d → w ≡ getD (wordsOf definitions) (d * 4 + 3) 0 → used + w ≡ itemsBefore parts (d + 1)
+  unfolding sumOf
+  used-more used w u e = rw (add-one, u, count-read w e)
+
+  pub used-inside : (used w : ℕ) → used ≡ itemsBefore parts d → w ≡ getD (wordsOf definitions) (d * 4 + 3) 0 → definitionRule parts d ≡ 0 → used + w ≤ length items / 12
+  used-inside used w u e p =
+      let q = definition-passed parts d p in
+      let n : itemCount parts ≡ length items / 12 = items-length items in
+      let k : w ≡ itemsOf parts d = count-read w e in
+      rw (u, k, ← q .start, ← n) (q .inside)

@@ -1,0 +1,49 @@
+-- `index::definition_rises` meets its contract. Assumes nothing.
+use mathlib.Core.Path.{_∙_}
+use Rattle.words.specs.Words.{wordsOf}
+use Rattle.index.proofs.Readers.{definition-rises}
+use borrow.Author.Needs.{needs}
+use Rattle.index.proofs.definition_rises.Statement.{statement}
+use Rattle.index.proofs.definition_rises.Tie as tie
+
+returns : tie.Need-returns
+returns c = search needs
+
+sub-definition-at : tie.Need-sub-definition-at
+sub-definition-at c = search needs
+
+definition-at-requires : tie.Need-definition-at-requires
+definition-at-requires c κs = search needs
+
+definition-at-requires-2 : tie.Need-definition-at-requires-2
+definition-at-requires-2 c κs = search needs
+
+text-bytes-requires : tie.Need-text-bytes-requires
+text-bytes-requires c κs = search needs
+
+text-bytes-requires-2 : tie.Need-text-bytes-requires-2
+text-bytes-requires-2 c κs = search needs
+
+comes-before-requires : tie.Need-comes-before-requires
+comes-before-requires c κs = search needs
+
+returns-2 : tie.Need-returns-2
+returns-2 c =
+    let at = c .before .before .before .before .before .before .before .before .args in
+    c .comes-before .ensures
+    ∙ definition-rises (wordsOf (at .definitions .now)) (at .strings .now) (at .d) _ _ _ _ (c .before .before .before .before .before .if1 .left)
+    (c .before .before .before .before .definition-at .ensures) (c .before .before .before .definition-at2 .ensures) (c .before .before .text-bytes .ensures)
+    (c .before .text-bytes2 .ensures)
+
+pub definition-rises-spec : {M : Type 1} → statement M
+definition-rises-spec =
+    tie.close
+    (tie.spec
+    returns
+    sub-definition-at
+    definition-at-requires
+    definition-at-requires-2
+    text-bytes-requires
+    text-bytes-requires-2
+    comes-before-requires
+    returns-2)

@@ -1,0 +1,58 @@
+-- `index::rises` meets its contract. Assumes nothing.
+use mathlib.Core.Path.{_∙_, sym}
+use Rattle.words.specs.Words.{wordsOf}
+use Rattle.index.proofs.Readers.{entry-rises}
+use Rattle.index.proofs.Rising.{rising-first}
+use borrow.Author.Needs.{needs}
+use Rattle.index.proofs.rises.Statement.{statement}
+use Rattle.index.proofs.rises.Tie as tie
+
+returns : tie.Need-returns
+returns c = sym (rising-first _ _ (c .if1 .taken))
+
+sub-text-entry : tie.Need-sub-text-entry
+sub-text-entry c = search needs
+
+add-text-entry : tie.Need-add-text-entry
+add-text-entry c = search needs
+
+text-entry-requires : tie.Need-text-entry-requires
+text-entry-requires c κs = search needs
+
+add-text-entry-2 : tie.Need-add-text-entry-2
+add-text-entry-2 c = search needs
+
+text-entry-requires-2 : tie.Need-text-entry-requires-2
+text-entry-requires-2 c κs = search needs
+
+text-bytes-requires : tie.Need-text-bytes-requires
+text-bytes-requires c κs = search needs
+
+text-bytes-requires-2 : tie.Need-text-bytes-requires-2
+text-bytes-requires-2 c κs = search needs
+
+comes-before-requires : tie.Need-comes-before-requires
+comes-before-requires c κs = search needs
+
+returns-2 : tie.Need-returns-2
+returns-2 c =
+    let at = c .before .before .before .before .before .before .before .before .args in
+    c .comes-before .ensures
+    ∙ entry-rises (wordsOf (at .entries .now)) (at .strings .now) (at .first) (at .place) _ _ _ _ (c .before .before .before .before .before .if1 .left)
+    (c .before .before .before .before .text-entry .ensures) (c .before .before .before .text-entry2 .ensures) (c .before .before .text-bytes .ensures)
+    (c .before .text-bytes2 .ensures)
+
+pub rises-spec : {M : Type 1} → statement M
+rises-spec =
+    tie.close
+    (tie.spec
+    returns
+    sub-text-entry
+    add-text-entry
+    text-entry-requires
+    add-text-entry-2
+    text-entry-requires-2
+    text-bytes-requires
+    text-bytes-requires-2
+    comes-before-requires
+    returns-2)

@@ -1,0 +1,29 @@
+-- What the loop over the nodes is told and gives. Assumes nothing.
+use Prim.Native.Nat.{ℕ, zero, suc}
+use mathlib.Core.Path.{_≡_}
+use mathlib.Core.List.{List}
+use Rattle.laws.specs.Refusal.{firstOf, refusals}
+use Rattle.words.specs.Words.{wordsOf}
+use Rattle.image.specs.Sections.{Sections, nodeCount}
+use Rattle.image.specs.Header.{nodeWords}
+use Rattle.records.specs.declared.Counts.{Counts}
+use Rattle.records.specs.Records.{nodeRule}
+use Rattle.records.specs.Shown.{countsOf, sumsBefore}
+use Rattle.load.specs.declared.nodes.Nodes.{Nodes}
+use Rattle.load.specs.declared.nodes.Nodes.the-variants.{Passed, Refused}
+
+-- the sections whose nodes, payload and strings have these bytes
+pub record ReadFrom (s : Sections) (nodes payload strings : List ℕ) (c : Counts) : Type 0 where
+  pub stride : s .stride ≡ nodeWords
+  pub nodes-are : s .nodes ≡ wordsOf nodes
+  pub payload-is : s .payload ≡ payload
+  pub strings-are : s .strings ≡ strings
+  pub counts : c ≡ countsOf s
+
+-- the sums of all nodes, or the first refusal
+abbrev pub nodesBy : ℕ → Sections → Nodes
+nodesBy zero s = Passed (sumsBefore s (nodeCount s))
+nodesBy (suc r) s = Refused (suc r)
+
+unfoldable pub nodesOf : Sections → Nodes
+nodesOf s = nodesBy (firstOf (nodeCount s) (nodeRule s)) s

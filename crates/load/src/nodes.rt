@@ -1,0 +1,142 @@
+// The record rules, node by node, with the sums of the counts before each; what is left over.
+use image::ImageView;
+use image::NONE;
+use image::NodeRecord;
+use image::refusal::BAD_ROOT;
+use image::refusal::LEFT_OVER;
+use records::Counts;
+use records::Sums;
+ghost use mathlib.Core.Path.{_≡_};
+ghost use Prim.Native.Nat.{ℕ};
+ghost use Rattle.words.specs.Words.{wordsOf};
+ghost use Rattle.image.specs.Sections.{Sections, nodeCount};
+ghost use Rattle.image.specs.Entries.{nodeIn};
+ghost use Rattle.image.specs.Header.{nodeWords, sectionsBy};
+ghost use Rattle.records.specs.Records.{nodeRule};
+ghost use Rattle.records.specs.Shown.{tagIn, countsOf, sumsBefore};
+ghost use Rattle.load.specs.Load.{leftoverRule, recordsRule};
+ghost use Rattle.load.specs.Nodes.{ReadFrom, nodesOf};
+
+// What the nodes give: the sums of their counts, or the first refusal.
+pub enum Nodes {
+    Passed(Sums),
+    Refused(u32),
+}
+
+// The tag of node `n`, 0 where there is no such node.
+fn tag_at(nodes: &[u8], n: u32) -> u32
+    ensures { λ r. ⌜ ((s : Sections) → s .stride ≡ nodeWords → s .nodes ≡ wordsOf (now (nodes .entry)) → r ≡ tagIn s n) ⌝ }
+{
+    if n == NONE {
+        return 0;
+    }
+    let at = n as usize;
+    if at < nodes.len() / 40 {
+        image::part_word(nodes, at * 10 + 2)
+    } else {
+        0
+    }
+}
+
+// The rules of node `i`.
+fn node_rule(
+    nodes: &[u8],
+    payload: &[u8],
+    strings: &[u8],
+    counts: Counts,
+    sums: Sums,
+    i: usize,
+    node: NodeRecord,
+) -> u32
+    ensures { λ r. ⌜ ((s : Sections) → ReadFrom s (now (nodes .entry)) (now (payload .entry)) (now (strings .entry)) counts → sums ≡ sumsBefore s i → node ≡ nodeIn s i → r ≡ nodeRule s i) ⌝ }
+{
+    let wrong = records::parent_rule(node, i, counts, tag_at(nodes, node.parent));
+    if wrong != 0 {
+        return wrong;
+    }
+    records::fields_rule(
+        node,
+        counts,
+        sums,
+        tag_at(nodes, records::target_of(node)),
+        payload,
+        strings,
+    )
+}
+
+// The entries of the sections.
+fn counts_of(bytes: &[u8], view: ImageView) -> Counts
+    ensures { λ r. ⌜ r ≡ countsOf (sectionsBy (now (bytes .entry)) view) ⌝ }
+{
+    let nodes = image::section_part(bytes, view.nodes, ImageView::NODE_SIZE);
+    let children = image::section_part(bytes, view.children, ImageView::CHILD_SIZE);
+    let named = image::section_part(bytes, view.named, ImageView::NAMED_SIZE);
+    Counts {
+        nodes: nodes.len() / 40,
+        children: children.len() / 4,
+        named: named.len() / 12,
+    }
+}
+
+// The rules of every node, in order.
+fn nodes_rule(bytes: &[u8], view: ImageView, counts: Counts) -> Nodes
+    requires { ⌜ counts ≡ countsOf (sectionsBy (now bytes) view) ⌝ }
+    ensures { λ r. ⌜ r ≡ nodesOf (sectionsBy (now (bytes .entry)) view) ⌝ }
+{
+    let nodes = image::section_part(bytes, view.nodes, ImageView::NODE_SIZE);
+    let payload = image::section_part(bytes, view.payload, ImageView::PAYLOAD_SIZE);
+    let strings = image::section_part(bytes, view.strings, ImageView::STRINGS_SIZE);
+    let mut sums = Sums {
+        children: 0,
+        named: 0,
+        payload: 0,
+        containers: 0,
+    };
+    let mut i = 0;
+    while i < counts.nodes {
+        let node = image::node_record(nodes, i);
+        let wrong = node_rule(nodes, payload, strings, counts, sums, i, node);
+        if wrong != 0 {
+            return Nodes::Refused(wrong);
+        }
+        sums = records::add(sums, node);
+        i += 1;
+    }
+    Nodes::Passed(sums)
+}
+
+// Row 13.
+fn left_over(bytes: &[u8], view: ImageView, counts: Counts, sums: Sums) -> u32
+    requires { ⌜ counts ≡ countsOf (sectionsBy (now bytes) view) ⌝ }
+    requires { ⌜ sums ≡ sumsBefore (sectionsBy (now bytes) view) (nodeCount (sectionsBy (now bytes) view)) ⌝ }
+    ensures { λ r. ⌜ r ≡ leftoverRule (sectionsBy (now (bytes .entry)) view) ⌝ }
+{
+    let payload = image::section_part(bytes, view.payload, ImageView::PAYLOAD_SIZE);
+    let index = image::section_part(bytes, view.index, ImageView::INDEX_SIZE);
+    if !records::used_up(sums, counts, payload.len()) {
+        return LEFT_OVER;
+    }
+    if sums.containers == index.len() / 12 {
+        0
+    } else {
+        LEFT_OVER
+    }
+}
+
+// Rows 8 to 13.
+pub fn records_rule(bytes: &[u8], view: ImageView) -> u32
+    ensures { λ r. ⌜ r ≡ recordsRule (sectionsBy (now (bytes .entry)) view) ⌝ }
+{
+    let nodes = image::section_part(bytes, view.nodes, ImageView::NODE_SIZE);
+    if nodes.len() < 40 {
+        return BAD_ROOT;
+    }
+    if !records::root_right(image::node_record(nodes, 0)) {
+        return BAD_ROOT;
+    }
+    let counts = counts_of(bytes, view);
+    match nodes_rule(bytes, view, counts) {
+        Nodes::Refused(wrong) => wrong,
+        Nodes::Passed(sums) => left_over(bytes, view, counts, sums),
+    }
+}

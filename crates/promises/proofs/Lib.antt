@@ -1,0 +1,11 @@
+pub mod Fields
+pub mod Acceptance
+pub mod Kept
+pub mod Views
+pub mod Counting
+pub mod Nodes
+pub mod Entries
+pub mod Index
+pub mod Sound
+pub mod Whole
+pub mod Readers

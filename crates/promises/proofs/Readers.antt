@@ -1,0 +1,149 @@
+-- What the queries answer on an accepted image. Assumes nothing.
+use Prim.Native.Nat.{ℕ, zero, suc, _+_, _≤_, _<_}
+use mathlib.Core.Path.{_≡_, refl, sym, ap, _∙_}
+use mathlib.Core.Logic.{_≢_}
+use mathlib.Core.Bool.{Bool, true, false, cond}
+use native.Mathlib.Omega.{arith}
+use native.Mathlib.Decide.{ℕ-discrete}
+use borrow.Author.Tests.{eq-eqb, ne-eqb, lt-ltb}
+use Rattle.words.specs.Words.{NONE}
+use Rattle.image.specs.Sections.{Sections, nodeCount, childCount, namedCount, parentOf, placeOf, tagOf, f, inside, isContainer, insideContainer}
+use Rattle.image.specs.Header.{sectionsOf}
+use Rattle.image.proofs.Tests.{both-true}
+use Rattle.records.specs.Fields.{kindOf}
+use Rattle.tree.specs.Tree.{childAt, namedAt}
+use Rattle.tree.specs.Reach.{climb}
+use Rattle.views.specs.declared.OptionalWord.the-variants as word
+use Rattle.views.specs.declared.NodeView.{NodeView}
+use Rattle.views.specs.declared.Count.the-variants as count
+use Rattle.views.specs.View.{span, optionalWord, nodeView}
+use Rattle.views.specs.Children.{childCountOf, namedCountOf, childQuery, namedQuery}
+use Rattle.promises.specs.Readers.{stepUp, ascend, ChildRead, NamedRead, Reads, AcceptedReads}
+use Rattle.promises.proofs.Fields.{right-node}
+use Rattle.promises.proofs.Views.{Seen, seen, shown-right}
+use Rattle.promises.proofs.Nodes.{reaches, child-range, named-range, child-right, named-right}
+use Rattle.promises.proofs.Kept.{Kept, load-kept, a-node}
+use Rattle.promises.proofs.Whole.{right-whole, view-whole, view-read}
+
+-- ---- words that may be absent
+
+word-given : (n : ℕ) → n ≢ NONE → optionalWord n ≡ word.Present n
+unfolding optionalWord
+word-given n d = rw (ne-eqb n NONE d)
+
+word-none : (n : ℕ) → n ≡ NONE → optionalWord n ≡ word.Absent
+unfolding optionalWord
+word-none n e = rw (eq-eqb n NONE e)
+
+apart : (n : ℕ) → word.Present n ≡ word.Absent → ⊥
+apart n e = let z : _≡_ {A = ℕ} 0 1 = cc in omega arith
+
+-- ---- counts
+
+counted : (b : Bool) (m n : ℕ) → cond b (count.Of m) count.NotFound ≡ count.Of n → (b ≡ true) × (m ≡ n)
+counted true m n e = (refl, cc)
+counted false m n e = absurd (let z : _≡_ {A = ℕ} 0 1 = cc in omega arith)
+
+module _ (s : Sections) (g : Kept s) where
+  -- the view of node i
+  see : (i : ℕ) → i < nodeCount s → Seen s i
+  see i h = seen s i (a-node g i h) (g .rules .fields i h)
+
+  abbrev viewAt : (i : ℕ) → i < nodeCount s → NodeView
+  viewAt i h = record { parent = optionalWord (parentOf s i); «child_index» = optionalWord (placeOf s i); kind = see i h .kind }
+
+  container-inside : (i : ℕ) → i < nodeCount s → isContainer s i ≡ true → insideContainer s i ≡ true
+  container-inside i h c = rw (right-node s i (a-node g i h), c)
+
+  -- ---- climbing
+
+  step-up : (i : ℕ) → (h : i < nodeCount s) → i ≢ 0 → stepUp i (nodeView s i) ≡ parentOf s i
+  step-up i h d = rw (see i h .view-is, word-given (parentOf s i) (g .rules .parents i h (omega arith) .container .node .given))
+
+  stay : stepUp 0 (nodeView s 0) ≡ 0
+  stay = rw (see 0 (g .some) .view-is, word-none (parentOf s 0) (g .rules .root-parent))
+
+  at-root : (k : ℕ) → ascend s k 0 ≡ 0
+  unfolding ascend
+  at-root zero = refl
+  at-root (suc k) = ap (ascend s k) stay ∙ at-root k
+
+  ascends-to : (m i : ℕ) → i < nodeCount s → climb s m i ≡ 0 → (k : ℕ) → m ≤ k → ascend s k i ≡ 0
+  unfolding climb ascend
+  ascends-to zero i h e k l = ap (ascend s k) e ∙ at-root k
+  ascends-to (suc m) i h e zero l = absurd (omega arith)
+  ascends-to (suc m) i h e (suc k) l =
+      elim (ℕ-discrete i 0) [
+        | yes z ↦ ap (ascend s (suc k)) z ∙ at-root (suc k)
+        | no d ↦ ap (ascend s k) (step-up i h d) ∙ ascends-to m (parentOf s i) (g .rules .parents i h (omega arith) .container .node .below) e k (omega arith)
+      ]
+
+  -- ---- children
+
+  module _ (i : ℕ) (h : i < nodeCount s) where
+    parent-shown : (x : ℕ) → parentOf s x ≡ i → optionalWord (parentOf s x) ≡ word.Present i
+    parent-shown x e = ap optionalWord e ∙ word-given i (a-node g i h .given)
+
+    child-read : isContainer s i ≡ true → (j : ℕ) → j < f s i 4 → ChildRead s i j
+    unfolding childQuery
+    child-read c j k =
+        let q = child-right s g i h c j k in
+        let range : f s i 3 + f s i 4 ≤ childCount s = child-range s g i h c .0 in
+        record {
+          child = childAt s i j;
+          found = rw (container-inside i h c, lt-ltb j (f s i 4) k, lt-ltb (f s i 3 + j) (childCount s) (omega arith));
+          view = viewAt (childAt s i j) (q .node .below);
+          viewed = see (childAt s i j) (q .node .below) .view-is;
+          parent = parent-shown (childAt s i j) (q .parent);
+          place = ap optionalWord (q .place) ∙ word-given j (λ e. omega (arith, g .children));
+        }
+
+    named-read : isContainer s i ≡ true → (j : ℕ) → j < f s i 6 → NamedRead s i j
+    unfolding namedQuery
+    named-read c j k =
+        let q = named-right s g i h c j k in
+        let range : f s i 5 + f s i 6 ≤ namedCount s = named-range s g i h c .0 in
+        record {
+          child = record { name = span (namedAt s i j 0) (namedAt s i j 1); node = namedAt s i j 2 };
+          found =
+              rw (
+                container-inside i h c,
+                lt-ltb j (f s i 6) k,
+                lt-ltb (f s i 5 + j) (namedCount s) (omega arith),
+                shown-right s (namedAt s i j 0) (namedAt s i j 1) (q .text),
+              );
+          name = right-whole s (namedAt s i j 0) (namedAt s i j 1) (q .text);
+          view = viewAt (namedAt s i j 2) (q .container .node .below);
+          viewed = see (namedAt s i j 2) (q .container .node .below) .view-is;
+          parent = parent-shown (namedAt s i j 2) (q .parent);
+        }
+
+    -- ---- all of it
+
+    pub reads : Reads s i
+    unfolding childCountOf namedCountOf
+    reads =
+        let v = see i h in
+        let up = reaches s g i h in
+        record {
+          view = viewAt i h;
+          viewed = v .view-is;
+          texts = view-whole s i (kindOf (tagOf s i)) (v .kind) (v .kind-is);
+          lists = view-read s i (kindOf (tagOf s i)) (v .kind) (g .rules .fields i h) (v .kind-is);
+          ascends = λ k l. ascends-to (up .steps) i h (up .arrives) k (omega (arith, up .few));
+          parentless = λ e. elim (ℕ-discrete i 0) [
+            | yes z ↦ z
+            | no d ↦ absurd (apart (parentOf s i) (sym (word-given (parentOf s i) (g .rules .parents i h (omega arith) .container .node .given)) ∙ e))
+          ];
+          child-count = λ c. rw (container-inside i h c);
+          named-count = λ c. rw (container-inside i h c);
+          child = λ n e j k.
+              let q = counted (insideContainer s i) (f s i 4) n e in
+              child-read (both-true (inside s i) (isContainer s i) (q .0) .1) j (omega (arith, q .1));
+          named = λ n e j k.
+              let q = counted (insideContainer s i) (f s i 6) n e in
+              named-read (both-true (inside s i) (isContainer s i) (q .0) .1) j (omega (arith, q .1));
+        }
+
+pub accepted-reads : AcceptedReads
+accepted-reads bs work b p = reads (sectionsOf bs) (load-kept bs work b p)

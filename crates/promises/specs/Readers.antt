@@ -1,0 +1,169 @@
+-- What a reader of an accepted image can count on, by the answers of the queries. Assumes nothing.
+use Prim.Native.Nat.{ℕ, zero, suc, _+_, _≤_, _<_}
+use mathlib.Core.Path.{_≡_}
+use mathlib.Core.List.{List, [], _∷_, _++_, List·Memᴰ}
+use mathlib.Core.Bool.{true}
+use lib.ListN.{length}
+use Rattle.laws.specs.Lists.{Below}
+use Rattle.words.specs.Words.{wordAt}
+use Rattle.image.specs.Sections.{Sections, nodeCount, f, partAt, isContainer}
+use Rattle.image.specs.Header.{sectionsOf}
+use Rattle.load.specs.Load.{loadRule}
+use Rattle.views.specs.declared.Span.{Span}
+use Rattle.views.specs.declared.OptionalText.{OptionalText}
+use Rattle.views.specs.declared.OptionalText.the-variants as optional
+use Rattle.views.specs.declared.OptionalWord.{OptionalWord}
+use Rattle.views.specs.declared.OptionalWord.the-variants as word
+use Rattle.views.specs.declared.ValueView.{ValueView}
+use Rattle.views.specs.declared.ValueView.the-variants as value
+use Rattle.views.specs.declared.NodeKindView.{NodeKindView}
+use Rattle.views.specs.declared.NodeKindView.the-variants as kind
+use Rattle.views.specs.declared.NodeView.{NodeView}
+use Rattle.views.specs.declared.NodeAnswer.{NodeAnswer}
+use Rattle.views.specs.declared.NodeAnswer.the-variants as node
+use Rattle.views.specs.declared.Found.the-variants as found
+use Rattle.views.specs.declared.Count.the-variants as count
+use Rattle.views.specs.declared.NamedChildView.{NamedChildView}
+use Rattle.views.specs.declared.NamedAnswer.the-variants as named
+use Rattle.views.specs.declared.TextAnswer.the-variants as text
+use Rattle.views.specs.declared.ListEntry.{ListEntry}
+use Rattle.views.specs.declared.EntryAnswer.the-variants as entry
+use Rattle.views.specs.View.{nodeView}
+use Rattle.views.specs.Children.{childCountOf, namedCountOf, childQuery, namedQuery, textQuery, textPart}
+use Rattle.views.specs.Lists.{listEntry, listOrigin}
+
+-- ---- texts
+
+-- a text is handed back whole: it is found, and its part of the strings has its length
+pub record Whole (s : Sections) (t : Span) : Type 0 where
+  pub found : textQuery s t ≡ text.Text t
+  pub whole : length (textPart (s .strings) (t .offset) (t .len)) ≡ t .len
+
+-- the text, where there is one
+abbrev pub textsIn : OptionalText → List Span
+textsIn (optional.Present t) = t ∷ []
+textsIn optional.Absent = []
+
+abbrev pub valueTexts : ValueView → List Span
+valueTexts (value.Bool b) = []
+valueTexts (value.Int n) = []
+valueTexts (value.Float b x) = []
+valueTexts (value.String t) = t ∷ []
+valueTexts (value.List p) = []
+valueTexts (value.DivertTarget t) = t ∷ []
+valueTexts (value.VariablePointer t n) = t ∷ []
+
+-- the texts that a view holds
+abbrev pub viewTexts : NodeKindView → List Span
+viewTexts (kind.Container flags name) = textsIn name
+viewTexts (kind.ChoicePoint flags target) = []
+viewTexts (kind.ControlCommand c) = []
+viewTexts (kind.Divert path target variable arguments conditional external pushes pushed) = textsIn path ++ textsIn variable
+viewTexts kind.Glue = []
+viewTexts (kind.NativeFunction o) = []
+viewTexts (kind.Tag t) = t ∷ []
+viewTexts (kind.Value v) = valueTexts v
+viewTexts (kind.VariableAssignment t global new) = t ∷ []
+viewTexts (kind.VariableReference t target) = t ∷ []
+viewTexts kind.Void = []
+
+-- ---- list values
+
+-- the payload of a list value
+abbrev pub payloadPart : Sections → Span → List ℕ
+payloadPart s p = partAt (s .payload) (p .offset) (p .len)
+
+-- item j is found, and its texts are handed back whole
+pub record ItemRead (s : Sections) (p : Span) (j : ℕ) : Type 0 where
+  pub item : ListEntry
+  pub found : listEntry (payloadPart s p) (s .strings) j ≡ entry.Entry item
+  pub name : Whole s (item .name)
+  pub origin : (t : Span) → List·Memᴰ t (textsIn (item .origin)) → Whole s t
+
+-- so is origin j
+pub record OriginRead (s : Sections) (p : Span) (j : ℕ) : Type 0 where
+  pub origin : Span
+  pub found : listOrigin (payloadPart s p) (s .strings) j ≡ text.Text origin
+  pub whole : Whole s origin
+
+pub record ListRead (s : Sections) (p : Span) : Type 0 where
+  pub items : (j : ℕ) → j < wordAt (payloadPart s p) 0 → ItemRead s p j
+  pub origins : (j : ℕ) → j < wordAt (payloadPart s p) 4 → OriginRead s p j
+
+abbrev pub valueLists : ValueView → List Span
+valueLists (value.Bool b) = []
+valueLists (value.Int n) = []
+valueLists (value.Float b x) = []
+valueLists (value.String t) = []
+valueLists (value.List p) = p ∷ []
+valueLists (value.DivertTarget t) = []
+valueLists (value.VariablePointer t n) = []
+
+-- the list values of a view, one or none
+abbrev pub viewLists : NodeKindView → List Span
+viewLists (kind.Container flags name) = []
+viewLists (kind.ChoicePoint flags target) = []
+viewLists (kind.ControlCommand c) = []
+viewLists (kind.Divert path target variable arguments conditional external pushes pushed) = []
+viewLists kind.Glue = []
+viewLists (kind.NativeFunction o) = []
+viewLists (kind.Tag t) = []
+viewLists (kind.Value v) = valueLists v
+viewLists (kind.VariableAssignment t global new) = []
+viewLists (kind.VariableReference t target) = []
+viewLists kind.Void = []
+
+-- ---- climbing by views
+
+abbrev pub orStay : ℕ → OptionalWord → ℕ
+orStay i (word.Present p) = p
+orStay i word.Absent = i
+
+-- the node that the view names as parent; where there is none, the same node
+abbrev pub stepUp : ℕ → NodeAnswer → ℕ
+stepUp i (node.View v) = orStay i (v .parent)
+stepUp i node.NotFound = i
+
+-- the node after k such steps
+unfoldable pub ascend : Sections → ℕ → ℕ → ℕ
+ascend s zero i = i
+ascend s (suc k) i = ascend s k (stepUp i (nodeView s i))
+
+-- ---- children
+
+-- ordered child j is found, and its view names the node and the place
+pub record ChildRead (s : Sections) (i j : ℕ) : Type 0 where
+  pub child : ℕ
+  pub found : childQuery s i j ≡ found.Node child
+  pub view : NodeView
+  pub viewed : nodeView s child ≡ node.View view
+  pub parent : view .parent ≡ word.Present i
+  pub place : view .«child_index» ≡ word.Present j
+
+-- named child j is found, its name is handed back whole, and its view names the node
+pub record NamedRead (s : Sections) (i j : ℕ) : Type 0 where
+  pub child : NamedChildView
+  pub found : namedQuery s i j ≡ named.Named child
+  pub name : Whole s (child .name)
+  pub view : NodeView
+  pub viewed : nodeView s (child .node) ≡ node.View view
+  pub parent : view .parent ≡ word.Present i
+
+-- ---- a reader at node i
+
+pub record Reads (s : Sections) (i : ℕ) : Type 0 where
+  pub view : NodeView
+  pub viewed : nodeView s i ≡ node.View view
+  pub texts : (t : Span) → List·Memᴰ t (viewTexts (view .kind)) → Whole s t
+  pub lists : (p : Span) → List·Memᴰ p (viewLists (view .kind)) → ListRead s p
+  -- fewer steps than nodes lead to node 0, which alone has no parent
+  pub ascends : (k : ℕ) → nodeCount s ≤ suc k → ascend s k i ≡ 0
+  pub parentless : view .parent ≡ word.Absent → i ≡ 0
+  -- a container has both counts; below them no child is missing
+  pub child-count : isContainer s i ≡ true → childCountOf s i ≡ count.Of (f s i 4)
+  pub named-count : isContainer s i ≡ true → namedCountOf s i ≡ count.Of (f s i 6)
+  pub child : (n : ℕ) → childCountOf s i ≡ count.Of n → (j : ℕ) → j < n → ChildRead s i j
+  pub named : (n : ℕ) → namedCountOf s i ≡ count.Of n → (j : ℕ) → j < n → NamedRead s i j
+
+abbrev pub AcceptedReads : Type 0
+AcceptedReads = (bs : List ℕ) (work : ℕ) → Below 256 bs → loadRule bs work ≡ 0 → (i : ℕ) → i < nodeCount (sectionsOf bs) → Reads (sectionsOf bs) i

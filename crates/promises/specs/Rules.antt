@@ -1,0 +1,152 @@
+-- What a load asks of its bytes, rule by rule in plain words. Acceptance is exactly this (proofs/Acceptance). Assumes nothing.
+use Prim.Native.Nat.{ℕ, _+_, _*_, _≤_, _<_}
+use mathlib.Core.Path.{_≡_}
+use mathlib.Core.Logic.{_≢_, _⊎_}
+use mathlib.Core.List.{List, List·Memᴰ}
+use mathlib.Core.Bool.{true}
+use lib.ListN.{length}
+use Rattle.words.specs.Words.{NONE, wordAt}
+use Rattle.utf8.specs.Utf8.{utf8}
+use Rattle.texts.specs.Text.{holds, rising}
+use Rattle.names.specs.Names.{commands, operators}
+use Rattle.checksum.specs.Crc.{checksumOf}
+use Rattle.image.specs.Sections.{Sections, nodeCount, childCount, namedCount, definitionCount, itemCount, indexCount, parentOf, placeOf, tagOf, f, definitionWord, itemWord, indexWord, textAt}
+use Rattle.image.specs.Header.{sectionsOf}
+use Rattle.image.proofs.Opening.{Opens}
+use Rattle.records.specs.Fields.{Field, text, optional, command, operator, node, optionalNode, container, optionalContainer, plain, atMost, children, named, payload, wrong}
+use Rattle.records.specs.Records.{fieldsAt, childrenOf, namedOf, childrenBefore, namedBefore, payloadBefore, containersBefore, listItems, listOrigins, listItemWord, listOriginWord}
+use Rattle.tree.specs.Tree.{childAt, namedAt, namedText}
+use Rattle.tree.specs.Reach.{Reached}
+use Rattle.index.specs.Paths.{fits}
+use Rattle.index.specs.Index.{indexText}
+use Rattle.index.specs.Definitions.{definitionText, firstItem, itemsOf, itemTextOf, itemsBefore}
+use Rattle.load.specs.Load.{loadWords, loadRule, Accepted}
+
+-- ---- texts and nodes
+
+-- present, inside and UTF-8
+pub record TextRight (s : Sections) (at len : ℕ) : Type 0 where
+  pub offset-given : at ≢ NONE
+  pub length-given : len ≢ NONE
+  pub inside : at + len ≤ length (s .strings)
+  pub encoded : utf8 (textAt s at len) ≡ true
+
+-- absent only if both words are NONE
+abbrev pub OptionalRight : Sections → ℕ → ℕ → Type 0
+OptionalRight s at len = ((at ≡ NONE) × (len ≡ NONE)) ⊎ TextRight s at len
+
+pub record NodeRight (s : Sections) (n : ℕ) : Type 0 where
+  pub below : n < nodeCount s
+  pub given : n ≢ NONE
+
+pub record ContainerRight (s : Sections) (n : ℕ) : Type 0 where
+  pub node : NodeRight s n
+  pub container : tagOf s n ≡ 1
+
+-- ---- the fields of a node
+
+-- a list value whose payload starts at `at`
+pub record PayloadRight (s : Sections) (at len : ℕ) : Type 0 where
+  pub inside : at + len ≤ length (s .payload)
+  pub long : 8 ≤ len
+  pub exact : len ≡ 8 + listItems s at * 20 + listOrigins s at * 8
+  pub item-origin : (j : ℕ) → j < listItems s at → OptionalRight s (listItemWord s at j 0) (listItemWord s at j 1)
+  pub item-name : (j : ℕ) → j < listItems s at → TextRight s (listItemWord s at j 2) (listItemWord s at j 3)
+  pub origin : (j : ℕ) → j < listOrigins s at → TextRight s (listOriginWord s at j 0) (listOriginWord s at j 1)
+
+abbrev pub FieldRight : Sections → ℕ → Field → Type 0
+FieldRight s i (text k) = TextRight s (f s i k) (f s i (k + 1))
+FieldRight s i (optional k) = OptionalRight s (f s i k) (f s i (k + 1))
+FieldRight s i (command k) = TextRight s (f s i k) (f s i (k + 1)) × (holds commands (textAt s (f s i k) (f s i (k + 1))) ≡ true)
+FieldRight s i (operator k) = TextRight s (f s i k) (f s i (k + 1)) × (holds operators (textAt s (f s i k) (f s i (k + 1))) ≡ true)
+FieldRight s i (node k) = NodeRight s (f s i k)
+FieldRight s i (optionalNode k) = (f s i k ≡ NONE) ⊎ NodeRight s (f s i k)
+FieldRight s i (container k) = ContainerRight s (f s i k)
+FieldRight s i (optionalContainer k) = (f s i k ≡ NONE) ⊎ ContainerRight s (f s i k)
+FieldRight s i (plain k) = Unit {0}
+FieldRight s i (atMost k n) = f s i k ≤ n
+FieldRight s i children = (f s i 3 + f s i 4 ≤ childCount s) × (f s i 3 ≡ childrenBefore s i)
+FieldRight s i named = (f s i 5 + f s i 6 ≤ namedCount s) × (f s i 5 ≡ namedBefore s i)
+FieldRight s i payload = (f s i 0 ≡ payloadBefore s i) × PayloadRight s (f s i 0) (f s i 1)
+FieldRight s i wrong = ⊥
+
+pub record ParentRight (s : Sections) (i : ℕ) : Type 0 where
+  pub container : ContainerRight s (parentOf s i)
+  pub other : parentOf s i ≢ i
+
+-- ---- a container's entries
+
+pub record ChildRight (s : Sections) (i j : ℕ) : Type 0 where
+  pub node : NodeRight s (childAt s i j)
+  pub parent : parentOf s (childAt s i j) ≡ i
+  pub place : placeOf s (childAt s i j) ≡ j
+
+pub record NamedRight (s : Sections) (i j : ℕ) : Type 0 where
+  pub text : TextRight s (namedAt s i j 0) (namedAt s i j 1)
+  pub order : rising (namedText s i) j ≡ true
+  pub container : ContainerRight s (namedAt s i j 2)
+  pub parent : parentOf s (namedAt s i j 2) ≡ i
+
+-- ---- the index and the definitions
+
+pub record IndexRight (s : Sections) (j : ℕ) : Type 0 where
+  pub text : TextRight s (indexWord s j 0) (indexWord s j 1)
+  pub container : ContainerRight s (indexWord s j 2)
+  pub order : rising (indexText s) j ≡ true
+  pub fit : fits s (indexWord s j 2) (indexText s j) ≡ true
+
+pub record ItemRight (s : Sections) (d j : ℕ) : Type 0 where
+  pub text : TextRight s (itemWord s (firstItem s d + j) 0) (itemWord s (firstItem s d + j) 1)
+  pub order : rising (itemTextOf s d) j ≡ true
+
+pub record DefinitionRight (s : Sections) (d : ℕ) : Type 0 where
+  pub text : TextRight s (definitionWord s d 0) (definitionWord s d 1)
+  pub order : rising (definitionText s) d ≡ true
+  pub inside : firstItem s d + itemsOf s d ≤ itemCount s
+  pub start : firstItem s d ≡ itemsBefore s d
+  pub items : (j : ℕ) → j < itemsOf s d → ItemRight s d j
+
+-- ---- all rules
+
+-- rows 8 to 17
+pub record SectionsRight (s : Sections) : Type 0 where
+  pub root-parent : parentOf s 0 ≡ NONE
+  pub root-place : placeOf s 0 ≡ NONE
+  pub root-container : tagOf s 0 ≡ 1
+  pub parents : (i : ℕ) → i < nodeCount s → 0 < i → ParentRight s i
+  pub fields : (i : ℕ) → i < nodeCount s → (x : Field) → List·Memᴰ x (fieldsAt s i) → FieldRight s i x
+  -- nothing is left over
+  pub children-used : childrenBefore s (nodeCount s) ≡ childCount s
+  pub named-used : namedBefore s (nodeCount s) ≡ namedCount s
+  pub payload-used : payloadBefore s (nodeCount s) ≡ length (s .payload)
+  pub index-used : containersBefore s (nodeCount s) ≡ indexCount s
+  -- the tree
+  pub reached : (i : ℕ) → i < nodeCount s → Reached s i
+  pub child : (i : ℕ) → i < nodeCount s → (j : ℕ) → j < childrenOf s i → ChildRight s i j
+  pub entry : (i : ℕ) → i < nodeCount s → (j : ℕ) → j < namedOf s i → NamedRight s i j
+  pub index : (j : ℕ) → j < indexCount s → IndexRight s j
+  pub definitions : (d : ℕ) → d < definitionCount s → DefinitionRight s d
+  pub items-used : itemsBefore s (definitionCount s) ≡ itemCount s
+
+-- rows 1 to 6, and the rest
+pub record BreaksNone (bs : List ℕ) : Type 0 where
+  pub header : Opens bs
+  pub checksum : wordAt bs 84 ≡ checksumOf bs
+  pub sections : SectionsRight (sectionsOf bs)
+
+-- ---- acceptance
+
+abbrev pub Iff : Type 0 → Type 0 → Type 0
+Iff A B = (A → B) × (B → A)
+
+-- the first rule broken is none exactly if each rule is kept
+abbrev pub AcceptedExactly : Type 0
+AcceptedExactly = (bs : List ℕ) → Iff (Accepted bs) (BreaksNone bs)
+
+-- a load with enough work words accepts exactly the bytes that break none of its rules
+abbrev pub LoadsExactly : Type 0
+LoadsExactly = (bs : List ℕ) (work : ℕ) → loadWords (sectionsOf bs) ≤ work → Iff (loadRule bs work ≡ 0) (BreaksNone bs)
+
+-- and with fewer it accepts none
+abbrev pub LoadsEnough : Type 0
+LoadsEnough = (bs : List ℕ) (work : ℕ) → loadRule bs work ≡ 0 → loadWords (sectionsOf bs) ≤ work
