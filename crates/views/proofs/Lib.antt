@@ -3,3 +3,4 @@ pub mod Tags
 pub mod Answers
 pub mod Halving
 pub mod Lookups
+pub mod Plain

@@ -4,3 +4,4 @@ pub mod Found
 pub mod Children
 pub mod Lists
 pub mod Lookup
+pub mod Plain
