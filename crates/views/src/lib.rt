@@ -1,6 +1,6 @@
 // What a reader asks of an image: node views, children, named children, texts, list values, list items by name. A query takes bytes
 // and a view; it answers on any bytes and any view, a section outside the bytes counts as empty.
-mod entries; // entries.rt: entries of sections, where there are such
+pub mod entries; // entries.rt: entries of sections, where there are such
 pub mod view; // view.rt: the view of a node
 pub mod children; // children.rt: ordered and named children, texts
 pub mod lists; // lists.rt: entries of list values, definitions and items by number
