@@ -3,5 +3,3 @@ pub mod Shown
 pub mod Found
 pub mod Children
 pub mod Lists
-pub mod Lookup
-pub mod Plain

@@ -20,7 +20,7 @@ use Rattle.views.specs.declared.entries.RecordFound.{RecordFound}
 use Rattle.views.specs.declared.entries.RecordFound.the-variants as node
 use Rattle.views.specs.Found.{nodeFound}
 use Rattle.views.specs.Children.{childQuery}
-use Rattle.views.specs.Lookup.{findNamed}
+use Rattle.lookups.specs.Lookup.{findNamed}
 use Rattle.views.proofs.Reading.{no-node, a-node}
 use Rattle.walks.specs.Walk.{Component, Parent, Index, Name, Broken, component, components, parentQuery, step, stepFrom, steps, resolve}
 

@@ -34,7 +34,7 @@ fn child_named(bytes: &[u8], view: ImageView, id: u32, names: &[u8], offset: u32
     let start = offset as usize;
     let end = start + len as usize;
     if end <= names.len() {
-        views::lookup::find_named_child(bytes, view, id, &names[start..end])
+        lookups::find_named_child(bytes, view, id, &names[start..end])
     } else {
         Found::NotFound
     }

@@ -1,9 +1,9 @@
--- `views::lookup::find` meets its contract. The loop's invariant: the range lo to hi is all that is left to search. Assumes nothing.
+-- `lookups::find` meets its contract. The loop's invariant: the range lo to hi is all that is left to search. Assumes nothing.
 use borrow.Author.Needs.{needs}
 use Prim.Native.Nat.{_-_}
-use Rattle.views.proofs.Lookups.{Halved, halved-start, halved-above, halved-below, halved-here, halved-end}
-use Rattle.views.proofs.lookup.find.Statement.{statement}
-use Rattle.views.proofs.lookup.find.Tie as tie
+use Rattle.lookups.proofs.Lookups.{Halved, halved-start, halved-above, halved-below, halved-here, halved-end}
+use Rattle.lookups.proofs.find.Statement.{statement}
+use Rattle.lookups.proofs.find.Tie as tie
 
 abbrev Inv-loop : tie.InvT-loop
 Inv-loop part strings from count name lo₀ hi₀ lo hi = Halved part strings from count name lo hi

@@ -16,13 +16,13 @@ use Rattle.utf8.specs.White.{blank, blanks}
 use Rattle.image.specs.Sections.{Sections, definitionCount, itemCount, f, definitionWord, itemWord, textIn, insideContainer, sections}
 use Rattle.image.specs.Header.{nodeWords}
 use Rattle.index.specs.Definitions.{firstItem, itemsOf}
-use Rattle.views.specs.declared.lookup.Place.{Place}
-use Rattle.views.specs.declared.lookup.Place.the-variants as place
+use Rattle.lookups.specs.declared.Place.{Place}
+use Rattle.lookups.specs.declared.Place.the-variants as place
 use Rattle.views.specs.declared.Found.{Found}
 use Rattle.views.specs.declared.Found.the-variants as found
-use Rattle.views.specs.declared.ListItemAnswer.{ListItemAnswer}
-use Rattle.views.specs.declared.ListItemAnswer.the-variants as answer
+use Rattle.lookups.specs.declared.ListItemAnswer.{ListItemAnswer}
+use Rattle.lookups.specs.declared.ListItemAnswer.the-variants as answer
 use Rattle.views.specs.View.{signed, views}
 
 -- ---- a halving search for a name among the texts t lo, .., t (hi - 1)
 

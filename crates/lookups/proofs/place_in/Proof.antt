@@ -1,8 +1,8 @@
--- `views::lookup::place_in` meets its contract. Assumes nothing.
-use Rattle.views.proofs.Lookups.{other-origin, place-outside, place-there}
+-- `lookups::place_in` meets its contract. Assumes nothing.
+use Rattle.lookups.proofs.Lookups.{other-origin, place-outside, place-there}
 use borrow.Author.Needs.{needs}
-use Rattle.views.proofs.lookup.place_in.Statement.{statement}
-use Rattle.views.proofs.lookup.place_in.Tie as tie
+use Rattle.lookups.proofs.place_in.Statement.{statement}
+use Rattle.lookups.proofs.place_in.Tie as tie
 
 definition-at-requires : tie.Need-definition-at-requires
 definition-at-requires c κs = search needs

@@ -25,15 +25,15 @@ use Rattle.tree.proofs.Reading.{Right, tree-right}
 use Rattle.index.specs.Definitions.{definitionText, firstItem, itemsOf, itemText, itemTextOf, definitionsRule}
 use Rattle.index.proofs.Rising.{rising-before}
 use Rattle.index.proofs.Definitions.{Definition, Definitions, definitions-passed}
 use Rattle.views.specs.declared.Found.{Found}
 use Rattle.views.specs.declared.Found.the-variants as found
-use Rattle.views.specs.declared.ListItem.{ListItem}
-use Rattle.views.specs.declared.ListItemAnswer.{ListItemAnswer}
-use Rattle.views.specs.declared.ListItemAnswer.the-variants as answer
+use Rattle.lookups.specs.declared.ListItem.{ListItem}
+use Rattle.lookups.specs.declared.ListItemAnswer.{ListItemAnswer}
+use Rattle.lookups.specs.declared.ListItemAnswer.the-variants as answer
 use Rattle.views.specs.View.{signed}
-use Rattle.views.specs.Lookup.{entryText, halving, searched, foundAt, namedBy, findNamed, itemIn, isSome, definitionName, placeIn, answers, listItemAt, listItemIn, lastItem}
-use Rattle.views.specs.Plain.{Bears, Borne, NamedRead, Holds, LastHolds, ItemsRead}
-use Rattle.views.proofs.Halving.{There, Rising, found-there, there-found}
+use Rattle.lookups.specs.Lookup.{entryText, halving, searched, foundAt, namedBy, findNamed, itemIn, isSome, definitionName, placeIn, answers, listItemAt, listItemIn, lastItem}
+use Rattle.lookups.specs.Plain.{Bears, Borne, NamedRead, Holds, LastHolds, ItemsRead}
+use Rattle.lookups.proofs.Halving.{There, Rising, found-there, there-found}
 
 -- ---- a search among entries whose texts are u 0, u 1, .. and rise
 

@@ -13,7 +13,7 @@ use Rattle.texts.specs.declared.Order.{Order}
 use Rattle.texts.specs.declared.Order.the-variants.{Less, Equal, Greater}
 use Rattle.texts.specs.Text.{orderOf, before, rising}
 use Rattle.texts.proofs.Text.{order-self, order-equal, before-less, before-greater, before-trans}
-use Rattle.views.specs.Lookup.{towards, halving}
+use Rattle.lookups.specs.Lookup.{towards, halving}
 
 module _ (t : ℕ → List ℕ) (name : List ℕ) where
   abbrev middleOf : ℕ → ℕ → ℕ

@@ -1,8 +1,8 @@
--- `views::lookup::last_item` meets its contract. The loop's invariant: the definitions before d are all that is left to ask. Assumes nothing.
+-- `lookups::last_item` meets its contract. The loop's invariant: the definitions before d are all that is left to ask. Assumes nothing.
 use borrow.Author.Needs.{needs}
-use Rattle.views.proofs.Lookups.{Left, left-start, left-next, left-found, left-end, item-inside}
-use Rattle.views.proofs.lookup.last_item.Statement.{statement}
-use Rattle.views.proofs.lookup.last_item.Tie as tie
+use Rattle.lookups.proofs.Lookups.{Left, left-start, left-next, left-found, left-end, item-inside}
+use Rattle.lookups.proofs.last_item.Statement.{statement}
+use Rattle.lookups.proofs.last_item.Tie as tie
 
 abbrev Inv-loop : tie.InvT-loop
 Inv-loop definitions items strings given origin name d₀ d = Left definitions items strings given origin name d

@@ -9,16 +9,26 @@ ghost use Rattle.words.specs.Words.{wordsOf};
 ghost use Rattle.texts.specs.Text.{same};
 ghost use Rattle.image.specs.Header.{sectionsBy};
 ghost use Rattle.index.specs.Definitions.{firstItem};
-ghost use Rattle.views.specs.Lookup.{placed, searched, namedBy, findNamed, listParts, placeIn, listItemAt, lastItem, listItem};
-use crate::Found;
-use crate::ListItem;
-use crate::ListItemAnswer;
-use crate::entries::RecordFound;
-use crate::entries::container_of;
-use crate::view::signed_of;
+ghost use Rattle.lookups.specs.Lookup.{placed, searched, namedBy, findNamed, listParts, placeIn, listItemAt, lastItem, listItem};
 use image::ImageView;
 use image::NodeRecord;
 use texts::Order;
+use views::Found;
+use views::entries::RecordFound;
+use views::entries::container_of;
+use views::view::signed_of;
+
+// An item found by name: its definition, which is its origin, its number among all items, and its value.
+pub struct ListItem {
+    pub definition: usize,
+    pub item: usize,
+    pub value: i32,
+}
+
+pub enum ListItemAnswer {
+    Item(ListItem),
+    NotFound,
+}
 
 // A place among the entries of a container or a definition.
 pub enum Place {

@@ -1,9 +1,9 @@
--- `views::lookup::named_by` meets its contract. Assumes nothing.
+-- `lookups::named_by` meets its contract. Assumes nothing.
 use native.Mathlib.Omega.{arith}
-use Rattle.views.proofs.Lookups.{named-outside, named-nowhere, named-at, named-place}
+use Rattle.lookups.proofs.Lookups.{named-outside, named-nowhere, named-at, named-place}
 use borrow.Author.Needs.{needs}
-use Rattle.views.proofs.lookup.named_by.Statement.{statement}
-use Rattle.views.proofs.lookup.named_by.Tie as tie
+use Rattle.lookups.proofs.named_by.Statement.{statement}
+use Rattle.lookups.proofs.named_by.Tie as tie
 
 cast-from : tie.Need-cast-from
 cast-from c = search needs

@@ -1,10 +1,10 @@
--- `views::lookup::item_at` meets its contract. Assumes nothing.
+-- `lookups::item_at` meets its contract. Assumes nothing.
 use denote.Ref.{now}
 use Rattle.image.specs.Sections.{definitionWord}
-use Rattle.views.proofs.Lookups.{item-made}
+use Rattle.lookups.proofs.Lookups.{item-made}
 use borrow.Author.Needs.{needs}
-use Rattle.views.proofs.lookup.item_at.Statement.{statement}
-use Rattle.views.proofs.lookup.item_at.Tie as tie
+use Rattle.lookups.proofs.item_at.Statement.{statement}
+use Rattle.lookups.proofs.item_at.Tie as tie
 
 mul-part-word : tie.Need-mul-part-word
 mul-part-word c = search needs

@@ -28,19 +28,19 @@ use Rattle.image.specs.Header.{sectionBytes, sectionsIn, sectionsBy}
 use Rattle.image.proofs.Entries.{definition-entry}
 use Rattle.image.proofs.Views.{named-by, strings-by}
 use Rattle.index.specs.Definitions.{firstItem, itemsOf}
 use Rattle.views.specs.declared.Found.{Found}
 use Rattle.views.specs.declared.Found.the-variants as found
-use Rattle.views.specs.declared.ListItemAnswer.{ListItemAnswer}
-use Rattle.views.specs.declared.ListItemAnswer.the-variants as answer
-use Rattle.views.specs.declared.lookup.Place.{Place}
-use Rattle.views.specs.declared.lookup.Place.the-variants as place
+use Rattle.lookups.specs.declared.ListItemAnswer.{ListItemAnswer}
+use Rattle.lookups.specs.declared.ListItemAnswer.the-variants as answer
+use Rattle.lookups.specs.declared.Place.{Place}
+use Rattle.lookups.specs.declared.Place.the-variants as place
 use Rattle.views.specs.declared.entries.RecordFound.{RecordFound}
 use Rattle.views.specs.declared.entries.RecordFound.the-variants as node
 use Rattle.views.specs.View.{signed}
 use Rattle.views.specs.Found.{containerFound}
-use Rattle.views.specs.Lookup.{placed, entryText, halving, searched, foundAt, namedBy, findNamed, itemIn, isSome, definitionName, placeIn, answers, listItemAt, listItemIn, lastItem, listItem, listParts}
+use Rattle.lookups.specs.Lookup.{placed, entryText, halving, searched, foundAt, namedBy, findNamed, itemIn, isSome, definitionName, placeIn, answers, listItemAt, listItemIn, lastItem, listItem, listParts}
 use Rattle.views.proofs.Reading.{triple-count, definition-count, no-container, a-container}
-use Rattle.views.proofs.Halving.{Searching, search-start, search-above, search-below, search-here, search-end, found-there}
+use Rattle.lookups.proofs.Halving.{Searching, search-start, search-above, search-below, search-here, search-end, found-there}
 
 -- ---- the place of a name among entries
 

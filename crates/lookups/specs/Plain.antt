@@ -6,11 +6,11 @@ use mathlib.Core.Bool.{Bool, true}
 use Rattle.image.specs.Sections.{Sections, definitionCount, f, itemWord}
 use Rattle.tree.specs.Tree.{namedAt, namedText}
 use Rattle.index.specs.Definitions.{definitionText, firstItem, itemsOf, itemTextOf}
 use Rattle.views.specs.declared.Found.the-variants as found
-use Rattle.views.specs.declared.ListItem.{ListItem}
-use Rattle.views.specs.declared.ListItemAnswer.the-variants as answer
+use Rattle.lookups.specs.declared.ListItem.{ListItem}
+use Rattle.lookups.specs.declared.ListItemAnswer.the-variants as answer
 use Rattle.views.specs.View.{signed}
-use Rattle.views.specs.Lookup.{findNamed, lastItem}
+use Rattle.lookups.specs.Lookup.{findNamed, lastItem}
 
 -- ---- a named child
 

@@ -1,8 +1,8 @@
--- `views::lookup::find_named_child` meets its contract. Assumes nothing.
-use Rattle.views.proofs.Lookups.{find-missing, find-found}
+-- `lookups::find_named_child` meets its contract. Assumes nothing.
+use Rattle.lookups.proofs.Lookups.{find-missing, find-found}
 use borrow.Author.Needs.{needs}
-use Rattle.views.proofs.lookup.find_named_child.Statement.{statement}
-use Rattle.views.proofs.lookup.find_named_child.Tie as tie
+use Rattle.lookups.proofs.find_named_child.Statement.{statement}
+use Rattle.lookups.proofs.find_named_child.Tie as tie
 
 container-of-requires : tie.Need-container-of-requires
 container-of-requires c κs = search needs

@@ -1,10 +1,10 @@
--- `views::lookup::list_item` meets its contract. Assumes nothing.
+-- `lookups::list_item` meets its contract. Assumes nothing.
 use native.Mathlib.Omega.{arith}
 use lib.ListN.{length-take}
-use Rattle.views.proofs.Lookups.{list-blank, list-dotted, list-plain}
+use Rattle.lookups.proofs.Lookups.{list-blank, list-dotted, list-plain}
 use borrow.Author.Needs.{needs}
-use Rattle.views.proofs.lookup.list_item.Statement.{statement}
-use Rattle.views.proofs.lookup.list_item.Tie as tie
+use Rattle.lookups.proofs.list_item.Statement.{statement}
+use Rattle.lookups.proofs.list_item.Tie as tie
 
 is-blank-requires : tie.Need-is-blank-requires
 is-blank-requires c κs = search needs

@@ -1,7 +1,7 @@
--- `views::lookup::is_origin` meets its contract. Assumes nothing.
+-- `lookups::is_origin` meets its contract. Assumes nothing.
 use borrow.Author.Needs.{needs}
-use Rattle.views.proofs.lookup.is_origin.Statement.{statement}
-use Rattle.views.proofs.lookup.is_origin.Tie as tie
+use Rattle.lookups.proofs.is_origin.Statement.{statement}
+use Rattle.lookups.proofs.is_origin.Tie as tie
 
 equal-requires : tie.Need-equal-requires
 equal-requires c κs = search needs
