@@ -9,7 +9,7 @@ use Rattle.image.specs.Sections.{Sections, nodeCount, nodeWord, parentOf, tagOf
 use Rattle.views.specs.declared.Found.{Found}
 use Rattle.views.specs.declared.Found.the-variants.{Node, NotFound}
 use Rattle.views.specs.Children.{childQuery, childrens}
-use Rattle.views.specs.Lookup.{findNamed, lookups}
+use Rattle.lookups.specs.Lookup.{findNamed, lookups}
 
 -- a component is of kind parent, index or name; one that is lent broken is none of these
 pub data Component : Type 0 where
