@@ -21,7 +21,7 @@ use Rattle.index.specs.Index.{indexRule}
 use Rattle.index.specs.Definitions.{definitionsRule}
 use Rattle.index.proofs.Index.{index-passed, index-passes}
 use Rattle.index.proofs.Definitions.{definitions-passed, definitions-pass}
-use Rattle.load.specs.Load.{checksumRule, leftoverRule, sectionsRule, loadWords, loadRule, Accepted}
+use Rattle.load.specs.Load.{checksumRule, leftoverRule, recordsRule, sectionsRule, loadWords, loadRule, Accepted}
 use Rattle.promises.specs.Rules.{ChildRight, NamedRight, SectionsRight, BreaksNone, AcceptedExactly, LoadsExactly, LoadsEnough}
 use Rattle.promises.proofs.Fields.{text-right, right-text, node-right, right-node, container-right, right-container, fields-right, right-fields, parent-right, right-parent}
 
@@ -52,30 +52,30 @@ pub record Passed (s : Sections) : Type 0 where
 
 module _ (s : Sections) where
   rows : sectionsRule s ≡ 0 → Passed s
-  unfolding sectionsRule leftoverRule
+  unfolding sectionsRule recordsRule leftoverRule
   rows p =
-      let a = both _ _ p in
+      let d = both (recordsRule s) _ p in
+      let a = both _ _ (d .0) in
       let b = both (firstOf (nodeCount s) (nodeRule s)) _ (a .1) in
-      let c = both (leftoverRule s) _ (b .1) in
-      let d = both (treeRule s) _ (c .1) in
-      let e = both (indexRule s) _ (d .1) in
-      let left = both-true (usedUp s) (eqb (containersBefore s (nodeCount s)) (indexCount s)) (passed _ 12 (c .0)) in
+      let e = both (treeRule s) _ (d .1) in
+      let h = both (indexRule s) _ (e .1) in
+      let left = both-true (usedUp s) (eqb (containersBefore s (nodeCount s)) (indexCount s)) (passed _ 12 (b .1)) in
       record {
         root-right = passed _ 7 (a .0);
         nodes = b .0;
         used = left .0;
         containers = eqb-true _ _ (left .1);
-        tree = d .0;
-        index = e .0;
-        definitions = e .1;
+        tree = e .0;
+        index = h .0;
+        definitions = h .1;
       }
 
   all-rows : Passed s → sectionsRule s ≡ 0
-  unfolding sectionsRule leftoverRule
+  unfolding sectionsRule recordsRule leftoverRule
   all-rows p =
-      then _ _ (pass _ 8 (p .root-right))
-      (then _ _ (p .nodes)
-      (then _ _ (pass _ 13 (rw (p .used, eq-eqb _ _ (p .containers)))) (then _ _ (p .tree) (then _ _ (p .index) (p .definitions)))))
+      then _ _
+      (then _ _ (pass _ 8 (p .root-right)) (then _ _ (p .nodes) (pass _ 13 (rw (p .used, eq-eqb _ _ (p .containers))))))
+      (then _ _ (p .tree) (then _ _ (p .index) (p .definitions)))
 
   -- the parent's rule and the fields'
   node-parts : Passed s → (i : ℕ) → i < nodeCount s → (parentRule s i ≡ 0) × (fieldsRule s i ≡ 0)
