@@ -1,18 +1,16 @@
 -- Laws of the halving search: its turns, its bounds, and the plain reading on texts that rise. Assumes nothing.
 use Prim.Native.Nat.{ℕ, zero, suc, _+_, _-_, _/_, _≤_, _<_}
 use mathlib.Core.Path.{_≡_, refl, sym, ap, _∙_, subst}
-use mathlib.Core.Logic.{_⊎_, inl, inr, ⊎-elim}
 use mathlib.Core.List.{List}
-use mathlib.Core.Bool.{Bool, true, false, cond, true≢false}
+use mathlib.Core.Bool.{true}
 use mathlib.Core.Option.{Option, none, some}
 use native.Mathlib.Omega.{arith}
-use native.Mathlib.Decide.{ℕ-discrete, decLt}
-use lib.Dec.{ltb}
-use borrow.Author.Tests.{lt-ltb, le-ltb, ltb-true, ltb-false}
+use native.Mathlib.Decide.{decLt}
+use borrow.Author.Tests.{lt-ltb, le-ltb}
 use Rattle.texts.specs.declared.Order.{Order}
 use Rattle.texts.specs.declared.Order.the-variants.{Less, Equal, Greater}
-use Rattle.texts.specs.Text.{orderOf, before, rising}
-use Rattle.texts.proofs.Text.{order-self, order-equal, before-less, before-greater, before-trans}
+use Rattle.texts.specs.Text.{orderOf, before}
+use Rattle.texts.proofs.Text.{order-self, order-equal, before-less, before-greater}
 use Rattle.lookups.specs.Lookup.{towards, halving}
 
 module _ (t : ℕ → List ℕ) (name : List ℕ) where

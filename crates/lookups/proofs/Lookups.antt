@@ -1,15 +1,15 @@
 -- Look-ups by name, by the tests that the code makes: a place among entries, a named child, the last definition that answers. Assumes nothing.
-use Prim.Native.Nat.{ℕ, zero, suc, _+_, _*_, _-_, _/_, _≤_, _<_}
-use mathlib.Core.Path.{_≡_, refl, sym, ap, _∙_, subst}
+use Prim.Native.Nat.{ℕ, suc, _+_, _*_, _-_, _/_, _≤_, _<_}
+use mathlib.Core.Path.{_≡_, refl, sym, ap, _∙_}
 use mathlib.Core.List.{List, []}
-use mathlib.Core.Bool.{Bool, true, false, cond, _&&_, _||_, not}
+use mathlib.Core.Bool.{Bool, true, false, cond, _||_, not}
 use mathlib.Core.Option.{Option, none, some}
 use native.Mathlib.Omega.{arith}
 use native.Mathlib.Numerals.{add-one}
 use lib.ListN.{length, getD, take, drop, length-drop}
 use lib.Seq.{take-all}
 use lib.IntN.{ℤ}
-use lib.Dec.{leb, ltb}
+use lib.Dec.{leb}
 use borrow.Author.Tests.{lt-ltb, le-ltb, le-leb, lt-leb, leb-true, not-true, not-false}
 use Rattle.laws.specs.Counted.{lastOf}
 use Rattle.words.specs.Words.{wordsOf}
@@ -22,8 +22,8 @@ use Rattle.image.specs.declared.NodeRecord.{NodeRecord}
 use Rattle.image.specs.declared.TextEntry.{TextEntry}
 use Rattle.image.specs.declared.Definition.{Definition}
 use Rattle.image.specs.declared.ImageView.{ImageView}
-use Rattle.image.specs.Sections.{Sections, definitionCount, itemCount, definitionWord, itemWord, f, textIn, insideContainer}
-use Rattle.image.specs.Entries.{textEntryOf, definitionOf, nodeIn, definitionIn}
+use Rattle.image.specs.Sections.{Sections, definitionCount, itemCount, definitionWord, itemWord, textIn}
+use Rattle.image.specs.Entries.{textEntryOf, definitionOf, definitionIn}
 use Rattle.image.specs.Header.{sectionBytes, sectionsIn, sectionsBy}
 use Rattle.image.proofs.Entries.{definition-entry}
 use Rattle.image.proofs.Views.{named-by, strings-by}
@@ -38,7 +38,7 @@ use Rattle.views.specs.declared.entries.RecordFound.{RecordFound}
 use Rattle.views.specs.declared.entries.RecordFound.the-variants as node
 use Rattle.views.specs.View.{signed}
 use Rattle.views.specs.Found.{containerFound}
-use Rattle.lookups.specs.Lookup.{placed, entryText, halving, searched, foundAt, namedBy, findNamed, itemIn, isSome, definitionName, placeIn, answers, listItemAt, listItemIn, lastItem, listItem, listParts}
+use Rattle.lookups.specs.Lookup.{placed, entryText, searched, namedBy, findNamed, itemIn, definitionName, placeIn, answers, listItemAt, listItemIn, lastItem, listItem, listParts}
 use Rattle.views.proofs.Reading.{triple-count, definition-count, no-container, a-container}
 use Rattle.lookups.proofs.Halving.{Searching, search-start, search-above, search-below, search-here, search-end, found-there}
 

@@ -1,39 +1,34 @@
 -- On sections whose rules passed, the look-ups by name have their plain reading. Assumes nothing.
-use Prim.Native.Nat.{ℕ, zero, suc, _+_, _*_, _/_, _≤_, _<_}
+use Prim.Native.Nat.{ℕ, zero, suc, _+_, _*_, _≤_, _<_}
 use mathlib.Core.Path.{_≡_, refl, sym, ap, _∙_, subst}
-use mathlib.Core.Logic.{inl, inr}
 use mathlib.Core.List.{List}
-use mathlib.Core.Bool.{Bool, true, false, cond, _&&_, _||_, not, true≢false}
+use mathlib.Core.Bool.{Bool, true, false, cond, _||_, not, true≢false}
 use mathlib.Core.Option.{Option, none, some}
 use native.Mathlib.Omega.{arith}
 use native.Mathlib.Nat.{add-zero, not-suc-le-zero}
 use native.Mathlib.Decide.{ℕ-discrete}
-use lib.ListN.{length, getD}
-use lib.Dec.{leb}
 use borrow.Author.Tests.{le-leb}
 use Rattle.laws.specs.Counted.{lastOf}
-use Rattle.texts.specs.Text.{before, same, rising}
+use Rattle.texts.specs.Text.{same, rising}
 use Rattle.texts.proofs.Text.{same-equal, equal-same}
-use Rattle.image.specs.Sections.{Sections, nodeCount, namedCount, definitionCount, itemCount, f, namedWord, definitionWord, itemWord, textAt, textIn, goodText, isContainer, inside, insideContainer}
+use Rattle.image.specs.Sections.{Sections, nodeCount, namedCount, definitionCount, itemCount, f, namedWord, definitionWord, itemWord, textIn, isContainer, inside, insideContainer}
 use Rattle.image.proofs.Parts.{good-part}
 use Rattle.image.proofs.Tests.{both-true}
 use Rattle.records.specs.Records.{namedOf}
 use Rattle.tree.specs.Tree.{namedAt, namedText, entriesRule, treeRule}
-use Rattle.tree.specs.Parts.{Ranges, Fit}
+use Rattle.tree.specs.Parts.{Fit}
 use Rattle.tree.proofs.Entries.{NamedRight, named-pass}
-use Rattle.tree.proofs.Reading.{Right, tree-right}
-use Rattle.index.specs.Definitions.{definitionText, firstItem, itemsOf, itemText, itemTextOf, definitionsRule}
+use Rattle.tree.proofs.Reading.{tree-right}
+use Rattle.index.specs.Definitions.{definitionText, firstItem, itemsOf, itemTextOf, definitionsRule}
 use Rattle.index.proofs.Rising.{rising-before}
 use Rattle.index.proofs.Definitions.{Definition, Definitions, definitions-passed}
-use Rattle.views.specs.declared.Found.{Found}
 use Rattle.views.specs.declared.Found.the-variants as found
 use Rattle.lookups.specs.declared.ListItem.{ListItem}
-use Rattle.lookups.specs.declared.ListItemAnswer.{ListItemAnswer}
 use Rattle.lookups.specs.declared.ListItemAnswer.the-variants as answer
 use Rattle.views.specs.View.{signed}
-use Rattle.lookups.specs.Lookup.{entryText, halving, searched, foundAt, namedBy, findNamed, itemIn, isSome, definitionName, placeIn, answers, listItemAt, listItemIn, lastItem}
+use Rattle.lookups.specs.Lookup.{entryText, searched, foundAt, namedBy, findNamed, itemIn, isSome, definitionName, placeIn, answers, listItemAt, listItemIn, lastItem}
 use Rattle.lookups.specs.Plain.{Bears, Borne, NamedRead, Holds, LastHolds, ItemsRead}
-use Rattle.lookups.proofs.Halving.{There, Rising, found-there, there-found}
+use Rattle.lookups.proofs.Halving.{Rising, found-there, there-found}
 
 -- ---- a search among entries whose texts are u 0, u 1, .. and rise
 

@@ -1,31 +1,28 @@
 -- What a query answers, by the entries that were found and the tests that were made. Assumes nothing.
-use Prim.Native.Nat.{ℕ, _+_, _*_, _/_, _≤_, _<_}
-use mathlib.Core.Path.{_≡_, refl, sym, ap, _∙_}
+use Prim.Native.Nat.{ℕ, _+_, _*_, _≤_, _<_}
+use mathlib.Core.Path.{_≡_, sym, ap, _∙_}
 use mathlib.Core.List.{List, []}
-use mathlib.Core.Bool.{Bool, true, false, cond, _&&_, not}
+use mathlib.Core.Bool.{Bool, true, false, not}
 use native.Mathlib.Omega.{arith}
 use native.Mathlib.Nat.{add-zero}
 use lib.ListN.{length}
 use lib.IntN.{ℤ}
-use lib.Dec.{leb, ltb}
+use lib.Dec.{leb}
 use borrow.Author.Tests.{eq-eqb, ne-eqb, lt-ltb, le-ltb, le-leb, lt-leb, leb-true, not-true, not-false}
 use Rattle.words.specs.Words.{wordAt, NONE}
 use Rattle.image.specs.declared.NodeRecord.{NodeRecord}
 use Rattle.image.specs.declared.TextEntry.{TextEntry}
 use Rattle.image.specs.declared.Definition.{Definition}
-use Rattle.image.specs.Sections.{Sections, namedCount, definitionCount, itemCount, f, namedWord, definitionWord, itemWord, inside, insideContainer, present, textIn}
-use Rattle.image.specs.Entries.{nodeIn, namedIn, itemIn, definitionIn}
-use Rattle.image.proofs.Tests.{and-false, both-true}
+use Rattle.image.specs.Sections.{Sections, f, namedWord, definitionWord, itemWord, inside, insideContainer, present, textIn}
+use Rattle.image.specs.Entries.{nodeIn, definitionIn}
+use Rattle.image.proofs.Tests.{both-true}
 use Rattle.image.specs.declared.ImageView.{ImageView}
 use Rattle.image.specs.Header.{sectionBytes, sectionsBy}
 use Rattle.image.proofs.Parts.{text-inside}
 use Rattle.image.proofs.Views.{payload-by, strings-by}
-use Rattle.index.specs.Definitions.{firstItem, itemsOf}
+use Rattle.index.specs.Definitions.{itemsOf}
 use Rattle.views.specs.declared.Span.{Span}
 use Rattle.views.specs.declared.OptionalText.{OptionalText}
-use Rattle.views.specs.declared.KindAnswer.{KindAnswer}
-use Rattle.views.specs.declared.KindAnswer.the-variants as kindly
-use Rattle.views.specs.declared.NodeKindView.{NodeKindView}
 use Rattle.views.specs.declared.NodeAnswer.{NodeAnswer}
 use Rattle.views.specs.declared.NodeAnswer.the-variants as view
 use Rattle.views.specs.declared.Found.{Found}

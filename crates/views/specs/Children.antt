@@ -1,11 +1,10 @@
 -- Ordered and named children, counts, texts. Assumes nothing.
-use Prim.Native.Nat.{ℕ, zero, suc, _+_}
+use Prim.Native.Nat.{ℕ, _+_}
 use mathlib.Core.List.{List, []}
-use mathlib.Core.Bool.{Bool, true, false, cond, _&&_, _||_, not}
-use mathlib.Core.Option.{Option, none, some}
+use mathlib.Core.Bool.{cond, _&&_}
 use lib.ListN.{length}
-use lib.Dec.{leb, ltb, eqb}
-use Rattle.image.specs.Sections.{Sections, nodeCount, childCount, namedCount, nodeWord, tagOf, f, childWord, namedWord, present, partAt, textAt, inside, isContainer, insideContainer, sections}
+use lib.Dec.{ltb}
+use Rattle.image.specs.Sections.{Sections, childCount, namedCount, f, namedWord, partAt, insideContainer, sections}
 use Rattle.tree.specs.Tree.{childAt}
 use Rattle.views.specs.declared.Span.{Span}
 use Rattle.views.specs.declared.Found.{Found}

@@ -1,11 +1,11 @@
 -- The entries of a list value, from its payload and the strings; definitions and items by number. Assumes nothing.
-use Prim.Native.Nat.{ℕ, zero, suc, _+_, _*_}
+use Prim.Native.Nat.{ℕ, _+_, _*_}
 use mathlib.Core.List.{List, []}
-use mathlib.Core.Bool.{Bool, true, false, cond, _&&_, _||_, not}
+use mathlib.Core.Bool.{cond, _&&_}
 use lib.ListN.{length}
 use lib.Dec.{leb, ltb}
 use Rattle.words.specs.Words.{wordAt, words}
-use Rattle.image.specs.Sections.{Sections, definitionCount, itemCount, definitionWord, itemWord, present, textIn, sections}
+use Rattle.image.specs.Sections.{Sections, definitionCount, itemCount, definitionWord, itemWord, textIn, sections}
 use Rattle.index.specs.Definitions.{firstItem, itemsOf}
 use Rattle.views.specs.declared.Span.{Span}
 use Rattle.views.specs.declared.EntryAnswer.{EntryAnswer}

@@ -1,7 +1,7 @@
 -- A node's view: its words turned into fields, as `node_view` does. Assumes nothing.
 use Prim.Native.Nat.{ℕ, _+_, _/_, _%_}
 use mathlib.Core.List.{List}
-use mathlib.Core.Bool.{Bool, true, false, cond, _&&_, _||_, not}
+use mathlib.Core.Bool.{Bool, cond, _&&_, not}
 use mathlib.Core.Option.{Option, none, some}
 use lib.ListN.{length}
 use lib.IntN.{ℤ}
@@ -26,11 +26,8 @@ use Rattle.views.specs.declared.OptionalWord.{OptionalWord}
 use Rattle.views.specs.declared.OptionalWord.the-variants as word
 use Rattle.views.specs.declared.PushPopType.{PushPopType}
 use Rattle.views.specs.declared.PushPopType.the-variants as push
-use Rattle.views.specs.declared.ValueView.{ValueView}
 use Rattle.views.specs.declared.ValueView.the-variants as value
-use Rattle.views.specs.declared.NodeKindView.{NodeKindView}
 use Rattle.views.specs.declared.NodeKindView.the-variants as kind
-use Rattle.views.specs.declared.NodeView.{NodeView}
 use Rattle.views.specs.declared.KindAnswer.{KindAnswer}
 use Rattle.views.specs.declared.KindAnswer.the-variants as kindly
 use Rattle.views.specs.declared.NodeAnswer.{NodeAnswer}

@@ -1,18 +1,16 @@
 -- Laws of walks, by the tests that the code makes: a step, the loop over components, where a walk starts. Assumes nothing.
-use Prim.Native.Nat.{ℕ, zero, suc, _+_, _*_, _-_, _≤_, _<_}
+use Prim.Native.Nat.{ℕ, suc, _+_, _-_, _≤_, _<_}
 use mathlib.Core.Path.{_≡_, refl, sym, ap, _∙_}
 use mathlib.Core.List.{List, [], _∷_}
-use mathlib.Core.Bool.{Bool, true, false, cond, _&&_, not, true≢false}
+use mathlib.Core.Bool.{Bool, true, false, not}
 use native.Mathlib.Omega.{arith}
 use native.Mathlib.Nat.{add-sub-cancel-left}
 use lib.ListN.{length, getD, take, drop, length-drop, drop-of-length-le}
 use lib.Seq.{drop-cons}
-use lib.Dec.{eqb, leb}
 use borrow.Author.Tests.{eq-eqb, ne-eqb, le-leb, lt-leb, not-true, not-false}
 use Rattle.words.specs.Words.{NONE}
 use Rattle.image.specs.declared.NodeRecord.{NodeRecord}
-use Rattle.image.specs.Sections.{Sections, parentOf, tagOf, partAt, inside, isContainer}
-use Rattle.image.specs.Entries.{nodeIn}
+use Rattle.image.specs.Sections.{Sections, parentOf, tagOf, partAt, inside}
 use Rattle.image.proofs.Tests.{and-false}
 use Rattle.views.specs.declared.Found.{Found}
 use Rattle.views.specs.declared.Found.the-variants.{Node, NotFound}
@@ -22,7 +20,7 @@ use Rattle.views.specs.Found.{nodeFound}
 use Rattle.views.specs.Children.{childQuery}
 use Rattle.lookups.specs.Lookup.{findNamed}
 use Rattle.views.proofs.Reading.{no-node, a-node}
-use Rattle.walks.specs.Walk.{Component, Parent, Index, Name, Broken, component, components, parentQuery, step, stepFrom, steps, resolve}
+use Rattle.walks.specs.Walk.{Component, Broken, component, components, parentQuery, step, steps, resolve}
 
 -- ---- a step up
 
