@@ -257,17 +257,54 @@ mod ours {
 #[cfg(feature = "ours")]
 mod ours {
     use super::{Duration, Input, black_box, timed};
+    #[cfg(feature = "queries")]
     use crate::library::components;
-    use crate::ours::draft_of;
-    use story_image::{Image, ffi, load_words};
+    #[cfg(feature = "write")]
+    use crate::ours::write::draft_of;
+    #[cfg(feature = "queries")]
+    use story_image::ffi;
+    use story_image::{Image, load_words};
 
     pub struct Measured<'a> {
         input: &'a Input,
+        #[cfg(feature = "queries")]
         image: Image<'a>,
         /// Origin, relative, components, names.
+        #[cfg(feature = "queries")]
         walks: Vec<(u32, bool, Vec<u32>, Vec<u8>)>,
     }
 
+    #[cfg(not(feature = "queries"))]
+    impl<'a> Measured<'a> {
+        pub fn new(input: &'a Input) -> Self {
+            Measured { input }
+        }
+        pub fn views(&self) -> Option<fn() -> Duration> {
+            None
+        }
+        pub fn walks(&self) -> Option<fn() -> Duration> {
+            None
+        }
+        pub fn items(&self) -> Option<fn() -> Duration> {
+            None
+        }
+    }
+
+    #[cfg(not(feature = "write"))]
+    impl Measured<'_> {
+        pub fn write(&self) -> Option<fn() -> Duration> {
+            None
+        }
+    }
+
+    impl Measured<'_> {
+        pub fn load(&self) -> Option<impl FnMut() -> Duration> {
+            let mut work = vec![0; load_words(&self.input.image)];
+            Some(move || timed(|| Image::load(black_box(&self.input.image), &mut work).is_ok()))
+        }
+    }
+
+    #[cfg(feature = "queries")]
     impl<'a> Measured<'a> {
         pub fn new(input: &'a Input) -> Self {
             let mut work = vec![0; load_words(&input.image)];
@@ -277,11 +314,6 @@ mod ours {
                 (*origin, *relative, words, names)
             });
             Measured { input, image, walks: walks.collect() }
-        }
-
-        pub fn load(&self) -> Option<impl FnMut() -> Duration> {
-            let mut work = vec![0; load_words(&self.input.image)];
-            Some(move || timed(|| Image::load(black_box(&self.input.image), &mut work).is_ok()))
         }
 
         pub fn views(&self) -> Option<impl FnMut() -> Duration> {
@@ -318,7 +350,10 @@ mod ours {
                 timed(|| self.input.items.iter().filter_map(|name| self.image.list_item(name.as_bytes())).count())
             })
         }
+    }
 
+    #[cfg(feature = "write")]
+    impl Measured<'_> {
         pub fn write(&self) -> Option<impl FnMut() -> Duration> {
             let draft = draft_of(&self.input.draft);
             let mut work = vec![0; draft.work_words()];

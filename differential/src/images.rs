@@ -1,6 +1,7 @@
 //! One image: the load on both sides, then every query.
 
 use crate::library::{Library, View, load_words};
+use crate::parts::word_at;
 use crate::queries;
 use crate::random::Random;
 use crate::rows::row_of;
@@ -25,11 +26,16 @@ pub fn image(name: &'static str, bytes: &[u8], ours: Option<&dyn Library>, rando
     made[1] += u64::from(row == 0);
     let view = ours.and_then(|ours| load(name, bytes, row, ours, random, tally));
     if let Ok(image) = theirs {
-        let asked = ours.zip(view.as_ref());
+        if let Some(view) = &view {
+            let right = view[0] == image.ink_version() as u32
+                && view[1..].iter().enumerate().all(|(i, word)| *word == word_at(bytes, 20 + 4 * i));
+            tally.check(right, || format!("{name}: the view's words"), bytes);
+        }
+        let asked = ours.and_then(Library::queries).zip(view.as_ref());
         queries::all(&image, bytes, asked, random, tally);
-        if let Some((ours, view)) = asked.filter(|(ours, _)| ours.answers_all()) {
-            strange::bytes(bytes, view, ours, random, tally);
-            strange::asked(bytes, view, ours, random, tally);
+        if let Some((asked, view)) = asked.filter(|_| ours.is_some_and(Library::answers_all)) {
+            strange::bytes(bytes, view, asked, random, tally);
+            strange::asked(bytes, view, asked, random, tally);
         }
     }
 }

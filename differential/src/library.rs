@@ -15,10 +15,20 @@ pub struct Entry {
     pub value: i32,
 }
 
-/// Absence of an answer is number 18.
+/// A side of the comparison: the load, and what else it has.
 pub trait Library {
     /// The number, and the view if it is 0.
     fn load(&self, bytes: &[u8], work: &mut [u32]) -> (u32, View);
+    fn queries(&self) -> Option<&dyn Queries>;
+    fn writer(&self) -> Option<&dyn Writer>;
+    /// Whether it answers where the published Rust does not: unaccepted bytes, broken drafts.
+    fn answers_all(&self) -> bool {
+        true
+    }
+}
+
+/// Absence of an answer is number 18.
+pub trait Queries {
     fn node_view(&self, bytes: &[u8], view: &View, node: u32) -> Option<NodeView>;
     fn child_count(&self, bytes: &[u8], view: &View, node: u32) -> Option<u32>;
     fn child_at(&self, bytes: &[u8], view: &View, node: u32, index: u32) -> Option<u32>;
@@ -46,12 +56,11 @@ pub trait Library {
         components: &[u32],
         names: &[u8],
     ) -> Option<u32>;
+}
+
+pub trait Writer {
     /// The number, and the length written if it is 0.
     fn write(&self, ink: u32, draft: &Draft, work: &mut [u32], output: &mut [u8]) -> (u32, usize);
-    /// Whether it answers where the published Rust does not: unaccepted bytes, broken drafts.
-    fn answers_all(&self) -> bool {
-        true
-    }
 }
 
 /// Steps as components and names.

@@ -1,12 +1,13 @@
 //! Compares the verified story-image library with the published Rust on generated images and drafts.
 //!
 //! `run [CASES [SEED]]` compares; `run self-check` plants mistakes and sees that they are noticed; `run replay FILE`
-//! records a sample of the published answers; `run bench [SECONDS]` measures both
-//! sides.
+//! records a sample of the published answers; `run samples FOLDER` writes the images of samples/; `run bench [SECONDS]`
+//! measures both sides.
 
 mod bench;
 mod damage;
 mod drafts;
+mod guide;
 mod images;
 mod library;
 #[cfg(feature = "ours")]
@@ -18,6 +19,7 @@ mod random;
 mod record;
 mod rows;
 mod run;
+mod samples;
 mod small;
 mod stories;
 mod strange;
@@ -43,6 +45,7 @@ fn main() {
     let failed = match arguments.first().map(String::as_str) {
         Some("self-check") => run::self_check(number(1, 2000)),
         Some("bench") => bench::run(number(1, 4)),
+        Some("samples") => samples::run(arguments.get(1).map_or("samples", String::as_str)),
         Some("replay") => record::run(arguments.get(1).map_or("replay.data", String::as_str)),
         _ => run::compare(number(0, 100_000), number(1, 1), OURS),
     };

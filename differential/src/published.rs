@@ -1,6 +1,6 @@
 //! The published Rust in the place of our library, with a mistake planted in it: the comparison must notice.
 
-use crate::library::{Entry, Library, Place, View, load_words, write_words};
+use crate::library::{Entry, Library, Place, Queries, View, Writer, load_words, write_words};
 use crate::parts::word_at;
 use crate::rows::{row_of, writer_row};
 use reference::{Draft, Image, Kind, ListEntries, Named, NodeView, Step, Written};
@@ -96,6 +96,16 @@ impl Library for Published {
         (if self.has(Mistake::Number) && row == 14 { 9 } else { row }, view)
     }
 
+    fn queries(&self) -> Option<&dyn Queries> {
+        Some(self)
+    }
+
+    fn writer(&self) -> Option<&dyn Writer> {
+        Some(self)
+    }
+}
+
+impl Queries for Published {
     fn node_view(&self, bytes: &[u8], _: &View, node: u32) -> Option<NodeView> {
         let mut view = image(bytes)?.node_view(node)?;
         if self.has(Mistake::ViewParent) && view.parent == Some(0) {
@@ -182,7 +192,9 @@ impl Library for Published {
     fn resolve_components(&self, _: &[u8], _: &View, _: u32, _: bool, _: &[u32], _: &[u8]) -> Option<u32> {
         unreachable!("the published Rust takes no such words")
     }
+}
 
+impl Writer for Published {
     fn write(&self, ink: u32, draft: &Draft, work: &mut [u32], output: &mut [u8]) -> (u32, usize) {
         if !(18..=21).contains(&ink) {
             return (3, 0);

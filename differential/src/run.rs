@@ -27,8 +27,13 @@ pub fn compare(cases: u64, seed: u64, ours: Option<&dyn Library>) -> bool {
     } else {
         println!("too few cases to ask that every row and reason came up");
     }
-    if ours.is_none() {
-        println!("our library is not linked: these are answers of the published Rust alone");
+    match ours {
+        None => println!("our library is not linked: these are answers of the published Rust alone"),
+        Some(ours) => {
+            let compared = |has: bool| if has { "compared" } else { "not compared, the published Rust alone" };
+            let (queries, written) = (compared(ours.queries().is_some()), compared(ours.writer().is_some()));
+            println!("loads: compared; queries: {queries}; written images: {written}");
+        }
     }
     println!("{} passed, {} failed", tally.passed, tally.failed);
     tally.failed > 0

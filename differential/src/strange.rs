@@ -1,7 +1,7 @@
 //! What the published Rust cannot be asked: queries on bytes that were not accepted or under another view, which must
 //! end with parts inside the bytes; names that are no text; walks along wrong words.
 
-use crate::library::{Library, View};
+use crate::library::{Queries, View};
 use crate::parts::NONE;
 use crate::random::Random;
 use crate::stories::edge;
@@ -9,7 +9,7 @@ use crate::tally::Tally;
 use reference::{Kind, NodeView, Step};
 
 /// The view of an accepted image, over damaged or cut bytes, or itself damaged.
-pub fn bytes(bytes: &[u8], view: &View, ours: &dyn Library, random: &mut Random, tally: &mut Tally) {
+pub fn bytes(bytes: &[u8], view: &View, ours: &dyn Queries, random: &mut Random, tally: &mut Tally) {
     let mut view = *view;
     let mut bytes = bytes.to_vec();
     match random.below(3) {
@@ -30,7 +30,7 @@ pub fn bytes(bytes: &[u8], view: &View, ours: &dyn Library, random: &mut Random,
 }
 
 /// Asks everything about a node; counts parts that lie outside.
-fn ask(bytes: &[u8], view: &View, node: u32, ours: &dyn Library, random: &mut Random) -> usize {
+fn ask(bytes: &[u8], view: &View, node: u32, ours: &dyn Queries, random: &mut Random) -> usize {
     let mut places = vec![];
     let kind = ours.node_view(bytes, view, node).map(|view| view.kind);
     match kind {
@@ -66,7 +66,7 @@ fn ask(bytes: &[u8], view: &View, node: u32, ours: &dyn Library, random: &mut Ra
 
 /// On an accepted image: names that are no text name nothing, texts outside are not there, and a walk finds nothing
 /// where its words go wrong.
-pub fn asked(bytes: &[u8], view: &View, ours: &dyn Library, random: &mut Random, tally: &mut Tally) {
+pub fn asked(bytes: &[u8], view: &View, ours: &dyn Queries, random: &mut Random, tally: &mut Tally) {
     let node = random.below(view[2] as usize) as u32;
     let no_text = *random.pick(&[&b"\xff"[..], b"a\x80", b"\xc0\xaf", b"\xed\xa0\x80", b".\xff"]);
     let nothing =

@@ -2,7 +2,7 @@
 
 use crate::drafts::{Case, Known};
 use crate::images::MARK;
-use crate::library::{Library, write_words};
+use crate::library::{Library, Writer, write_words};
 use crate::random::Random;
 use crate::rows::{breaks_draft, writer_row};
 use crate::tally::Tally;
@@ -25,14 +25,16 @@ pub fn draft(case: &Case, ours: Option<&dyn Library>, random: &mut Random, tally
     if broken {
         *tally.written.entry("(of all: broken by the loader's reason)".to_owned()).or_default() += 1;
     }
-    let Some(ours) = ours else { return };
+    let Some((writer, all)) = ours.and_then(|ours| ours.writer().map(|writer| (writer, ours.answers_all()))) else {
+        return;
+    };
     let numbered = loads || matches!(theirs, Written::Refused(_));
-    if !ours.answers_all() && (broken || !numbered) {
+    if !all && (broken || !numbered) {
         return;
     }
     let number = match &theirs {
-        Written::Image(image) if loads => written(case, image, ours, random, tally),
-        _ => refused(case, ours, tally),
+        Written::Image(image) if loads => written(case, image, writer, random, tally),
+        _ => refused(case, writer, tally),
     };
     *tally.numbers.entry(number).or_default() += 1;
     let right = !broken || number == 19;
@@ -66,7 +68,7 @@ fn broken_by_loader(case: &Case) -> bool {
 }
 
 /// A draft that the Rust writes: bytes, output's end, work words; then one byte and one word too few.
-fn written(case: &Case, image: &[u8], ours: &dyn Library, random: &mut Random, tally: &mut Tally) -> u32 {
+fn written(case: &Case, image: &[u8], ours: &dyn Writer, random: &mut Random, tally: &mut Tally) -> u32 {
     let (words, past) = (write_words(&case.draft), random.below(3));
     let mut work = vec![MARK; words + past];
     let mut output = vec![0xa5; image.len() + random.below(20)];
@@ -96,7 +98,7 @@ fn written(case: &Case, image: &[u8], ours: &dyn Library, random: &mut Random, t
     0
 }
 
-fn refused(case: &Case, ours: &dyn Library, tally: &mut Tally) -> u32 {
+fn refused(case: &Case, ours: &dyn Writer, tally: &mut Tally) -> u32 {
     let mut work = vec![MARK; write_words(&case.draft)];
     let mut output = vec![0xa5; room(&case.draft)];
     let (number, _) = ours.write(case.ink, &case.draft, &mut work, &mut output);

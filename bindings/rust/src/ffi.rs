@@ -23,6 +23,40 @@ pub struct View {
     pub strings: Section,
 }
 
+impl View {
+    /// As many words the library writes: the ink version, then offset and count of each section.
+    pub const WORDS: usize = 17;
+
+    fn sections(&self) -> [Section; 8] {
+        [self.nodes, self.children, self.named, self.definitions, self.items, self.index, self.payload, self.strings]
+    }
+
+    pub fn words(&self) -> [u32; View::WORDS] {
+        let mut words = [self.ink_version; View::WORDS];
+        for (pair, section) in words[1..].chunks_exact_mut(2).zip(self.sections()) {
+            pair.copy_from_slice(&[section.offset, section.count]);
+        }
+        words
+    }
+}
+
+impl From<[u32; View::WORDS]> for View {
+    fn from(words: [u32; View::WORDS]) -> Self {
+        let section = |k: usize| Section { offset: words[1 + 2 * k], count: words[2 + 2 * k] };
+        View {
+            ink_version: words[0],
+            nodes: section(0),
+            children: section(1),
+            named: section(2),
+            definitions: section(3),
+            items: section(4),
+            index: section(5),
+            payload: section(6),
+            strings: section(7),
+        }
+    }
+}
+
 /// A node's view. `kind` is the tag; what a kind lacks is NONE in texts and target, 0 in value and flags.
 #[repr(C)]
 #[derive(Clone, Copy, Debug, Default, PartialEq)]
@@ -109,7 +143,8 @@ unsafe extern "C" {
         length: usize,
         work: *mut u32,
         work_length: usize,
-        view: *mut View,
+        view: *mut u32,
+        view_length: usize,
     ) -> u32;
 
     pub fn story_image_node_view(

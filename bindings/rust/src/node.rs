@@ -1,6 +1,7 @@
 //! A node's view as an enum.
 
-use crate::{NONE, Text, ffi, optional_text};
+use crate::queries::optional_text;
+use crate::{NONE, Text, ffi};
 
 #[derive(Clone, Copy, Debug, PartialEq)]
 pub struct NodeView {
