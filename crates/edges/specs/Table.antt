@@ -12,10 +12,10 @@ use Rattle.image.specs.Encoding.{imageOf, encodings}
 use Rattle.index.specs.Paths.{fits}
 use Rattle.load.specs.Load.{loadRule, loads}
 use Rattle.views.specs.View.{optionalText, views}
-use Rattle.views.specs.Lookup.{listItem, lookups}
+use Rattle.lookups.specs.Lookup.{listItem, lookups}
 use Rattle.walks.specs.Walk.{resolve, walks}
 use Rattle.views.specs.declared.Found.the-variants.{Node}
-use Rattle.views.specs.declared.ListItemAnswer.the-variants.{Item}
+use Rattle.lookups.specs.declared.ListItemAnswer.the-variants.{Item}
 use Rattle.encoder.specs.Encode.{encodeRule, imageFor, encodes}
 use Rattle.views.specs.declared.OptionalText.the-variants.{Present, Absent}
 use Rattle.edges.specs.Examples.{smallestImage, headerAlone, rootNamed, withChild, withDivert, withPlace3, withA, withLists, examples}

@@ -1,6 +1,6 @@
 -- What the queries answer on an accepted image. Assumes nothing.
 use Prim.Native.Nat.{ℕ, zero, suc, _+_, _≤_, _<_}
-use mathlib.Core.Path.{_≡_, refl, sym, ap, _∙_}
+use mathlib.Core.Path.{_≡_, refl, sym, ap, _∙_, subst}
 use mathlib.Core.Logic.{_≢_}
 use mathlib.Core.Bool.{Bool, true, false, cond}
 use native.Mathlib.Omega.{arith}
@@ -8,7 +8,10 @@ use native.Mathlib.Decide.{ℕ-discrete}
 use borrow.Author.Tests.{eq-eqb, ne-eqb, lt-ltb}
 use Rattle.words.specs.Words.{NONE}
 use Rattle.image.specs.Sections.{Sections, nodeCount, childCount, namedCount, parentOf, placeOf, tagOf, f, inside, isContainer, insideContainer}
-use Rattle.image.specs.Header.{sectionsOf}
+use Rattle.image.specs.declared.ImageView.{ImageView}
+use Rattle.image.specs.Header.{viewOf, sectionsBy}
+use Rattle.load.specs.declared.Loaded.the-variants.{View}
+use Rattle.load.specs.Load.{loadRule, loadedBy, loadedOf}
 use Rattle.image.proofs.Tests.{both-true}
 use Rattle.records.specs.Fields.{kindOf}
 use Rattle.tree.specs.Tree.{childAt, namedAt}
@@ -17,7 +20,7 @@ use Rattle.views.specs.declared.OptionalWord.the-variants as word
 use Rattle.views.specs.declared.NodeView.{NodeView}
 use Rattle.views.specs.declared.Count.the-variants as count
 use Rattle.views.specs.View.{span, optionalWord, nodeView}
-use Rattle.views.specs.Children.{childCountOf, namedCountOf, childQuery, namedQuery}
+use Rattle.views.specs.Children.{childCountOf, namedCountOf, childQuery, namedEntry, namedQuery}
 use Rattle.promises.specs.Readers.{stepUp, ascend, ChildRead, NamedRead, Reads, AcceptedReads}
 use Rattle.promises.proofs.Fields.{right-node}
 use Rattle.promises.proofs.Views.{Seen, seen, shown-right}
@@ -99,7 +102,7 @@ module _ (s : Sections) (g : Kept s) where
         }
 
     named-read : isContainer s i ≡ true → (j : ℕ) → j < f s i 6 → NamedRead s i j
-    unfolding namedQuery
+    unfolding namedQuery namedEntry
     named-read c j k =
         let q = named-right s g i h c j k in
         let range : f s i 5 + f s i 6 ≤ namedCount s = named-range s g i h c .0 in
@@ -145,5 +148,16 @@ module _ (s : Sections) (g : Kept s) where
               named-read (both-true (inside s i) (isContainer s i) (q .0) .1) j (omega (arith, q .1));
         }
 
+-- ---- after a load
+
+-- a view is answered where nothing was refused, and is the header's
+answered : (n : ℕ) (w v : ImageView) → loadedBy n w ≡ View v → (n ≡ 0) × (w ≡ v)
+answered zero w v e = (refl, cc)
+answered (suc n) w v e = absurd (let z : _≡_ {A = ℕ} 0 1 = cc in omega arith)
+
 pub accepted-reads : AcceptedReads
-accepted-reads bs work b p = reads (sectionsOf bs) (load-kept bs work b p)
+unfolding loadedOf
+accepted-reads bs work v b e =
+    let a = answered (loadRule bs work) (viewOf bs) v e in
+    subst (λ (x : ImageView). (i : ℕ) → i < nodeCount (sectionsBy bs x) → Reads (sectionsBy bs x) i) (a .1)
+    (reads (sectionsBy bs (viewOf bs)) (load-kept bs work b (a .0)))

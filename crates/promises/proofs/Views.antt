@@ -11,6 +11,7 @@ use Rattle.words.specs.Words.{NONE}
 use Rattle.texts.specs.Text.{holds}
 use Rattle.names.specs.declared.control_command.CommandType.{CommandType}
 use Rattle.names.specs.declared.native_function_call.Op.{Op}
+use Rattle.names.specs.Names.{commands, operators}
 use Rattle.names.specs.Spelling.{namedIn}
 use Rattle.names.specs.ControlCommand.{commandNamed}
 use Rattle.names.specs.NativeFunctionCall.{operatorNamed}
@@ -18,7 +19,9 @@ use Rattle.names.proofs.Distinct.{isSome, number-held}
 use Rattle.names.proofs.Numbered.{Numbered, unnamed-number}
 use Rattle.names.proofs.Commands.{commandsNumbered}
 use Rattle.names.proofs.Operators.{operatorsNumbered}
-use Rattle.image.specs.Sections.{Sections, nodeWord, parentOf, placeOf, tagOf, f, textAt, inside}
+use Rattle.image.specs.Sections.{Sections, parentOf, placeOf, tagOf, f, textAt, textIn}
+use Rattle.image.specs.Entries.{nodeIn}
+use Rattle.image.proofs.Parts.{text-inside}
 use Rattle.records.specs.Fields.{Kind, Container, Choice, Command, Divert, Glue, Operator, Tag, BoolValue, IntValue, FloatValue, StringValue, ListValue, TargetValue, PointerValue, Assignment, Reference, Void, Unknown, Field, kindOf, fields}
 use Rattle.views.specs.declared.Span.{Span}
 use Rattle.views.specs.declared.NodeKindView.{NodeKindView}
@@ -60,24 +63,29 @@ module _ (s : Sections) (i : ℕ) where
   Right k = (x : Field) → List·Memᴰ x (fields k) → FieldRight s i x
 
   with-text : (g : Span → KindAnswer) → TextRight s (f s i 0) (f s i 1) → Given (g (span (f s i 0) (f s i 1)))
-      → Given (withText (s .strings) (length (s .payload)) (nodeWord s i) g)
+      → Given (withText (s .strings) (nodeIn s i) g)
   unfolding withText
   with-text g t h = rw (shown-right s (f s i 0) (f s i 1) t) h
 
-  kind-given : (k : Kind) → Right k → Given (kindView (s .strings) (length (s .payload)) (nodeWord s i) k)
+  -- the text that is read is the one that was tested
+  text-held : (names : List (List ℕ)) → TextRight s (f s i 0) (f s i 1) → holds names (textAt s (f s i 0) (f s i 1)) ≡ true
+      → holds names (textIn (s .strings) (f s i 0) (f s i 1)) ≡ true
+  text-held names t h = rw (text-inside (s .strings) (f s i 0) (f s i 1) (t .inside)) h
+
+  kind-given : (k : Kind) → Right k → Given (kindView (s .strings) (length (s .payload)) (nodeIn s i) k)
   unfolding fields kindView
   kind-given Container r = tt
   kind-given Choice r = tt
   kind-given Command r =
       let q = r _ (List·Memᴰ·head refl) in
-      with-text _ (q .0) (given-command (commandNamed (textAt s (f s i 0) (f s i 1))) (held commandsNumbered _ (q .1)))
+      with-text _ (q .0) (given-command (commandNamed (textIn (s .strings) (f s i 0) (f s i 1))) (held commandsNumbered _ (text-held commands (q .0) (q .1))))
   kind-given Divert r =
       let few : f s i 6 ≤ 23 = r _ (List·Memᴰ·tail (List·Memᴰ·tail (List·Memᴰ·tail (List·Memᴰ·tail (List·Memᴰ·head refl))))) in
       rw (le-leb (f s i 6 / 8) 2 (omega arith)) tt
   kind-given Glue r = tt
   kind-given Operator r =
       let q = r _ (List·Memᴰ·head refl) in
-      with-text _ (q .0) (given-operator (operatorNamed (textAt s (f s i 0) (f s i 1))) (held operatorsNumbered _ (q .1)))
+      with-text _ (q .0) (given-operator (operatorNamed (textIn (s .strings) (f s i 0) (f s i 1))) (held operatorsNumbered _ (text-held operators (q .0) (q .1))))
   kind-given Tag r = with-text _ (r _ (List·Memᴰ·head refl)) tt
   kind-given BoolValue r = tt
   kind-given IntValue r = tt
@@ -97,14 +105,14 @@ module _ (s : Sections) (i : ℕ) where
 
   pub record Seen : Type 0 where
     pub kind : NodeKindView
-    pub kind-is : kindView (s .strings) (length (s .payload)) (nodeWord s i) (kindOf (tagOf s i)) ≡ kindly.Kind kind
+    pub kind-is : kindView (s .strings) (length (s .payload)) (nodeIn s i) (kindOf (tagOf s i)) ≡ kindly.Kind kind
     pub view-is : nodeView s i ≡ node.View (record { parent = optionalWord (parentOf s i); «child_index» = optionalWord (placeOf s i); kind = kind })
 
   pub seen : NodeRight s i → Right (kindOf (tagOf s i)) → Seen
   unfolding nodeView recordView
-  seen n r = by (kindView (s .strings) (length (s .payload)) (nodeWord s i) (kindOf (tagOf s i))) refl (kind-given (kindOf (tagOf s i)) r)
+  seen n r = by (kindView (s .strings) (length (s .payload)) (nodeIn s i) (kindOf (tagOf s i))) refl (kind-given (kindOf (tagOf s i)) r)
     where
-      by : (k : KindAnswer) → kindView (s .strings) (length (s .payload)) (nodeWord s i) (kindOf (tagOf s i)) ≡ k → Given k → Seen
+      by : (k : KindAnswer) → kindView (s .strings) (length (s .payload)) (nodeIn s i) (kindOf (tagOf s i)) ≡ k → Given k → Seen
       by (kindly.Kind k) e g = record { kind = k; kind-is = e; view-is = rw (right-node s i n, e) }
       by kindly.NotFound e g = absurd g
 

@@ -1,6 +1,6 @@
 -- Texts and list values of a view whose node keeps the rules are handed back whole. Assumes nothing.
 use Prim.Native.Nat.{ℕ, _+_, _*_, _/_, _≤_, _<_}
-use mathlib.Core.Path.{_≡_, refl, sym, subst}
+use mathlib.Core.Path.{_≡_, refl, sym, ap, _∙_, subst}
 use mathlib.Core.Logic.{⊎-elim}
 use mathlib.Core.List.{List, [], _∷_, _++_, List·Memᴰ, List·Memᴰ·head, List·Memᴰ·not-nil, List·Memᴰ·eq-of-singleton, List·Memᴰ·append-cases}
 use mathlib.Core.Bool.{Bool, true, false, cond}
@@ -15,9 +15,10 @@ use Rattle.names.specs.declared.control_command.CommandType.{CommandType}
 use Rattle.names.specs.declared.native_function_call.Op.{Op}
 use Rattle.names.specs.ControlCommand.{commandNamed}
 use Rattle.names.specs.NativeFunctionCall.{operatorNamed}
-use Rattle.image.specs.Sections.{Sections, nodeWord, f, partAt, textAt, present}
+use Rattle.image.specs.Sections.{Sections, f, partAt, textIn, present}
+use Rattle.image.specs.Entries.{nodeIn}
 use Rattle.image.proofs.Tests.{both-true}
-use Rattle.image.proofs.Parts.{part-length}
+use Rattle.image.proofs.Parts.{part-length, text-inside}
 use Rattle.records.specs.Fields.{Kind, Container, Choice, Command, Divert, Glue, Operator, Tag, BoolValue, IntValue, FloatValue, StringValue, ListValue, TargetValue, PointerValue, Assignment, Reference, Void, Unknown, fields}
 use Rattle.records.specs.Records.{listWord, listItems, listOrigins, listItemWord, listOriginWord}
 use Rattle.views.specs.declared.Span.{Span}
@@ -26,7 +27,7 @@ use Rattle.views.specs.declared.KindAnswer.{KindAnswer}
 use Rattle.views.specs.declared.KindAnswer.the-variants as kindly
 use Rattle.views.specs.View.{signed, span, shown, optionalText, ofCommand, ofOperator, withText, kindView}
 use Rattle.views.specs.Children.{textQuery, textPart}
-use Rattle.views.specs.Lists.{itemEntryWord, originEntryWord, listEntry, listOrigin}
+use Rattle.views.specs.Lists.{listPart, itemEntryWord, originEntryWord, listEntry, listOrigin}
 use Rattle.promises.specs.Rules.{TextRight, PayloadRight}
 use Rattle.promises.specs.Readers.{Whole, textsIn, viewTexts, ItemRead, OriginRead, ListRead, viewLists}
 use Rattle.promises.proofs.Views.{Right, shown-right}
@@ -81,14 +82,14 @@ operator-whole s (some c) = none-whole s
 
 module _ (s : Sections) (i : ℕ) where
   abbrev kindAt : Kind → KindAnswer
-  kindAt k = kindView (s .strings) (length (s .payload)) (nodeWord s i) k
+  kindAt k = kindView (s .strings) (length (s .payload)) (nodeIn s i) k
 
   with-whole : (g : Span → KindAnswer) → (shown (length (s .strings)) (f s i 0) (f s i 1) ≡ true → KindWhole s (g (span (f s i 0) (f s i 1))))
-      → KindWhole s (withText (s .strings) (length (s .payload)) (nodeWord s i) g)
+      → KindWhole s (withText (s .strings) (nodeIn s i) g)
   unfolding withText
   with-whole g h = by (shown (length (s .strings)) (f s i 0) (f s i 1)) refl
     where
-      by : (b : Bool) → shown (length (s .strings)) (f s i 0) (f s i 1) ≡ b → KindWhole s (withText (s .strings) (length (s .payload)) (nodeWord s i) g)
+      by : (b : Bool) → shown (length (s .strings)) (f s i 0) (f s i 1) ≡ b → KindWhole s (withText (s .strings) (nodeIn s i) g)
       by true e = rw e (h e)
       by false e = rw e tt
 
@@ -104,10 +105,10 @@ module _ (s : Sections) (i : ℕ) where
   unfolding kindView
   kind-whole Container = optional-whole s (f s i 0) (f s i 1)
   kind-whole Choice = none-whole s
-  kind-whole Command = with-whole _ (λ e. command-whole s (commandNamed (textAt s (f s i 0) (f s i 1))))
+  kind-whole Command = with-whole _ (λ e. command-whole s (commandNamed (textIn (s .strings) (f s i 0) (f s i 1))))
   kind-whole Divert = tested (leb (f s i 6 / 8) 2) _ (both-whole s _ _ (optional-whole s (f s i 0) (f s i 1)) (optional-whole s (f s i 3) (f s i 4)))
   kind-whole Glue = none-whole s
-  kind-whole Operator = with-whole _ (λ e. operator-whole s (operatorNamed (textAt s (f s i 0) (f s i 1))))
+  kind-whole Operator = with-whole _ (λ e. operator-whole s (operatorNamed (textIn (s .strings) (f s i 0) (f s i 1))))
   kind-whole Tag = with-whole _ first-whole
   kind-whole BoolValue = none-whole s
   kind-whole IntValue = none-whole s
@@ -127,16 +128,20 @@ module _ (s : Sections) (i : ℕ) where
 -- ---- a list's payload
 
 module _ (s : Sections) (at len : ℕ) (r : PayloadRight s at len) where
-  -- a word of the part that is handed back
-  part-word : (k : ℕ) → k + 4 ≤ len → wordAt (partAt (s .payload) at len) k ≡ listWord s at k
-  unfolding partAt listWord
-  part-word k h = word-part at len (s .payload) k h
-
-  part-long : length (partAt (s .payload) at len) ≡ len
-  part-long = part-length (s .payload) at len (r .inside)
-
+  -- the part that is handed back
   abbrev part : List ℕ
-  part = partAt (s .payload) at len
+  part = listPart s (span at len)
+
+  part-is : part ≡ partAt (s .payload) at len
+  unfolding listPart
+  part-is = text-inside (s .payload) at len (r .inside)
+
+  part-word : (k : ℕ) → k + 4 ≤ len → wordAt part k ≡ listWord s at k
+  unfolding partAt listWord
+  part-word k h = ap (λ (bs : List ℕ). wordAt bs k) part-is ∙ word-part at len (s .payload) k h
+
+  part-long : length part ≡ len
+  part-long = ap length part-is ∙ part-length (s .payload) at len (r .inside)
 
   items-are : wordAt part 0 ≡ listItems s at
   items-are = part-word 0 (omega (arith, r .long))
@@ -209,7 +214,7 @@ operator-read s none = tt
 operator-read s (some c) = none-read s
 
 module _ (s : Sections) (i : ℕ) where
-  with-read : (g : Span → KindAnswer) → KindRead s (g (span (f s i 0) (f s i 1))) → KindRead s (withText (s .strings) (length (s .payload)) (nodeWord s i) g)
+  with-read : (g : Span → KindAnswer) → KindRead s (g (span (f s i 0) (f s i 1))) → KindRead s (withText (s .strings) (nodeIn s i) g)
   unfolding withText
   with-read g h = by (shown (length (s .strings)) (f s i 0) (f s i 1))
     where
@@ -228,10 +233,10 @@ module _ (s : Sections) (i : ℕ) where
       (λ p m. subst (λ (x : Span). ListRead s x) (sym (List·Memᴰ·eq-of-singleton m)) (list-read s (f s i 0) (f s i 1) (r _ (List·Memᴰ·head refl) .1)))
   kind-read Container r = none-read s
   kind-read Choice r = none-read s
-  kind-read Command r = with-read _ (command-read s (commandNamed (textAt s (f s i 0) (f s i 1))))
+  kind-read Command r = with-read _ (command-read s (commandNamed (textIn (s .strings) (f s i 0) (f s i 1))))
   kind-read Divert r = tested-read (leb (f s i 6 / 8) 2) _ (none-read s)
   kind-read Glue r = none-read s
-  kind-read Operator r = with-read _ (operator-read s (operatorNamed (textAt s (f s i 0) (f s i 1))))
+  kind-read Operator r = with-read _ (operator-read s (operatorNamed (textIn (s .strings) (f s i 0) (f s i 1))))
   kind-read Tag r = with-read _ (none-read s)
   kind-read BoolValue r = none-read s
   kind-read IntValue r = none-read s

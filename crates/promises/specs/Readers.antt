@@ -6,9 +6,11 @@ use mathlib.Core.Bool.{true}
 use lib.ListN.{length}
 use Rattle.laws.specs.Lists.{Below}
 use Rattle.words.specs.Words.{wordAt}
-use Rattle.image.specs.Sections.{Sections, nodeCount, f, partAt, isContainer}
-use Rattle.image.specs.Header.{sectionsOf}
-use Rattle.load.specs.Load.{loadRule}
+use Rattle.image.specs.Sections.{Sections, nodeCount, f, isContainer}
+use Rattle.image.specs.declared.ImageView.{ImageView}
+use Rattle.image.specs.Header.{sectionsBy}
+use Rattle.load.specs.declared.Loaded.the-variants.{View}
+use Rattle.load.specs.Load.{loadedOf}
 use Rattle.views.specs.declared.Span.{Span}
 use Rattle.views.specs.declared.OptionalText.{OptionalText}
 use Rattle.views.specs.declared.OptionalText.the-variants as optional
@@ -30,7 +32,7 @@ use Rattle.views.specs.declared.ListEntry.{ListEntry}
 use Rattle.views.specs.declared.EntryAnswer.the-variants as entry
 use Rattle.views.specs.View.{nodeView}
 use Rattle.views.specs.Children.{childCountOf, namedCountOf, childQuery, namedQuery, textQuery, textPart}
-use Rattle.views.specs.Lists.{listEntry, listOrigin}
+use Rattle.views.specs.Lists.{listPart, listEntry, listOrigin}
 
 -- ---- texts
 
@@ -69,26 +71,22 @@ viewTexts kind.Void = []
 
 -- ---- list values
 
--- the payload of a list value
-abbrev pub payloadPart : Sections → Span → List ℕ
-payloadPart s p = partAt (s .payload) (p .offset) (p .len)
-
 -- item j is found, and its texts are handed back whole
 pub record ItemRead (s : Sections) (p : Span) (j : ℕ) : Type 0 where
   pub item : ListEntry
-  pub found : listEntry (payloadPart s p) (s .strings) j ≡ entry.Entry item
+  pub found : listEntry (listPart s p) (s .strings) j ≡ entry.Entry item
   pub name : Whole s (item .name)
   pub origin : (t : Span) → List·Memᴰ t (textsIn (item .origin)) → Whole s t
 
 -- so is origin j
 pub record OriginRead (s : Sections) (p : Span) (j : ℕ) : Type 0 where
   pub origin : Span
-  pub found : listOrigin (payloadPart s p) (s .strings) j ≡ text.Text origin
+  pub found : listOrigin (listPart s p) (s .strings) j ≡ text.Text origin
   pub whole : Whole s origin
 
 pub record ListRead (s : Sections) (p : Span) : Type 0 where
-  pub items : (j : ℕ) → j < wordAt (payloadPart s p) 0 → ItemRead s p j
-  pub origins : (j : ℕ) → j < wordAt (payloadPart s p) 4 → OriginRead s p j
+  pub items : (j : ℕ) → j < wordAt (listPart s p) 0 → ItemRead s p j
+  pub origins : (j : ℕ) → j < wordAt (listPart s p) 4 → OriginRead s p j
 
 abbrev pub valueLists : ValueView → List Span
 valueLists (value.Bool b) = []
@@ -165,5 +163,8 @@ pub record Reads (s : Sections) (i : ℕ) : Type 0 where
   pub child : (n : ℕ) → childCountOf s i ≡ count.Of n → (j : ℕ) → j < n → ChildRead s i j
   pub named : (n : ℕ) → namedCountOf s i ≡ count.Of n → (j : ℕ) → j < n → NamedRead s i j
 
+-- of bytes that a load accepts, with the view that it answers
 abbrev pub AcceptedReads : Type 0
-AcceptedReads = (bs : List ℕ) (work : ℕ) → Below 256 bs → loadRule bs work ≡ 0 → (i : ℕ) → i < nodeCount (sectionsOf bs) → Reads (sectionsOf bs) i
+AcceptedReads =
+    (bs : List ℕ) (work : ℕ) (v : ImageView) → Below 256 bs → loadedOf bs work ≡ View v
+    → (i : ℕ) → i < nodeCount (sectionsBy bs v) → Reads (sectionsBy bs v) i

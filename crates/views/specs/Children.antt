@@ -1,12 +1,11 @@
 -- Ordered and named children, counts, texts. Assumes nothing.
-use Prim.Native.Nat.{ℕ, zero, suc, _+_}
+use Prim.Native.Nat.{ℕ, _+_}
 use mathlib.Core.List.{List, []}
-use mathlib.Core.Bool.{Bool, true, false, cond, _&&_, _||_, not}
-use mathlib.Core.Option.{Option, none, some}
+use mathlib.Core.Bool.{cond, _&&_}
 use lib.ListN.{length}
-use lib.Dec.{leb, ltb, eqb}
-use Rattle.image.specs.Sections.{Sections, nodeCount, childCount, namedCount, nodeWord, tagOf, f, childWord, namedWord, present, partAt, textAt, inside, isContainer, insideContainer, sections}
-use Rattle.tree.specs.Tree.{childAt, namedAt}
+use lib.Dec.{ltb}
+use Rattle.image.specs.Sections.{Sections, childCount, namedCount, f, namedWord, partAt, insideContainer, sections}
+use Rattle.tree.specs.Tree.{childAt}
 use Rattle.views.specs.declared.Span.{Span}
 use Rattle.views.specs.declared.Found.{Found}
 use Rattle.views.specs.declared.Found.the-variants as found
@@ -29,12 +28,15 @@ namedCountOf s i = cond (insideContainer s i) (count.Of (f s i 6)) count.NotFoun
 unfoldable pub childQuery : Sections → ℕ → ℕ → Found
 childQuery s i j = cond (insideContainer s i && ltb j (f s i 4) && ltb (f s i 3 + j) (childCount s)) (found.Node (childAt s i j)) found.NotFound
 
--- the j-th named child: text and node
+-- entry k of the named section: text and node
+unfoldable pub namedEntry : Sections → ℕ → NamedAnswer
+namedEntry s k =
+    cond (ltb k (namedCount s) && shown (length (s .strings)) (namedWord s k 0) (namedWord s k 1))
+    (named.Named (record { name = span (namedWord s k 0) (namedWord s k 1); node = namedWord s k 2 })) named.NotFound
+
+-- the j-th named child
 unfoldable pub namedQuery : Sections → ℕ → ℕ → NamedAnswer
-namedQuery s i j =
-    cond
-    (insideContainer s i && ltb j (f s i 6) && ltb (f s i 5 + j) (namedCount s) && shown (length (s .strings)) (namedAt s i j 0) (namedAt s i j 1))
-    (named.Named (record { name = span (namedAt s i j 0) (namedAt s i j 1); node = namedAt s i j 2 })) named.NotFound
+namedQuery s i j = cond (insideContainer s i && ltb j (f s i 6)) (namedEntry s (f s i 5 + j)) named.NotFound
 
 -- a text that is present and inside
 unfoldable pub textQuery : Sections → Span → TextAnswer
@@ -63,5 +65,5 @@ textNumber text.NotFound = 18
 
 -- names on an `unfolding` line what a computation with this module needs
 unfoldable pub childrens : Unit {0}
-unfolding childCountOf namedCountOf childQuery namedQuery textQuery textPart views sections
+unfolding childCountOf namedCountOf childQuery namedEntry namedQuery textQuery textPart views sections
 childrens = tt

@@ -1,4 +1,5 @@
 pub mod View
+pub mod Shown
+pub mod Found
 pub mod Children
 pub mod Lists
-pub mod Lookup

@@ -1,11 +1,11 @@
 -- The entries of a list value, from its payload and the strings; definitions and items by number. Assumes nothing.
-use Prim.Native.Nat.{ℕ, zero, suc, _+_, _*_}
-use mathlib.Core.List.{List}
-use mathlib.Core.Bool.{Bool, true, false, cond, _&&_, _||_, not}
+use Prim.Native.Nat.{ℕ, _+_, _*_}
+use mathlib.Core.List.{List, []}
+use mathlib.Core.Bool.{cond, _&&_}
 use lib.ListN.{length}
 use lib.Dec.{leb, ltb}
 use Rattle.words.specs.Words.{wordAt, words}
-use Rattle.image.specs.Sections.{Sections, definitionCount, itemCount, definitionWord, itemWord, present, sections}
+use Rattle.image.specs.Sections.{Sections, definitionCount, itemCount, definitionWord, itemWord, textIn, sections}
 use Rattle.index.specs.Definitions.{firstItem, itemsOf}
 use Rattle.views.specs.declared.Span.{Span}
 use Rattle.views.specs.declared.EntryAnswer.{EntryAnswer}
@@ -27,6 +27,10 @@ itemEntryWord payload j k = wordAt payload (8 + j * 20 + k * 4)
 abbrev pub originEntryWord : List ℕ → ℕ → ℕ → ℕ
 originEntryWord payload j k = wordAt payload (8 + wordAt payload 0 * 20 + j * 8 + k * 4)
 
+-- the payload of a list value, none where it is not inside
+unfoldable pub listPart : Sections → Span → List ℕ
+listPart s t = textIn (s .payload) (t .offset) (t .len)
+
 -- item j: optional origin, name, value
 unfoldable pub listEntry : List ℕ → List ℕ → ℕ → EntryAnswer
 listEntry payload strings j =
@@ -40,6 +44,14 @@ listEntry payload strings j =
       value = signed (itemEntryWord payload j 4);
     }))
     entry.NotFound
+
+-- the name of item j, none where there is no such item
+abbrev pub nameIn : List ℕ → EntryAnswer → List ℕ
+nameIn strings (entry.Entry e) = textIn strings (e .name .offset) (e .name .len)
+nameIn strings entry.NotFound = []
+
+unfoldable pub listEntryName : List ℕ → List ℕ → ℕ → List ℕ
+listEntryName payload strings j = nameIn strings (listEntry payload strings j)
 
 -- origin j
 unfoldable pub listOrigin : List ℕ → List ℕ → ℕ → TextAnswer
@@ -81,5 +93,5 @@ itemNumber item.NotFound = 18
 
 -- names on an `unfolding` line what a computation with this module needs
 unfoldable pub listings : Unit {0}
-unfolding listEntry listOrigin definitionQuery itemEntry itemQuery views words sections
+unfolding listPart listEntry listEntryName listOrigin definitionQuery itemEntry itemQuery views words sections
 listings = tt

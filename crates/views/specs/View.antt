@@ -1,21 +1,23 @@
 -- A node's view: its words turned into fields, as `node_view` does. Assumes nothing.
-use Prim.Native.Nat.{ℕ, zero, suc, _+_, _/_, _%_}
-use mathlib.Core.List.{List, [], _∷_}
-use mathlib.Core.Bool.{Bool, true, false, cond, _&&_, _||_, not}
+use Prim.Native.Nat.{ℕ, _+_, _/_, _%_}
+use mathlib.Core.List.{List}
+use mathlib.Core.Bool.{Bool, cond, _&&_, not}
 use mathlib.Core.Option.{Option, none, some}
-use lib.ListN.{length, getD}
+use lib.ListN.{length}
 use lib.IntN.{ℤ}
 use lib.Ieee.{binary32, ofBits}
 use lib.Dec.{leb, eqb}
 use mir.Val.{toZ}
 use mir.Syntax.{w32}
-use Rattle.words.specs.Words.{NONE, isNone}
+use Rattle.words.specs.Words.{isNone}
 use Rattle.names.specs.declared.control_command.CommandType.{CommandType}
 use Rattle.names.specs.declared.native_function_call.Op.{Op}
 use Rattle.names.specs.ControlCommand.{commandNamed}
 use Rattle.names.specs.NativeFunctionCall.{operatorNamed}
 use Rattle.names.specs.Names.{names}
-use Rattle.image.specs.Sections.{Sections, nodeCount, nodeWord, present, partAt, inside, sections}
+use Rattle.image.specs.declared.NodeRecord.{NodeRecord}
+use Rattle.image.specs.Sections.{Sections, present, textIn, inside, sections}
+use Rattle.image.specs.Entries.{nodeIn}
 use Rattle.records.specs.Fields.{Kind, Container, Choice, Command as Named, Divert, Glue, Operator as Operation, Tag, BoolValue, IntValue, FloatValue, StringValue, ListValue, TargetValue, PointerValue, Assignment, Reference, Void, Unknown, kindOf, schema}
 use Rattle.views.specs.declared.Span.{Span}
 use Rattle.views.specs.declared.OptionalText.{OptionalText}
@@ -24,11 +26,8 @@ use Rattle.views.specs.declared.OptionalWord.{OptionalWord}
 use Rattle.views.specs.declared.OptionalWord.the-variants as word
 use Rattle.views.specs.declared.PushPopType.{PushPopType}
 use Rattle.views.specs.declared.PushPopType.the-variants as push
-use Rattle.views.specs.declared.ValueView.{ValueView}
 use Rattle.views.specs.declared.ValueView.the-variants as value
-use Rattle.views.specs.declared.NodeKindView.{NodeKindView}
 use Rattle.views.specs.declared.NodeKindView.the-variants as kind
-use Rattle.views.specs.declared.NodeView.{NodeView}
 use Rattle.views.specs.declared.KindAnswer.{KindAnswer}
 use Rattle.views.specs.declared.KindAnswer.the-variants as kindly
 use Rattle.views.specs.declared.NodeAnswer.{NodeAnswer}
@@ -66,58 +65,57 @@ abbrev pub ofOperator : Option Op → KindAnswer
 ofOperator none = kindly.NotFound
 ofOperator (some o) = kindly.Kind (kind.NativeFunction o)
 
--- the view of a record: its words 0 to 9 are parent, place, tag, f0 to f6. It needs the strings, and the payload's length
-module _ (strings : List ℕ) (payload : ℕ) (w : ℕ → ℕ) where
-  -- f0 to f6
-  abbrev pub field : ℕ → ℕ
-  field k = w (3 + k)
+-- the text at f0, where the kind cannot do without
+unfoldable pub withText : List ℕ → NodeRecord → (Span → KindAnswer) → KindAnswer
+withText strings r g = cond (shown (length strings) (r .f0) (r .f1)) (g (span (r .f0) (r .f1))) kindly.NotFound
 
-  abbrev pub textOf : ℕ → OptionalText
-  textOf k = optionalText (length strings) (field k) (field (k + 1))
+-- the view of a record. It needs the strings, and the payload's length
+module _ (strings : List ℕ) (payload : ℕ) (r : NodeRecord) where
+  abbrev textOf : ℕ → ℕ → OptionalText
+  textOf at len = optionalText (length strings) at len
 
-  -- the text at f0, where the kind cannot do without
-  unfoldable pub withText : (Span → KindAnswer) → KindAnswer
-  withText g = cond (shown (length strings) (field 0) (field 1)) (g (span (field 0) (field 1))) kindly.NotFound
+  abbrev bytesOfSpan : Span → List ℕ
+  bytesOfSpan t = textIn strings (t .offset) (t .len)
 
-  abbrev pub bytesOfSpan : Span → List ℕ
-  bytesOfSpan t = partAt strings (t .offset) (t .len)
+  abbrev texted : (Span → KindAnswer) → KindAnswer
+  texted g = withText strings r g
 
   unfoldable pub kindView : Kind → KindAnswer
-  kindView Container = kindly.Kind (kind.Container (signed (field 2)) (textOf 0))
-  kindView Choice = kindly.Kind (kind.ChoicePoint (signed (field 3)) (optionalWord (field 2)))
-  kindView Named = withText (λ t. ofCommand (commandNamed (bytesOfSpan t)))
+  kindView Container = kindly.Kind (kind.Container (signed (r .f2)) (textOf (r .f0) (r .f1)))
+  kindView Choice = kindly.Kind (kind.ChoicePoint (signed (r .f3)) (optionalWord (r .f2)))
+  kindView Named = texted (λ t. ofCommand (commandNamed (bytesOfSpan t)))
   kindView Divert =
-      cond (leb (field 6 / 8) 2)
+      cond (leb (r .f6 / 8) 2)
       (kindly.Kind
-      (kind.Divert (textOf 0) (optionalWord (field 2)) (textOf 3) (field 5) (odd (field 6)) (odd (field 6 / 2)) (odd (field 6 / 4))
-      (pushType (field 6 / 8))))
+      (kind.Divert (textOf (r .f0) (r .f1)) (optionalWord (r .f2)) (textOf (r .f3) (r .f4)) (r .f5) (odd (r .f6)) (odd (r .f6 / 2))
+      (odd (r .f6 / 4)) (pushType (r .f6 / 8))))
       kindly.NotFound
   kindView Glue = kindly.Kind kind.Glue
-  kindView Operation = withText (λ t. ofOperator (operatorNamed (bytesOfSpan t)))
-  kindView Tag = withText (λ t. kindly.Kind (kind.Tag t))
-  kindView BoolValue = kindly.Kind (kind.Value (value.Bool (not (eqb (field 0) 0))))
-  kindView IntValue = kindly.Kind (kind.Value (value.Int (signed (field 0))))
-  kindView FloatValue = kindly.Kind (kind.Value (value.Float (field 0) (ofBits binary32 (field 0))))
-  kindView StringValue = withText (λ t. kindly.Kind (kind.Value (value.String t)))
-  kindView ListValue = cond (leb (field 0 + field 1) payload) (kindly.Kind (kind.Value (value.List (span (field 0) (field 1))))) kindly.NotFound
-  kindView TargetValue = withText (λ t. kindly.Kind (kind.Value (value.DivertTarget t)))
-  kindView PointerValue = withText (λ t. kindly.Kind (kind.Value (value.VariablePointer t (signed (field 2)))))
-  kindView Assignment = withText (λ t. kindly.Kind (kind.VariableAssignment t (odd (field 2)) (odd (field 2 / 2))))
-  kindView Reference = withText (λ t. kindly.Kind (kind.VariableReference t (optionalWord (field 4))))
+  kindView Operation = texted (λ t. ofOperator (operatorNamed (bytesOfSpan t)))
+  kindView Tag = texted (λ t. kindly.Kind (kind.Tag t))
+  kindView BoolValue = kindly.Kind (kind.Value (value.Bool (not (eqb (r .f0) 0))))
+  kindView IntValue = kindly.Kind (kind.Value (value.Int (signed (r .f0))))
+  kindView FloatValue = kindly.Kind (kind.Value (value.Float (r .f0) (ofBits binary32 (r .f0))))
+  kindView StringValue = texted (λ t. kindly.Kind (kind.Value (value.String t)))
+  kindView ListValue = cond (leb (r .f0 + r .f1) payload) (kindly.Kind (kind.Value (value.List (span (r .f0) (r .f1))))) kindly.NotFound
+  kindView TargetValue = texted (λ t. kindly.Kind (kind.Value (value.DivertTarget t)))
+  kindView PointerValue = texted (λ t. kindly.Kind (kind.Value (value.VariablePointer t (signed (r .f2)))))
+  kindView Assignment = texted (λ t. kindly.Kind (kind.VariableAssignment t (odd (r .f2)) (odd (r .f2 / 2))))
+  kindView Reference = texted (λ t. kindly.Kind (kind.VariableReference t (optionalWord (r .f4))))
   kindView Void = kindly.Kind kind.Void
   kindView Unknown = kindly.NotFound
 
   -- parent and place, and the kind
   abbrev pub withKind : KindAnswer → NodeAnswer
-  withKind (kindly.Kind k) = node.View (record { parent = optionalWord (w 0); «child_index» = optionalWord (w 1); kind = k })
+  withKind (kindly.Kind k) = node.View (record { parent = optionalWord (r .parent); «child_index» = optionalWord (r .place); kind = k })
   withKind kindly.NotFound = node.NotFound
 
   unfoldable pub recordView : NodeAnswer
-  recordView = withKind (kindView (kindOf (w 2)))
+  recordView = withKind (kindView (kindOf (r .tag)))
 
 -- the view of node i
 unfoldable pub nodeView : Sections → ℕ → NodeAnswer
-nodeView s i = cond (inside s i) (recordView (s .strings) (length (s .payload)) (nodeWord s i)) node.NotFound
+nodeView s i = cond (inside s i) (recordView (s .strings) (length (s .payload)) (nodeIn s i)) node.NotFound
 
 -- document 01's number for an answer
 abbrev pub viewNumber : NodeAnswer → ℕ

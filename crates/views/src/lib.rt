@@ -1,4 +1,10 @@
-// What a reader asks of an image: node views, children, named children, texts, list values, list items by name.
+// What a reader asks of an image by number: node views, children, named children, texts, list values. A query takes bytes
+// and a view; it answers on any bytes and any view, a section outside the bytes counts as empty.
+pub mod entries; // entries.rt: entries of sections, where there are such
+pub mod view; // view.rt: the view of a node
+pub mod children; // children.rt: ordered and named children, texts
+pub mod lists; // lists.rt: entries of list values, definitions and items by number
+
 use names::control_command::CommandType;
 use names::native_function_call::Op;
 
@@ -146,17 +152,5 @@ pub struct ItemView {
 
 pub enum ItemAnswer {
     Item(ItemView),
-    NotFound,
-}
-
-// An item found by name: its definition, which is its origin, its number among all items, and its value.
-pub struct ListItem {
-    pub definition: u32,
-    pub item: u32,
-    pub value: i32,
-}
-
-pub enum ListItemAnswer {
-    Item(ListItem),
     NotFound,
 }

@@ -1,15 +1,15 @@
 -- A walk along a path. Assumes nothing.
-use Prim.Native.Nat.{ℕ, zero, suc, _+_}
+use Prim.Native.Nat.{ℕ, _+_}
 use mathlib.Core.List.{List, [], _∷_}
 use mathlib.Core.Bool.{Bool, true, false, cond, _&&_, not}
 use lib.ListN.{length, drop}
 use lib.Dec.{leb, eqb}
 use Rattle.words.specs.Words.{isNone}
-use Rattle.image.specs.Sections.{Sections, nodeCount, nodeWord, parentOf, tagOf, partAt, inside, isContainer, sections}
+use Rattle.image.specs.Sections.{Sections, parentOf, partAt, inside, isContainer, sections}
 use Rattle.views.specs.declared.Found.{Found}
 use Rattle.views.specs.declared.Found.the-variants.{Node, NotFound}
 use Rattle.views.specs.Children.{childQuery, childrens}
-use Rattle.views.specs.Lookup.{findNamed, lookups}
+use Rattle.lookups.specs.Lookup.{findNamed, lookups}
 
 -- a component is of kind parent, index or name; one that is lent broken is none of these
 pub data Component : Type 0 where

@@ -1,0 +1,105 @@
+// Runs document 01's examples of list items by name and of a relative walk through the code. Standard input holds two images, each
+// behind its length: one with the definitions red and size, which both hold low, and one whose root has a glue as its child.
+use image::ImageView;
+use image::Section;
+use libc::STDIN_FILENO;
+use libc::STDOUT_FILENO;
+use load::Loaded;
+use lookups::ListItemAnswer;
+use views::Found;
+
+fn print(text: &[u8]) {
+    io::write_all(STDOUT_FILENO, text);
+}
+
+fn print_number(n: u64) {
+    io::print_decimal(STDOUT_FILENO, n);
+}
+
+// The definition that answers, or 18.
+fn print_item(name: &[u8], answer: ListItemAnswer) {
+    print(name);
+    match answer {
+        ListItemAnswer::Item(item) => {
+            print(b": definition ");
+            print_number(item.definition as u64);
+            print(b", item ");
+            print_number(item.item as u64);
+        }
+        ListItemAnswer::NotFound => {
+            print(b": 18");
+        }
+    }
+    print(b"\n");
+}
+
+fn print_found(answer: Found) {
+    match answer {
+        Found::Node(node) => {
+            print(b": node ");
+            print_number(node as u64);
+        }
+        Found::NotFound => {
+            print(b": 18");
+        }
+    }
+    print(b"\n");
+}
+
+fn items(bytes: &[u8], view: ImageView) {
+    print_item(b"low", lookups::list_item(bytes, view, b"low"));
+    print_item(b"red.low", lookups::list_item(bytes, view, b"red.low"));
+    print_item(b"size.low", lookups::list_item(bytes, view, b"size.low"));
+    print_item(b"high", lookups::list_item(bytes, view, b"high"));
+    print_item(b" ", lookups::list_item(bytes, view, b" "));
+}
+
+fn walk(bytes: &[u8], view: ImageView) {
+    let path = [1u32, 0u32, 0u32];
+    print(b"relative, no components, from the glue");
+    print_found(walks::resolve_path(bytes, view, 1, true, &path[..0], b""));
+    print(b"absolute, child 0, origin outside");
+    print_found(walks::resolve_path(bytes, view, 9, false, &path, b""));
+    print(b"child 0 of the root");
+    print_found(views::children::child_at(bytes, view, 0, 0));
+    print(b"child 1 of the root");
+    print_found(views::children::child_at(bytes, view, 0, 1));
+}
+
+fn both(bytes: &[u8], view: ImageView) {
+    items(bytes, view);
+    walk(bytes, view);
+}
+
+fn run(bytes: &[u8]) {
+    let mut work = [7u32; 64];
+    match load::load(bytes, &mut work) {
+        Loaded::View(view) => both(bytes, view),
+        Loaded::Refused(wrong) => print_number(wrong as u64),
+    }
+}
+
+// The image behind its length at `at`.
+fn part(records: &[u8], at: u32) -> &[u8] {
+    if 65536 < at {
+        return &records[..0];
+    }
+    let len = words::get(records, at as usize);
+    image::section_part(
+        records,
+        Section {
+            offset: at + 4,
+            count: len,
+        },
+        1,
+    )
+}
+
+fn main() {
+    let mut buffer = io::large_buffer();
+    let n = io::read_full(STDIN_FILENO, &mut buffer);
+    let first = part(&buffer[..n], 0);
+    run(first);
+    let second = part(&buffer[..n], 210);
+    run(second);
+}

@@ -1,0 +1,27 @@
+-- `walks::parent_of` meets its contract. Assumes nothing.
+use Rattle.walks.proofs.Steps.{parent-missing, parent-none, parent-there}
+use borrow.Author.Needs.{needs}
+use Rattle.walks.proofs.parent_of.Statement.{statement}
+use Rattle.walks.proofs.parent_of.Tie as tie
+
+node-of-requires : tie.Need-node-of-requires
+node-of-requires c κs = search needs
+
+enum-told : tie.Need-enum-told
+enum-told c = search needs
+
+enum-known-node : tie.Need-enum-known-node
+enum-known-node c = search needs
+
+returns : tie.Need-returns
+returns c = parent-missing _ _ _ (c .before .before .node-of .ensures) (c .enum-told .given .1)
+
+returns-2 : tie.Need-returns-2
+returns-2 c = parent-none _ _ _ (c .before .before .before .before .before .node-of .ensures) _ (c .before .before .before .node .given .1) (c .if1 .taken)
+
+returns-3 : tie.Need-returns-3
+returns-3 c = parent-there _ _ _ (c .before .before .before .before .before .node-of .ensures) _ (c .before .before .before .node .given .1) (c .if1 .left)
+
+pub parent-of-spec : {M : Type 1} → statement M
+parent-of-spec =
+    tie.close (tie.spec node-of-requires enum-told enum-known-node returns returns-2 returns-3)
