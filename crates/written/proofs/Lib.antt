@@ -14,3 +14,4 @@ pub mod Definitions
 pub mod Words
 pub mod Loads
 pub mod Bytes
+pub mod Sound

@@ -13,6 +13,7 @@ use Rattle.load.specs.Load.{loadRule, loadWords, Accepted}
 use Rattle.draft.specs.Numbering.{numbering, oldOf}
 use Rattle.encoder.specs.Written.{written}
 use Rattle.encoder.specs.Encode.{imageFor, encodeRule}
+use Rattle.promises.specs.Promises.{Sound, NamedOnce}
 
 -- the words of a draft are words, its bytes are bytes: what slices of u32 and u8 hold
 pub record DraftWords (s : Sections) : Type 0 where
@@ -70,3 +71,15 @@ abbrev pub NoDot : Type 0
 NoDot =
     Written (λ ink s. (k : ℕ) → k < indexCount (sectionsOf (imageFor ink s))
     → indexText (sectionsOf (imageFor ink s)) k ≡ dot ∷ canonicalPath (sectionsOf (imageFor ink s)) (indexWord (sectionsOf (imageFor ink s)) k 2) → ⊥)
+
+-- ---- nothing sticks
+
+-- demand 3, all of it, holds of the image
+abbrev pub WrittenSound : Type 0
+WrittenSound = Written (λ ink s. Sound (sectionsOf (imageFor ink s)))
+
+-- and its index names each container exactly once, with no condition left
+abbrev pub WrittenIndexOnce : Type 0
+WrittenIndexOnce =
+    Written (λ ink s. (i : ℕ) → i < nodeCount (sectionsOf (imageFor ink s)) → isContainer (sectionsOf (imageFor ink s)) i ≡ true
+    → NamedOnce (sectionsOf (imageFor ink s)) i)

@@ -1,0 +1,19 @@
+-- Demand 3 of every written image: a load accepts it, so what holds of accepted images holds of it. Assumes nothing.
+use Prim.Native.Nat.{_≤_}
+use native.Mathlib.Omega.{arith}
+use Rattle.image.specs.Header.{sectionsOf}
+use Rattle.load.specs.Load.{loadWords}
+use Rattle.encoder.specs.Encode.{imageFor}
+use Rattle.promises.proofs.Sound.{accepted-sound}
+use Rattle.written.specs.Written.{WrittenSound, WrittenIndexOnce}
+use Rattle.written.proofs.Loads.{written-loads, no-dot}
+use Rattle.written.proofs.Bytes.{image-bytes}
+
+pub written-sound : WrittenSound
+written-sound ink s work room ten words p =
+    let needed = loadWords (sectionsOf (imageFor ink s)) in
+    let enough : loadWords (sectionsOf (imageFor ink s)) ≤ loadWords (sectionsOf (imageFor ink s)) = omega arith in
+    accepted-sound (imageFor ink s) needed (image-bytes ink s words) (written-loads ink s work room ten words p needed enough)
+
+pub written-index-once : WrittenIndexOnce
+written-index-once ink s work room ten words p = written-sound ink s work room ten words p .index (no-dot ink s work room ten words p)
