@@ -1,7 +1,7 @@
 -- What a reader sees of a written image is what its author wrote: the statements. s is the draft, t the image, order the numbering:
 -- the image's node j is the draft's node `oldOf order j`, the draft's node i the image's `newOf order i`. Both sides are read by the
 -- definitions that the contracts of the queries cite. Assumes nothing.
-use Prim.Native.Nat.{ℕ, _+_, _<_}
+use Prim.Native.Nat.{ℕ, _+_, _≤_, _<_}
 use mathlib.Core.Path.{_≡_}
 use mathlib.Core.List.{List, List·Memᴰ}
 use mathlib.Core.Bool.{true}
@@ -94,8 +94,10 @@ module _ (s t : Sections) where
     pub written : listOrigin (listPart t q) (t .strings) k ≡ texted.Text image
     pub name : SameText draft image
 
-  -- it may start elsewhere: as long, as many items and origins, the same ones
+  -- both are inside: as long, as many items and origins, the same ones
   pub record SameList (p q : Span) : Type 0 where
+    pub drafted : p .offset + p .len ≤ length (s .payload)
+    pub written : q .offset + q .len ≤ length (t .payload)
     pub len : q .len ≡ p .len
     pub items : wordAt (listPart t q) 0 ≡ wordAt (listPart s p) 0
     pub origins : wordAt (listPart t q) 4 ≡ wordAt (listPart s p) 4

@@ -1,0 +1,5 @@
+pub mod Texts
+pub mod ByKind
+pub mod Lists
+pub mod Fields
+pub mod Nodes
