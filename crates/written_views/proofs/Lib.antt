@@ -3,3 +3,5 @@ pub mod ByKind
 pub mod Lists
 pub mod Fields
 pub mod Nodes
+pub mod Definitions
+pub mod Written

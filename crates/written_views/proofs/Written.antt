@@ -1,0 +1,30 @@
+-- What a reader sees of every written image is what its draft says. Assumes nothing.
+use Prim.Native.Nat.{ℕ, _<_}
+use mathlib.Core.Path.{_≡_, sym, subst}
+use mathlib.Core.List.{List}
+use native.Mathlib.Omega.{arith}
+use Rattle.image.specs.Sections.{Sections, nodeCount}
+use Rattle.draft.specs.Numbering.{numbering}
+use Rattle.written.proofs.Blocks.{w, definition-count, item-count}
+use Rattle.written.proofs.Fields.{Given, counted}
+use Rattle.written.proofs.Loads.{given, back}
+use Rattle.written_views.specs.Views.{SameViews, WrittenViews}
+use Rattle.written_views.proofs.Texts.{numbers-same}
+use Rattle.written_views.proofs.Nodes.{node-same}
+use Rattle.written_views.proofs.Definitions.{definition-same, each-item-same}
+
+pub views-same : {s : Sections} {order : List ℕ} {kept : List (List ℕ)} → Given s order kept → SameViews s (w s order kept) order
+views-same {s} {order} {kept} g =
+    record {
+      numbers = numbers-same g;
+      node-count = counted g;
+      nodes = λ j h. node-same g j (omega (arith, counted g));
+      definition-count = definition-count s order kept;
+      definitions = λ d h. definition-same g d (omega (arith, definition-count s order kept));
+      item-count = item-count s order kept;
+      items = λ k h. each-item-same g k (omega (arith, item-count s order kept));
+    }
+
+pub written-views : WrittenViews
+written-views ink s work room ten words p =
+    subst (λ (t : Sections). SameViews s t (numbering s)) (sym (back ink s work room ten words p)) (views-same (given ink s work room ten words p))
