@@ -65,7 +65,7 @@ module _ {s : Sections} {order : List ℕ} {kept : List (List ℕ)} (g : Given s
       pub item-inside : at < itemCount s
       item-inside = omega (arith, items-right d h .0)
 
-      pub item-at : firstItem v d + j ≡ at
+      item-at : firstItem v d + j ≡ at
       item-at = ap (λ (x : ℕ). x + j) (first-item d h)
 
       pub item-at-word : itemWord v at 0 ≡ offsetOf kept (itemTextOf s d j)

@@ -26,7 +26,7 @@ use Rattle.views.specs.declared.NodeKindView.the-variants as kind
 use Rattle.views.specs.declared.KindAnswer.{KindAnswer}
 use Rattle.views.specs.declared.KindAnswer.the-variants as kindly
 use Rattle.views.specs.View.{signed, odd, span, shown, optionalText, optionalWord, pushType, ofCommand, ofOperator, withText, kindView}
-use Rattle.written_views.specs.Views.{renumbered, SameText, SameOptional, SameKind, SameField}
+use Rattle.written_views.specs.Views.{renumbered, SameText, SameKind, SameField}
 
 -- the bytes of a text that is shown
 shown-text : (s : Sections) (at len : ℕ) → shown (length (s .strings)) at len ≡ true → textIn (s .strings) at len ≡ textAt s at len
@@ -64,7 +64,7 @@ module _ (s t : Sections) (order : List ℕ) where
 
   -- ---- the draft's node i and the image's node j
 
-  module _ (i j : ℕ) (words : (n : ℕ) → optionalWord (newOf order n) ≡ renumbered order (optionalWord n)) where
+  module _ (i j : ℕ) where
     -- each field of a list of them
     abbrev pub SameAll : List Field → Type 0
     SameAll [] = Unit {0}
@@ -85,42 +85,42 @@ module _ (s t : Sections) (order : List ℕ) where
     bytes-same : SameText s t a b → textIn (t .strings) (f t j 0) (f t j 1) ≡ textIn (s .strings) (f s i 0) (f s i 1)
     bytes-same e = shown-text t (f t j 0) (f t j 1) (e .written) ∙ e .bytes ∙ sym (shown-text s (f s i 0) (f s i 1) (e .drafted))
 
-    -- a target
-    target-same : (x y : ℕ) → y ≡ newOf order x → optionalWord y ≡ renumbered order (optionalWord x)
-    target-same x y e = ap optionalWord e ∙ words x
+    module _ (words : (n : ℕ) → optionalWord (newOf order n) ≡ renumbered order (optionalWord n)) where
+      -- a target
+      target-same : (x y : ℕ) → y ≡ newOf order x → optionalWord y ≡ renumbered order (optionalWord x)
+      target-same x y e = ap optionalWord e ∙ words x
 
-    pub kind-same : (k : Kind) → SameAll (fields k)
-        → SameAnswer (kindView (s .strings) (length (s .payload)) (nodeIn s i) k) (kindView (t .strings) (length (t .payload)) (nodeIn t j) k)
-    unfolding fields kindView
-    kind-same Container q =
-        let name = optionalText (length (t .strings)) (f t j 0) (f t j 1) in (name, ap (λ (x : ℕ). kind.Container (signed x) name) (q .1 .0), q .0)
-    kind-same Choice q = λ u. kind.ChoicePoint (signed (q .1 .1 .0 u)) (target-same (f s i 2) (f t j 2) (q .1 .0) u)
-    kind-same Command q = with-same _ _ (q .0) (command-same (commandNamed _) (commandNamed _) (ap commandNamed (bytes-same (q .0))))
-    kind-same Divert q =
-        let path = optionalText (length (t .strings)) (f t j 0) (f t j 1) in
-        let variable = optionalText (length (t .strings)) (f t j 3) (f t j 4) in
-        let target = target-same (f s i 2) (f t j 2) (q .1 .0) in
-        let arguments = q .1 .1 .1 .0 in
-        let flags = q .1 .1 .1 .1 .0 in
-        tested (leb (f s i 6 / 8) 2) (leb (f t j 6 / 8) 2) _ _ (ap (λ (x : ℕ). leb (x / 8) 2) flags)
-        (
-          path,
-          variable,
-          λ u. kind.Divert path (target u) variable (arguments u) (odd (flags u)) (odd (flags u / 2)) (odd (flags u / 4)) (pushType (flags u / 8)),
-          q .0,
-          q .1 .1 .0,
-        )
-    kind-same Glue q = refl
-    kind-same Operator q = with-same _ _ (q .0) (operator-same (operatorNamed _) (operatorNamed _) (ap operatorNamed (bytes-same (q .0))))
-    kind-same Tag q = with-same _ _ (q .0) (b, refl, q .0)
-    kind-same BoolValue q = (_, refl, ap (λ (x : ℕ). value.Bool (not (eqb x 0))) (q .0))
-    kind-same IntValue q = (_, refl, ap (λ (x : ℕ). value.Int (signed x)) (q .0))
-    kind-same FloatValue q = (_, refl, ap (λ (x : ℕ). value.Float x (ofBits binary32 x)) (q .0))
-    kind-same StringValue q = with-same _ _ (q .0) (_, refl, (b, refl, q .0))
-    kind-same ListValue q = rw (le-leb _ _ (q .0 .drafted), le-leb _ _ (q .0 .written)) (_, refl, (b, refl, q .0))
-    kind-same TargetValue q = with-same _ _ (q .0) (_, refl, (b, refl, q .0))
-    kind-same PointerValue q = with-same _ _ (q .0) (_, refl, (b, ap (λ (x : ℕ). value.VariablePointer b (signed x)) (q .1 .0), q .0))
-    kind-same Assignment q = with-same _ _ (q .0) (b, ap (λ (x : ℕ). kind.VariableAssignment b (odd x) (odd (x / 2))) (q .1 .0), q .0)
-    kind-same Reference q = with-same _ _ (q .0) (b, ap (λ (x : OptionalWord). kind.VariableReference b x) (target-same (f s i 4) (f t j 4) (q .1 .1 .0)), q .0)
-    kind-same Void q = refl
-    kind-same Unknown q = tt
+      pub kind-same : (k : Kind) → SameAll (fields k)
+          → SameAnswer (kindView (s .strings) (length (s .payload)) (nodeIn s i) k) (kindView (t .strings) (length (t .payload)) (nodeIn t j) k)
+      unfolding fields kindView
+      kind-same Container q =
+          let name = optionalText (length (t .strings)) (f t j 0) (f t j 1) in (name, ap (λ (x : ℕ). kind.Container (signed x) name) (q .1 .0), q .0)
+      kind-same Choice q = λ u. kind.ChoicePoint (signed (q .1 .1 .0 u)) (target-same (f s i 2) (f t j 2) (q .1 .0) u)
+      kind-same Command q = with-same _ _ (q .0) (command-same (commandNamed _) (commandNamed _) (ap commandNamed (bytes-same (q .0))))
+      kind-same Divert q =
+          let path = optionalText (length (t .strings)) (f t j 0) (f t j 1) in
+          let variable = optionalText (length (t .strings)) (f t j 3) (f t j 4) in
+          let target = target-same (f s i 2) (f t j 2) (q .1 .0) in
+          let arguments = q .1 .1 .1 .0 in
+          let flags = q .1 .1 .1 .1 .0 in
+          tested (leb (f s i 6 / 8) 2) (leb (f t j 6 / 8) 2) _ _ (ap (λ (x : ℕ). leb (x / 8) 2) flags) (
+            path,
+            variable,
+            λ u. kind.Divert path (target u) variable (arguments u) (odd (flags u)) (odd (flags u / 2)) (odd (flags u / 4)) (pushType (flags u / 8)),
+            q .0,
+            q .1 .1 .0,
+          )
+      kind-same Glue q = refl
+      kind-same Operator q = with-same _ _ (q .0) (operator-same (operatorNamed _) (operatorNamed _) (ap operatorNamed (bytes-same (q .0))))
+      kind-same Tag q = with-same _ _ (q .0) (b, refl, q .0)
+      kind-same BoolValue q = (_, refl, ap (λ (x : ℕ). value.Bool (not (eqb x 0))) (q .0))
+      kind-same IntValue q = (_, refl, ap (λ (x : ℕ). value.Int (signed x)) (q .0))
+      kind-same FloatValue q = (_, refl, ap (λ (x : ℕ). value.Float x (ofBits binary32 x)) (q .0))
+      kind-same StringValue q = with-same _ _ (q .0) (_, refl, (b, refl, q .0))
+      kind-same ListValue q = rw (le-leb _ _ (q .0 .drafted), le-leb _ _ (q .0 .written)) (_, refl, (b, refl, q .0))
+      kind-same TargetValue q = with-same _ _ (q .0) (_, refl, (b, refl, q .0))
+      kind-same PointerValue q = with-same _ _ (q .0) (_, refl, (b, ap (λ (x : ℕ). value.VariablePointer b (signed x)) (q .1 .0), q .0))
+      kind-same Assignment q = with-same _ _ (q .0) (b, ap (λ (x : ℕ). kind.VariableAssignment b (odd x) (odd (x / 2))) (q .1 .0), q .0)
+      kind-same Reference q = with-same _ _ (q .0) (b, ap (λ (x : OptionalWord). kind.VariableReference b x) (target-same (f s i 4) (f t j 4) (q .1 .1 .0)), q .0)
+      kind-same Void q = refl
+      kind-same Unknown q = tt

@@ -1,6 +1,6 @@
 -- The list definitions of a written image and their items are those of its draft. Assumes nothing.
 use Prim.Native.Nat.{ℕ, zero, suc, _+_, _-_, _<_}
-use mathlib.Core.Path.{_≡_, refl, sym, ap, _∙_, subst}
+use mathlib.Core.Path.{_≡_, refl, ap, _∙_, subst}
 use mathlib.Core.List.{List}
 use mathlib.Core.Bool.{Bool, true, false}
 use native.Mathlib.Omega.{arith}
@@ -15,7 +15,6 @@ use Rattle.encoder.specs.Written.{itemOut}
 use Rattle.views.specs.declared.DefinitionView.{DefinitionView}
 use Rattle.views.specs.declared.DefinitionAnswer.the-variants as definition
 use Rattle.views.specs.declared.ItemView.{ItemView}
-use Rattle.views.specs.declared.ItemAnswer.{ItemAnswer}
 use Rattle.views.specs.declared.ItemAnswer.the-variants as item
 use Rattle.views.specs.View.{signed, span, shown}
 use Rattle.views.specs.Lists.{definitionQuery, itemEntry, itemQuery}

@@ -12,16 +12,15 @@ use Rattle.image.specs.Sections.{Sections, nodeCount, tagOf, f}
 use Rattle.records.specs.Fields.{Field, text, optional, command, operator, node, optionalNode, container, optionalContainer, plain, atMost, children, named, payload, wrong}
 use Rattle.records.specs.Records.{fieldsAt, payloadOf, fieldRule, firstField}
 use Rattle.tree.proofs.Members.{both-true}
-use Rattle.draft.specs.Numbering.{oldOf, newOf}
+use Rattle.draft.specs.Numbering.{oldOf}
 use Rattle.encoder.specs.Strings.{fieldTexts}
 use Rattle.encoder.specs.Written.{fieldStart, fieldWords}
-use Rattle.views.specs.View.{optionalWord}
 use Rattle.written.proofs.Texts.{in-left, in-right, in-one}
 use Rattle.written.proofs.Blocks.{w}
 use Rattle.written.proofs.Fields.{Given, old-in, Reads, ReadsAll, reads, start-is}
 use Rattle.written.proofs.Rules.{suits, all-suit, suited}
-use Rattle.written_views.specs.Views.{renumbered, SameField}
-use Rattle.written_views.proofs.Texts.{text-same, optional-same, word-same}
+use Rattle.written_views.specs.Views.{SameField}
+use Rattle.written_views.proofs.Texts.{text-same, optional-same}
 use Rattle.written_views.proofs.ByKind.{SameAll}
 use Rattle.written_views.proofs.Lists.{list-same}
 
@@ -55,7 +54,7 @@ module _ {s : Sections} {order : List ℕ} {kept : List (List ℕ)} (g : Given s
 
   all-same : (xs : List Field) → all-suit (tagOf s i) xs ≡ true → ReadsAll g j i xs
       → ((y : List ℕ) → holds (flatMap (fieldTexts s i) xs) y ≡ true → holds kept y ≡ true) → firstField s i xs ≡ 0
-      → SameAll s t order i j (word-same g) xs
+      → SameAll s t order i j xs
   unfolding all-suit flatMap firstField
   all-same [] z r l p = tt
   all-same (x ∷ xs) z r l p =
@@ -65,10 +64,10 @@ module _ {s : Sections} {order : List ℕ} {kept : List (List ℕ)} (g : Given s
         all-same xs (y .1) (r .1) (λ u m. l u (in-right (fieldTexts s i x) (flatMap (fieldTexts s i) xs) u m)) (q .1),
       )
 
-  pub fields-same : SameAll s t order i j (word-same g) (fieldsAt s i)
+  pub fields-same : SameAll s t order i j (fieldsAt s i)
   fields-same = all-same (fieldsAt s i) (suited (tagOf s i)) (reads g j h) (g .stored .nodes j h) (g .taken .fields i (old-in g j h))
 
-  each-same : (xs : List Field) → SameAll s t order i j (word-same g) xs → (x : Field) → List·Memᴰ x xs → SameField s t order i j x
+  each-same : (xs : List Field) → SameAll s t order i j xs → (x : Field) → List·Memᴰ x xs → SameField s t order i j x
   each-same [] a x m = absurd (List·Memᴰ·not-nil m)
   each-same (y ∷ ys) a x m =
       ⊎-elim (λ e. subst (λ (z : Field). SameField s t order i j z) (sym e) (a .0)) (λ q. each-same ys (a .1) x q) (List·Memᴰ·cases-cons m)

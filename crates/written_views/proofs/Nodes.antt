@@ -2,25 +2,22 @@
 use Prim.Native.Nat.{ℕ, _+_, _≤_, _<_}
 use mathlib.Core.Path.{_≡_, refl, sym, ap, _∙_, subst}
 use mathlib.Core.List.{List}
-use mathlib.Core.Bool.{Bool, true, false, cond, _&&_}
+use mathlib.Core.Bool.{Bool, true, false, cond}
 use native.Mathlib.Omega.{arith}
 use lib.ListN.{length}
-use borrow.Author.Tests.{lt-ltb, ne-eqb}
-use Rattle.words.specs.Words.{NONE}
+use borrow.Author.Tests.{lt-ltb}
 use Rattle.image.specs.Sections.{Sections, nodeCount, childCount, namedCount, parentOf, placeOf, tagOf, f, inside, isContainer, insideContainer}
 use Rattle.image.specs.Entries.{nodeIn}
 use Rattle.image.proofs.Tests.{both-true}
 use Rattle.records.specs.Fields.{Kind, fields, kindOf}
-use Rattle.records.specs.Records.{childrenOf, namedOf}
+use Rattle.records.specs.Records.{namedOf}
 use Rattle.records.proofs.Passed.{ranges}
-use Rattle.tree.specs.Tree.{childAt, namedAt, namedText}
+use Rattle.tree.specs.Tree.{childAt, namedAt}
 use Rattle.tree.proofs.Entries.{named-pass}
-use Rattle.draft.specs.Numbering.{oldOf, newOf}
+use Rattle.draft.specs.Numbering.{oldOf}
 use Rattle.encoder.specs.Written.{fieldWords}
-use Rattle.views.specs.declared.NodeKindView.{NodeKindView}
 use Rattle.views.specs.declared.KindAnswer.{KindAnswer}
 use Rattle.views.specs.declared.KindAnswer.the-variants as kindly
-use Rattle.views.specs.declared.NodeView.{NodeView}
 use Rattle.views.specs.declared.Found.the-variants as found
 use Rattle.views.specs.declared.Count.the-variants as count
 use Rattle.views.specs.declared.NamedChildView.{NamedChildView}

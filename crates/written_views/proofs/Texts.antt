@@ -1,5 +1,5 @@
 -- The texts and the node numbers of a written image are those of its draft. Assumes nothing.
-use Prim.Native.Nat.{ℕ, _+_, _<_}
+use Prim.Native.Nat.{ℕ, _+_}
 use mathlib.Core.Path.{_≡_, refl, sym, ap, _∙_}
 use mathlib.Core.List.{List, [], _∷_}
 use mathlib.Core.Bool.{Bool, true, false, cond, _&&_}
@@ -11,7 +11,7 @@ use Rattle.laws.specs.Lists.{placeIn}
 use Rattle.words.specs.Words.{NONE, isNone}
 use Rattle.texts.specs.Text.{holds}
 use Rattle.utf8.specs.Utf8.{utf8}
-use Rattle.image.specs.Sections.{Sections, nodeCount, textAt, partAt, present, absent, goodIn, goodText, goodOptional}
+use Rattle.image.specs.Sections.{Sections, textAt, partAt, present, absent, goodIn, goodText, goodOptional}
 use Rattle.tree.proofs.Members.{both-true}
 use Rattle.draft.specs.Numbering.{oldOf, newOf}
 use Rattle.encoder.specs.Strings.{textIf, offsetOf}

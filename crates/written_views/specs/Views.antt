@@ -8,10 +8,13 @@ use mathlib.Core.Bool.{true}
 use lib.ListN.{length}
 use Rattle.words.specs.Words.{wordAt}
 use Rattle.image.specs.Sections.{Sections, nodeCount, definitionCount, itemCount, tagOf, f, textAt}
-use Rattle.image.specs.Header.{sectionsOf}
+use Rattle.image.specs.declared.ImageView.{ImageView}
+use Rattle.image.specs.Header.{sectionsBy, sectionsOf}
 use Rattle.records.specs.Fields.{Field, text, optional, command, operator, node, optionalNode, container, optionalContainer, plain, atMost, children, named, payload, wrong}
 use Rattle.records.specs.Records.{fieldsAt}
 use Rattle.index.specs.Definitions.{firstItem}
+use Rattle.load.specs.declared.Loaded.the-variants.{View}
+use Rattle.load.specs.Load.{loadWords, loadedOf}
 use Rattle.draft.specs.Numbering.{numbering, oldOf, newOf}
 use Rattle.encoder.specs.Encode.{imageFor}
 use Rattle.views.specs.declared.Span.{Span}
@@ -223,3 +226,9 @@ pub record SameViews (s t : Sections) (order : List ℕ) : Type 0 where
 -- of every ink version and draft that the writer takes
 abbrev pub WrittenViews : Type 0
 WrittenViews = Written (λ ink s. SameViews s (sectionsOf (imageFor ink s)) (numbering s))
+
+-- and so by the view that a load of the image answers
+abbrev pub WrittenReads : Type 0
+WrittenReads =
+    Written (λ ink s. (enough : ℕ) → loadWords (sectionsOf (imageFor ink s)) ≤ enough
+    → (v : ImageView) × (loadedOf (imageFor ink s) enough ≡ View v) × SameViews s (sectionsBy (imageFor ink s) v) (numbering s))
