@@ -18,7 +18,7 @@ use Rattle.encoder.specs.Written.{listItemOut, listOriginOut}
 use Rattle.views.specs.declared.Span.{Span}
 use Rattle.views.specs.declared.ListEntry.{ListEntry}
 use Rattle.views.specs.declared.EntryAnswer.the-variants as entry
-use Rattle.views.specs.declared.TextAnswer.the-variants as texted
+use Rattle.views.specs.declared.TextAnswer.the-variants as textAnswer
 use Rattle.views.specs.View.{signed, span, shown, optionalText}
 use Rattle.views.specs.Lists.{listPart, itemEntryWord, originEntryWord, listEntry, listOrigin}
 use Rattle.promises.specs.Rules.{PayloadRight}
@@ -68,7 +68,7 @@ module _ (s : Sections) (at len : ℕ) (r : PayloadRight s at len) where
   abbrev originAt : ℕ → Span
   originAt k = span (listOriginWord s at k 0) (listOriginWord s at k 1)
 
-  origin-found : (k : ℕ) → k < listOrigins s at → listOrigin part (s .strings) k ≡ texted.Text (originAt k)
+  origin-found : (k : ℕ) → k < listOrigins s at → listOrigin part (s .strings) k ≡ textAnswer.Text (originAt k)
   unfolding listOrigin
   origin-found k h =
       let word : (m : ℕ) → m < 2 → originEntryWord part k m ≡ listOriginWord s at k m = λ m l. origin-word s at len r k m h l in
@@ -79,7 +79,7 @@ module _ (s : Sections) (at len : ℕ) (r : PayloadRight s at len) where
         lt-ltb k (wordAt part 4) (omega (arith, origins-are s at len r)),
         shows,
       )
-      (λ u. texted.Text (span (word 0 (omega arith) u) (word 1 (omega arith) u)))
+      (λ u. textAnswer.Text (span (word 0 (omega arith) u) (word 1 (omega arith) u)))
 
 -- ---- the list value of the image's node j
 

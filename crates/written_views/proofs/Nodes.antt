@@ -21,7 +21,7 @@ use Rattle.views.specs.declared.KindAnswer.the-variants as kindly
 use Rattle.views.specs.declared.Found.the-variants as found
 use Rattle.views.specs.declared.Count.the-variants as count
 use Rattle.views.specs.declared.NamedChildView.{NamedChildView}
-use Rattle.views.specs.declared.NamedAnswer.the-variants as entitled
+use Rattle.views.specs.declared.NamedAnswer.the-variants as namedAnswer
 use Rattle.views.specs.View.{span, shown, optionalWord, kindView}
 use Rattle.views.specs.Children.{childCountOf, namedCountOf, childQuery, namedEntry, namedQuery}
 use Rattle.promises.specs.Rules.{NodeRight}
@@ -57,7 +57,7 @@ module _ (s : Sections) (i : ℕ) (c : insideContainer s i ≡ true) where
   namedChild k = record { name = span (namedAt s i k 0) (namedAt s i k 1); node = namedAt s i k 2 }
 
   named-found : (k : ℕ) → k < f s i 6 → f s i 5 + f s i 6 ≤ namedCount s → shown (length (s .strings)) (namedAt s i k 0) (namedAt s i k 1) ≡ true
-      → namedQuery s i k ≡ entitled.Named (namedChild k)
+      → namedQuery s i k ≡ namedAnswer.Named (namedChild k)
   unfolding namedQuery namedEntry
   named-found k h r e = rw (c, lt-ltb k (f s i 6) h, lt-ltb (f s i 5 + k) (namedCount s) (omega arith), e)
 

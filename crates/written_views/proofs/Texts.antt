@@ -78,9 +78,12 @@ module _ {s : Sections} {order : List ℕ} {kept : List (List ℕ)} (g : Given s
       there : isNone (placeIn order n) ≡ false
       there = ne-eqb (placeIn order n) NONE (λ e. omega (arith, place-le order n, g .numbered .len, few g))
 
+      new : isNone n ≡ false → newOf order n ≡ placeIn order n
+      new e = rw e refl
+
       by : (c : Bool) → isNone n ≡ c → optionalWord (newOf order n) ≡ renumbered order (optionalWord n)
       by true e = rw e refl
-      by false e = rw (e, there) (ap word.Present (sym (rw e refl)))
+      by false e = rw (e, there) (ap word.Present (sym (new e)))
 
   pub numbers-same : Renumbers s order
   numbers-same =

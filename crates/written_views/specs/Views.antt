@@ -27,12 +27,12 @@ use Rattle.views.specs.declared.ValueView.the-variants as value
 use Rattle.views.specs.declared.NodeKindView.{NodeKindView}
 use Rattle.views.specs.declared.NodeKindView.the-variants as kind
 use Rattle.views.specs.declared.NodeView.{NodeView}
-use Rattle.views.specs.declared.NodeAnswer.the-variants as viewed
+use Rattle.views.specs.declared.NodeAnswer.the-variants as nodeAnswer
 use Rattle.views.specs.declared.Found.the-variants as found
 use Rattle.views.specs.declared.Count.the-variants as count
 use Rattle.views.specs.declared.NamedChildView.{NamedChildView}
-use Rattle.views.specs.declared.NamedAnswer.the-variants as entitled
-use Rattle.views.specs.declared.TextAnswer.the-variants as texted
+use Rattle.views.specs.declared.NamedAnswer.the-variants as namedAnswer
+use Rattle.views.specs.declared.TextAnswer.the-variants as textAnswer
 use Rattle.views.specs.declared.ListEntry.{ListEntry}
 use Rattle.views.specs.declared.EntryAnswer.the-variants as entry
 use Rattle.views.specs.declared.DefinitionView.{DefinitionView}
@@ -93,8 +93,8 @@ module _ (s t : Sections) where
   pub record SameOrigin (p q : Span) (k : ℕ) : Type 0 where
     pub draft : Span
     pub image : Span
-    pub drafted : listOrigin (listPart s p) (s .strings) k ≡ texted.Text draft
-    pub written : listOrigin (listPart t q) (t .strings) k ≡ texted.Text image
+    pub drafted : listOrigin (listPart s p) (s .strings) k ≡ textAnswer.Text draft
+    pub written : listOrigin (listPart t q) (t .strings) k ≡ textAnswer.Text image
     pub name : SameText draft image
 
   -- both are inside: as long, as many items and origins, the same ones
@@ -169,8 +169,8 @@ module _ (s t : Sections) where
       pub record SameNamed (k : ℕ) : Type 0 where
         pub draft : NamedChildView
         pub image : NamedChildView
-        pub drafted : namedQuery s i k ≡ entitled.Named draft
-        pub written : namedQuery t j k ≡ entitled.Named image
+        pub drafted : namedQuery s i k ≡ namedAnswer.Named draft
+        pub written : namedQuery t j k ≡ namedAnswer.Named image
         pub name : SameText (draft .name) (image .name)
         pub node : image .node ≡ newOf order (draft .node)
 
@@ -179,8 +179,8 @@ module _ (s t : Sections) where
     pub record SameNode (j : ℕ) : Type 0 where
       pub draft : NodeView
       pub image : NodeView
-      pub drafted : nodeView s (oldOf order j) ≡ viewed.View draft
-      pub written : nodeView t j ≡ viewed.View image
+      pub drafted : nodeView s (oldOf order j) ≡ nodeAnswer.View draft
+      pub written : nodeView t j ≡ nodeAnswer.View image
       pub parent : image .parent ≡ renumbered order (draft .parent)
       pub place : image .«child_index» ≡ draft .«child_index»
       pub kind : SameKind (draft .kind) (image .kind)
