@@ -1,3 +1,6 @@
 pub mod Numbers
 pub mod Rules
 pub mod Reached
+pub mod NodeTable
+pub mod EntryTables
+pub mod Row
