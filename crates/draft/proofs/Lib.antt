@@ -4,3 +4,4 @@ pub mod Reached
 pub mod NodeTable
 pub mod EntryTables
 pub mod Row
+pub mod Lent

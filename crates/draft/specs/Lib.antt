@@ -1,3 +1,4 @@
 pub mod Source
+pub mod Needs
 pub mod Draft
 pub mod Numbering
