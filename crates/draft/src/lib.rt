@@ -1,6 +1,7 @@
 // A draft: how its entries are read out of word slices, its rules, and the numbering of its nodes.
 pub mod source; // source.rt: a draft's words and entries
 pub mod tables; // tables.rt: row 19
+pub mod shape; // shape.rt: row 21
 
 ghost use mathlib.Core.Path.{_≡_};
 ghost use mathlib.Core.List.{[]};

@@ -1,6 +1,6 @@
 -- `draft::tables::tables_rule` meets its contract. Assumes nothing.
 use borrow.Author.Needs.{needs}
-use Rattle.draft.proofs.Row.{broken-entries, nodes-refused, children-refused, named-refused, definitions-refused, items-decide}
+use Rattle.draft.proofs.Row19.{broken-entries, nodes-refused, children-refused, named-refused, definitions-refused, items-decide}
 use Rattle.draft.proofs.tables.tables_rule.Statement.{statement}
 use Rattle.draft.proofs.tables.tables_rule.Tie as tie
 
