@@ -1,2 +1,4 @@
 pub mod Pairs
 pub mod Puts
+pub mod Reading
+pub mod Nodes

@@ -17,7 +17,7 @@ use Rattle.index.specs.Definitions.{itemsOf, itemTextOf}
 use Rattle.draft.specs.Numbering.{oldOf}
 use Rattle.encoder.specs.Strings.{textIf, listTexts, fieldTexts, nodeTexts, namedTexts, definitionTexts}
 use Rattle.encoder.specs.Ready.{textUses}
-use Rattle.uses.specs.Uses.{useIf, listItemPairs, listOriginPairs, listPairs, fieldPairs, nodePairs, namedPairs, definitionPairs, useWords}
+use Rattle.uses.specs.Uses.{useIf, listItemPairs, listOriginPairs, listPairs, fieldPairs, nodePairs, namedPairs, definitionPairs, allNodePairs, allNamedPairs, allDefinitionPairs, useWords}
 
 -- ---- words that say texts
 
@@ -57,6 +57,7 @@ module _ {strings : List ℕ} where
 
 module _ (s : Sections) where
   if-pairs : (at len : ℕ) → Pairs (s .strings) (useIf at len) (textIf s at len)
+  unfolding useIf
   if-pairs at len = go (absent at len)
     where
       go : (b : Bool) → Pairs (s .strings) (cond b [] (at ∷ len ∷ [])) (cond b [] (partAt (s .strings) at len ∷ []))
@@ -64,7 +65,7 @@ module _ (s : Sections) where
       go false = one none
 
   list-pairs : (at : ℕ) → Pairs (s .strings) (listPairs s at) (listTexts s at)
-  unfolding listPairs listTexts
+  unfolding listPairs listItemPairs listOriginPairs listTexts
   list-pairs at =
       pairs-append (pairs-join (listItems s at) _ _ (λ j. pairs-append (if-pairs (listItemWord s at j 0) (listItemWord s at j 1)) (one none)))
       (pairs-join (listOrigins s at) _ _ (λ j. one none))
@@ -104,7 +105,7 @@ module _ (s : Sections) where
   definition-pairs d = one (pairs-join (itemsOf s d) _ _ (λ j. one none))
 
   pub uses-pairs : (order : List ℕ) → Pairs (s .strings) (useWords s order) (textUses s order)
-  unfolding useWords
+  unfolding useWords allNodePairs allNamedPairs allDefinitionPairs
   uses-pairs order =
       pairs-append
       (pairs-append

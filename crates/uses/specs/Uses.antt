@@ -6,6 +6,7 @@ use mathlib.Core.Bool.{cond}
 use lib.ListN.{length, getD, take, drop}
 use Rattle.laws.specs.Counted.{joinOf, counted}
 use Rattle.laws.specs.Lists.{flatMap, lists}
+use Rattle.words.specs.Words.{wordAt}
 use Rattle.image.specs.Sections.{Sections, nodeCount, namedCount, definitionCount, itemCount, tagOf, f, absent, definitionWord, itemWord, sections}
 use Rattle.records.specs.Fields.{Field, text, optional, command, operator, node, optionalNode, container, optionalContainer, plain, atMost, children, named, payload, wrong}
 use Rattle.records.specs.Records.{fieldsAt, namedOf, listItems, listOrigins, listItemWord, listOriginWord, records}
@@ -13,18 +14,19 @@ use Rattle.tree.specs.Tree.{namedAt}
 use Rattle.index.specs.Definitions.{firstItem, itemsOf}
 use Rattle.draft.specs.Source.{draftOf}
 use Rattle.draft.specs.Numbering.{oldOf}
+use Rattle.encoder.specs.Ready.{textUses}
 
 -- a text that may be absent
-abbrev pub useIf : ℕ → ℕ → List ℕ
+unfoldable pub useIf : ℕ → ℕ → List ℕ
 useIf at len = cond (absent at len) [] (at ∷ len ∷ [])
 
 -- ---- the list whose payload starts at `at`
 
 -- item j: the origin, if it has one, then the name
-abbrev pub listItemPairs : Sections → ℕ → ℕ → List ℕ
+unfoldable pub listItemPairs : Sections → ℕ → ℕ → List ℕ
 listItemPairs s at j = useIf (listItemWord s at j 0) (listItemWord s at j 1) ++ (listItemWord s at j 2 ∷ listItemWord s at j 3 ∷ [])
 
-abbrev pub listOriginPairs : Sections → ℕ → ℕ → List ℕ
+unfoldable pub listOriginPairs : Sections → ℕ → ℕ → List ℕ
 listOriginPairs s at j = listOriginWord s at j 0 ∷ listOriginWord s at j 1 ∷ []
 
 -- in payload order
@@ -57,31 +59,41 @@ nodePairs s i = flatMap (fieldPairs s i) (fieldsAt s i)
 unfoldable pub namedPairs : Sections → ℕ → List ℕ
 namedPairs s i = joinOf (namedOf s i) (λ j. namedAt s i j 0 ∷ namedAt s i j 1 ∷ [])
 
--- the items of definition d
-abbrev pub itemPairs : Sections → ℕ → List ℕ
-itemPairs s d = joinOf (itemsOf s d) (λ j. itemWord s (firstItem s d + j) 0 ∷ itemWord s (firstItem s d + j) 1 ∷ [])
-
 -- definition d, then its items
 unfoldable pub definitionPairs : Sections → ℕ → List ℕ
-definitionPairs s d = (definitionWord s d 0 ∷ definitionWord s d 1 ∷ []) ++ itemPairs s d
+definitionPairs s d =
+    (definitionWord s d 0 ∷ definitionWord s d 1 ∷ [])
+    ++ joinOf (itemsOf s d) (λ j. itemWord s (firstItem s d + j) 0 ∷ itemWord s (firstItem s d + j) 1 ∷ [])
 
 -- ---- all of them: nodes, named entries, definitions with their items
 
+unfoldable pub allNodePairs : Sections → List ℕ → List ℕ
+allNodePairs s order = joinOf (nodeCount s) (λ j. nodePairs s (oldOf order j))
+
+unfoldable pub allNamedPairs : Sections → List ℕ → List ℕ
+allNamedPairs s order = joinOf (nodeCount s) (λ j. namedPairs s (oldOf order j))
+
+unfoldable pub allDefinitionPairs : Sections → List ℕ
+allDefinitionPairs s = joinOf (definitionCount s) (definitionPairs s)
+
 unfoldable pub useWords : Sections → List ℕ → List ℕ
-useWords s order =
-    joinOf (nodeCount s) (λ j. nodePairs s (oldOf order j))
-    ++ joinOf (nodeCount s) (λ j. namedPairs s (oldOf order j))
-    ++ joinOf (definitionCount s) (definitionPairs s)
+useWords s order = allNodePairs s order ++ allNamedPairs s order ++ allDefinitionPairs s
 
 -- as many texts, and one more a container, are no more than this
 abbrev pub usesMost : Sections → ℕ
 usesMost s = 2 * nodeCount s + namedCount s + definitionCount s + itemCount s + length (s .payload)
 
--- ---- words that lie among others
+-- ---- the same of words and bytes, as the code reads them
 
--- entries of three words, so many from the first on
-abbrev pub entryPairs : List ℕ → ℕ → ℕ → List ℕ
-entryPairs entries first count = joinOf count (λ j. getD entries ((first + j) * 3) 0 ∷ getD entries ((first + j) * 3 + 1) 0 ∷ [])
+-- origin j of those that begin at a byte
+unfoldable pub originPairs : List ℕ → ℕ → ℕ → List ℕ
+originPairs bytes first j = wordAt bytes (first + j * 8) ∷ wordAt bytes (first + j * 8 + 4) ∷ []
+
+-- entry j, counted from the first, of those of three words
+unfoldable pub entryPairs : List ℕ → ℕ → ℕ → List ℕ
+entryPairs entries first j = getD entries ((first + j) * 3) 0 ∷ getD entries ((first + j) * 3 + 1) 0 ∷ []
+
+-- ---- words that lie among others
 
 -- n words from `at` on
 abbrev pub wordsFrom : List ℕ → ℕ → ℕ → List ℕ
@@ -91,6 +103,10 @@ wordsFrom w at n = take n (drop at w)
 abbrev pub withWords : List ℕ → ℕ → List ℕ → List ℕ
 withWords w at ws = take at w ++ ws ++ drop (at + length ws) w
 
+-- words fit from `at` on
+pub record Room (ws w : List ℕ) (at : ℕ) : Type 0 where
+  pub fits : at + length ws ≤ length w
+
 -- words were written from `at` on, and end at r
 pub record Put (ws w₀ : List ℕ) (at : ℕ) (w : List ℕ) (r : ℕ) : Type 0 where
   pub end : r ≡ at + length ws
@@ -98,12 +114,18 @@ pub record Put (ws w₀ : List ℕ) (at : ℕ) (w : List ℕ) (r : ℕ) : Type 0
 
 -- ---- what is read of a draft
 
--- a draft that has a payload alone; nodes and a payload
+-- a draft that has a payload alone; nodes and a payload; nodes and named entries; definitions and items
 abbrev pub payloadOnly : List ℕ → Sections
 payloadOnly bytes = draftOf [] [] [] [] [] bytes []
 
 abbrev pub nodesOnly : List ℕ → List ℕ → Sections
 nodesOnly nodes bytes = draftOf nodes [] [] [] [] bytes []
+
+abbrev pub namedOnly : List ℕ → List ℕ → Sections
+namedOnly nodes entries = draftOf nodes [] entries [] [] [] []
+
+abbrev pub definitionsOnly : List ℕ → List ℕ → Sections
+definitionsOnly definitions items = draftOf [] [] [] definitions items [] []
 
 -- the list whose payload starts at `at` lies inside
 abbrev pub ListInside : Sections → ℕ → Type 0
@@ -114,7 +136,12 @@ pub record Readable (s : Sections) (order : List ℕ) : Type 0 where
   pub olds : (j : ℕ) → j < nodeCount s → oldOf order j < nodeCount s
   pub lists : (i : ℕ) → i < nodeCount s → tagOf s i ≡ 12 → ListInside s (f s i 0)
 
+-- the uses were written from `at` on, and r counts them
+pub record Collected (s : Sections) (order w₀ : List ℕ) (at : ℕ) (w : List ℕ) (r : ℕ) : Type 0 where
+  pub count : r ≡ length (textUses s order)
+  pub is : w ≡ withWords w₀ at (useWords s order)
+
 -- names on an `unfolding` line what a computation with this module needs
 unfoldable pub useds : Unit {0}
-unfolding listPairs fieldPairs namedPairs definitionPairs useWords records counted lists sections
+unfolding useIf listItemPairs listOriginPairs listPairs fieldPairs namedPairs definitionPairs allNodePairs allNamedPairs allDefinitionPairs useWords originPairs entryPairs records counted lists sections
 useds = tt

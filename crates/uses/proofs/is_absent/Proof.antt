@@ -1,15 +1,13 @@
+-- `uses::is_absent` meets its contract. Assumes nothing.
+use Rattle.uses.proofs.Reading.{there, second}
 use Rattle.uses.proofs.is_absent.Statement.{statement}
 use Rattle.uses.proofs.is_absent.Tie as tie
-use Rattle.uses.proofs.is_absent.Reads as reads
-use Rattle.uses.proofs.is_absent.Lts as lts
 
--- src/lib.rt:22:9
 returns : tie.Need-returns
-returns c = ?
+returns c = there (c .before .args .offset) (c .before .args .len) (c .if1 .taken)
 
--- src/lib.rt:18:1
 returns-2 : tie.Need-returns-2
-returns-2 c = ?
+returns-2 c = second (c .before .args .offset) (c .before .args .len) (c .if1 .left)
 
 pub is-absent-spec : {M : Type 1} → statement M
 is-absent-spec = tie.close (tie.spec returns returns-2)

@@ -1,42 +1,38 @@
+-- `uses::put_list_items` meets its contract. Assumes nothing.
+use Prim.Native.Nat.{_-_}
+use mathlib.Core.Path.{refl}
+use Rattle.uses.specs.Uses.{listItemPairs, payloadOnly}
+use Rattle.uses.proofs.Puts.{Going, going-start, going-room, going-next, going-end}
+use borrow.Author.Needs.{needs}
 use Rattle.uses.proofs.put_list_items.Statement.{statement}
 use Rattle.uses.proofs.put_list_items.Tie as tie
-use Rattle.uses.proofs.put_list_items.Reads as reads
-use Rattle.uses.proofs.put_list_items.Lts as lts
-use Rattle.uses.proofs.put_list_item.Reads as put-list-item-reads
 
 abbrev Inv-loop : tie.InvT-loop
-Inv-loop payload start count w₀ at k₀ j₀ w k j = ?
+Inv-loop payload start count w₀ at k₀ j₀ w k j = Going count (listItemPairs (payloadOnly payload) start) w₀ at w k j
 
 abbrev μ-loop : tie.MeasureT-loop
-μ-loop payload start count w₀ at k₀ j₀ w k j = ?
+μ-loop payload start count w₀ at k₀ j₀ w k j = count - j
 
--- src/lib.rt:71:5
 loop-holds : tie.Need-loop-holds Inv-loop μ-loop
-loop-holds c = ?
+loop-holds c = going-start _ _ _ _ (c .before .before .pre .1)
 
--- src/lib.rt:72:9
 put-list-item-requires : tie.Need-put-list-item-requires Inv-loop μ-loop
-put-list-item-requires c κs = ?
+put-list-item-requires c κs = (search needs, going-room _ _ _ _ _ _ _ (c .before .before .loop .inv) (c .before .loop-test .taken))
 
--- src/lib.rt:73:9
 add-j : tie.Need-add-j Inv-loop μ-loop
-add-j c = ?
+add-j c = search needs
 
--- src/lib.rt:71:5
 loop-less : tie.Need-loop-less Inv-loop μ-loop
-loop-less c = ?
+loop-less c = search needs
 
--- src/lib.rt:71:5
 loop-again : tie.Need-loop-again Inv-loop μ-loop
-loop-again c = ?
+loop-again c = going-next _ _ _ _ _ _ _ (c .before .before .before .before .before .loop .inv) _ _ _ (c .before .before .before .before .loop-test .taken) refl (c .before .before .put-list-item .ensures)
 
--- src/lib.rt:64:1
 same-length : tie.Need-same-length Inv-loop μ-loop
-same-length c = ?
+same-length c = search needs
 
--- src/lib.rt:64:1
 returns : tie.Need-returns Inv-loop μ-loop
-returns c = ?
+returns c = going-end _ _ _ _ _ _ _ (c .before .loop .inv) (c .loop-test .left)
 
 pub put-list-items-spec : {M : Type 1} → statement M
 put-list-items-spec =

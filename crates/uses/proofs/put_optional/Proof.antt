@@ -1,30 +1,24 @@
+-- `uses::put_optional` meets its contract. Assumes nothing.
+use mathlib.Core.List.{[]}
+use Rattle.uses.proofs.Puts.{put-none, put-same, room-same, if-none, if-some}
 use borrow.Author.Needs.{needs}
 use Rattle.uses.proofs.put_optional.Statement.{statement}
 use Rattle.uses.proofs.put_optional.Tie as tie
-use Rattle.uses.proofs.put_optional.Reads as reads
-use Rattle.uses.proofs.put_optional.Lts as lts
-use Rattle.uses.proofs.is_absent.Reads as is-absent-reads
-use Rattle.uses.proofs.put_use.Reads as put-use-reads
 
--- src/lib.rt:42:8
 is-absent-requires : tie.Need-is-absent-requires
 is-absent-requires c κs = search needs
 
--- src/lib.rt:43:9
 returns : tie.Need-returns
-returns c = ?
+returns c = put-same [] _ _ _ _ _ (if-none _ _ _ (c .before .is-absent .ensures) (c .if1 .taken)) (put-none _ _)
 
--- src/lib.rt:45:5
 put-use-requires : tie.Need-put-use-requires
-put-use-requires c κs = ?
+put-use-requires c κs = room-same _ _ _ _ (if-some _ _ _ (c .before .before .is-absent .ensures) (c .before .if1 .left)) (c .before .before .before .before .pre)
 
--- src/lib.rt:38:1
 same-length : tie.Need-same-length
 same-length c = search needs
 
--- src/lib.rt:38:1
 returns-2 : tie.Need-returns-2
-returns-2 c = ?
+returns-2 c = put-same _ _ _ _ _ _ (if-some _ _ _ (c .before .before .before .before .before .is-absent .ensures) (c .before .before .before .before .if1 .left)) (c .before .before .put-use .ensures)
 
 pub put-optional-spec : {M : Type 1} → statement M
 put-optional-spec =
