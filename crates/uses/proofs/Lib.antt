@@ -2,3 +2,4 @@ pub mod Pairs
 pub mod Puts
 pub mod Reading
 pub mod Nodes
+pub mod Collecting

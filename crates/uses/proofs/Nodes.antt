@@ -20,7 +20,7 @@ use Rattle.records.specs.Fields.{Kind, kinds, kindOf, fields}
 use Rattle.records.specs.Records.{listWord}
 use Rattle.records.proofs.ByKind.{past-kinds}
 use Rattle.draft.specs.Numbering.{oldOf}
-use Rattle.uses.specs.Uses.{useIf, listItemPairs, listOriginPairs, listPairs, fieldPairs, nodePairs, payloadOnly, nodesOnly, ListInside, Readable}
+use Rattle.uses.specs.Uses.{useIf, listItemPairs, listOriginPairs, listPairs, fieldPairs, nodePairs, payloadOnly, nodesOnly, ListInside, Olds, Readable}
 
 -- a number below a count of nodes is an entry of their words
 pub node-fits : (nodes : List ℕ) (i : ℕ) → i < length nodes / 10 → i * 10 + 10 ≤ length nodes
@@ -156,9 +156,9 @@ module _ (nodes bytes : List ℕ) (i : ℕ) (r : NodeRecord) (e : r ≡ recordOf
 module _ (nodes bytes order : List ℕ) (read : Readable (nodesOnly nodes bytes) order) (i j : ℕ) (h : j < length nodes / 10) (e : i ≡ oldOf order j) where
   pub node-needs : {R : Type 0} → R → (i * 10 + 10 ≤ length nodes) × ((tagOf (nodesOnly nodes bytes) i ≡ 12 → ListInside (nodesOnly nodes bytes) (f (nodesOnly nodes bytes) i 0)) × R)
   node-needs r =
-      let below : i < length nodes / 10 = omega (arith, read .olds j h) in
+      let below : i < length nodes / 10 = omega (arith, read .olds .below j h) in
       (node-fits nodes i below, (λ t. read .lists i below t, r))
 
-module _ (nodes order : List ℕ) (olds : (j : ℕ) → j < length nodes / 10 → oldOf order j < length nodes / 10) (i j : ℕ) (h : j < length nodes / 10) (e : i ≡ oldOf order j) where
+module _ (nodes order : List ℕ) (olds : Olds (length nodes / 10) order) (i j : ℕ) (h : j < length nodes / 10) (e : i ≡ oldOf order j) where
   pub container-needs : {R : Type 0} → R → (i * 10 + 10 ≤ length nodes) × R
-  container-needs r = (node-fits nodes i (omega (arith, olds j h)), r)
+  container-needs r = (node-fits nodes i (omega (arith, olds .below j h)), r)

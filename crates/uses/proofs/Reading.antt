@@ -48,7 +48,7 @@ module _ (bytes : List ℕ) (first j : ℕ) where
   unfolding originPairs
   origin-is x y p q = λ i. p i ∷ q i ∷ []
 
-join-same : (n : ℕ) (g h : ℕ → List ℕ) → ((j : ℕ) → g j ≡ h j) → joinOf n g ≡ joinOf n h
+pub join-same : (n : ℕ) (g h : ℕ → List ℕ) → ((j : ℕ) → g j ≡ h j) → joinOf n g ≡ joinOf n h
 unfolding joinOf
 join-same zero g h e = refl
 join-same (suc n) g h e = rw (join-same n g h e, e n) refl

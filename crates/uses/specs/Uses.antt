@@ -1,5 +1,5 @@
 -- The words of every text of a draft, in the order of use: two words a use, its offset and its length. Assumes nothing.
-use Prim.Native.Nat.{ℕ, _+_, _*_, _≤_, _<_}
+use Prim.Native.Nat.{ℕ, _+_, _*_, _/_, _≤_, _<_}
 use mathlib.Core.Path.{_≡_}
 use mathlib.Core.List.{List, [], _∷_, _++_}
 use mathlib.Core.Bool.{cond}
@@ -131,10 +131,20 @@ definitionsOnly definitions items = draftOf [] [] [] definitions items [] []
 abbrev pub ListInside : Sections → ℕ → Type 0
 ListInside s at = at + 8 + listItems s at * 20 + listOrigins s at * 8 ≤ length (s .payload)
 
+-- the numbers of n nodes are below n
+pub record Olds (n : ℕ) (order : List ℕ) : Type 0 where
+  pub below : (j : ℕ) → j < n → oldOf order j < n
+
 -- the numbers are nodes, and the lists lie inside
 pub record Readable (s : Sections) (order : List ℕ) : Type 0 where
-  pub olds : (j : ℕ) → j < nodeCount s → oldOf order j < nodeCount s
+  pub olds : Olds (nodeCount s) order
   pub lists : (i : ℕ) → i < nodeCount s → tagOf s i ≡ 12 → ListInside s (f s i 0)
+
+-- what is asked of the work words and the draft: the numbers of the nodes lie from `order` on, and the uses have room below them
+pub record Collectable (nodes entries definitions items bytes w : List ℕ) (order at : ℕ) : Type 0 where
+  pub read : Readable (nodesOnly nodes bytes) (wordsFrom w order (length nodes / 10))
+  pub numbers : order + length nodes / 10 ≤ length w
+  pub below : at + length (useWords (draftOf nodes [] entries definitions items bytes []) (wordsFrom w order (length nodes / 10))) ≤ order
 
 -- the uses were written from `at` on, and r counts them
 pub record Collected (s : Sections) (order w₀ : List ℕ) (at : ℕ) (w : List ℕ) (r : ℕ) : Type 0 where

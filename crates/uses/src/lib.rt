@@ -1,13 +1,12 @@
 // The texts of a draft in the order of use, as words: two a use, its offset and its length.
 ghost use mathlib.Core.Path.{_≡_};
 ghost use mathlib.Core.List.{List, [], _∷_, _++_};
-ghost use Prim.Native.Nat.{ℕ, _+_, _*_, _/_, _≤_, _<_};
+ghost use Prim.Native.Nat.{ℕ, _+_, _*_, _/_, _≤_};
 ghost use lib.ListN.{length};
 ghost use Rattle.laws.specs.Counted.{joinOf};
 ghost use Rattle.image.specs.Sections.{absent, tagOf, f};
 ghost use Rattle.draft.specs.Source.{draftOf};
-ghost use Rattle.draft.specs.Numbering.{oldOf};
-ghost use Rattle.uses.specs.Uses.{useIf, listItemPairs, listPairs, nodePairs, namedPairs, definitionPairs, allNodePairs, allNamedPairs, allDefinitionPairs, useWords, originPairs, entryPairs, wordsFrom, Room, Put, payloadOnly, nodesOnly, namedOnly, definitionsOnly, ListInside, Readable, Collected};
+ghost use Rattle.uses.specs.Uses.{useIf, listItemPairs, listPairs, nodePairs, namedPairs, definitionPairs, allNodePairs, allNamedPairs, allDefinitionPairs, originPairs, entryPairs, wordsFrom, Room, Put, payloadOnly, nodesOnly, namedOnly, definitionsOnly, ListInside, Olds, Readable, Collectable, Collected};
 use draft::source::definition_at;
 use draft::source::node_at;
 use draft::source::word;
@@ -113,7 +112,14 @@ fn put_divert(w: &mut [u32], at: usize, path: u32, path_len: u32, name: u32, nam
 }
 
 // Of a reference: its name, and its path, which may be absent.
-fn put_reference(w: &mut [u32], at: usize, name: u32, name_len: u32, path: u32, path_len: u32) -> usize
+fn put_reference(
+    w: &mut [u32],
+    at: usize,
+    name: u32,
+    name_len: u32,
+    path: u32,
+    path_len: u32,
+) -> usize
     requires { ⌜ Room ((name ∷ «name_len» ∷ []) ++ useIf path «path_len») (now w) at ⌝ }
     ensures { λ r. ⌜ Put ((name ∷ «name_len» ∷ []) ++ useIf path «path_len») (now (w .entry)) at (now (w .exit)) r ⌝ }
 {
@@ -194,7 +200,7 @@ fn put_container(nodes: &[u32], i: usize, named: &[u32], w: &mut [u32], at: usiz
 
 // Of the named entries of all nodes, in the image's order.
 fn put_named(nodes: &[u32], named: &[u32], w: &mut [u32], order: usize, at: usize) -> usize
-    requires { ⌜ ((j : ℕ) → j < length (now nodes) / 10 → oldOf (wordsFrom (now w) order (length (now nodes) / 10)) j < length (now nodes) / 10) ⌝ }
+    requires { ⌜ Olds (length (now nodes) / 10) (wordsFrom (now w) order (length (now nodes) / 10)) ⌝ }
     requires { ⌜ order + length (now nodes) / 10 ≤ length (now w) ⌝ }
     requires { ⌜ at + length (allNamedPairs (namedOnly (now nodes) (now named)) (wordsFrom (now w) order (length (now nodes) / 10))) ≤ order ⌝ }
     ensures { λ r. ⌜ Put (allNamedPairs (namedOnly (now (nodes .entry)) (now (named .entry))) (wordsFrom (now (w .entry)) order (length (now (nodes .entry)) / 10))) (now (w .entry)) at (now (w .exit)) r ⌝ }
@@ -248,9 +254,7 @@ pub fn collect(
     order: usize,
     at: usize,
 ) -> usize
-    requires { ⌜ Readable (nodesOnly (now nodes) (now payload)) (wordsFrom (now w) order (length (now nodes) / 10)) ⌝ }
-    requires { ⌜ order + length (now nodes) / 10 ≤ length (now w) ⌝ }
-    requires { ⌜ at + length (useWords (draftOf (now nodes) [] (now named) (now definitions) (now items) (now payload) []) (wordsFrom (now w) order (length (now nodes) / 10))) ≤ order ⌝ }
+    requires { ⌜ Collectable (now nodes) (now named) (now definitions) (now items) (now payload) (now w) order at ⌝ }
     ensures { λ r. ⌜ ((children strings : List ℕ) → Collected (draftOf (now (nodes .entry)) children (now (named .entry)) (now (definitions .entry)) (now (items .entry)) (now (payload .entry)) strings) (wordsFrom (now (w .entry)) order (length (now (nodes .entry)) / 10)) (now (w .entry)) at (now (w .exit)) r) ⌝ }
 {
     let behind_nodes = put_nodes(nodes, payload, w, order, at);

@@ -32,7 +32,7 @@ cast-i : tie.Need-cast-i Inv-loop μ-loop
 cast-i c = omega (arith, c .slice-known2 .given (c .before .before .before .before .before .before .args .order + c .before .before .loop .j))
 
 put-container-requires : tie.Need-put-container-requires Inv-loop μ-loop
-put-container-requires c κs = container-needs  _ _ (c .before .before .before .before .before .before .before .pre .0) _ _ (c .before .before .loop-test .taken) (old-read _ _ _ _ _ _ _ _ (c .before .before .before .loop .inv) (c .before .before .loop-test .taken)) (ordered-room _ _ _ _ _ _ _ _ (c .before .before .before .loop .inv) (c .before .before .loop-test .taken))
+put-container-requires c κs = container-needs (c .before .before .before .before .before .before .before .args .nodes .now) _ (c .before .before .before .before .before .before .before .pre .0) _ _ (c .before .before .loop-test .taken) (old-read _ _ _ _ _ _ _ _ (c .before .before .before .loop .inv) (c .before .before .loop-test .taken)) (ordered-room _ _ _ _ _ _ _ _ (c .before .before .before .loop .inv) (c .before .before .loop-test .taken))
 
 add-j : tie.Need-add-j Inv-loop μ-loop
 add-j c = search needs
