@@ -1,4 +1,4 @@
--- Sums, and where the parts of a joined list stand. Assumes nothing.
+-- Every element of a list, sums, and where the parts of a joined list stand. Assumes nothing.
 use Prim.Native.Nat.{ℕ, zero, suc, _+_, _*_, _≤_, _<_}
 use mathlib.Core.Path.{_≡_, refl, sym, ap, _∙_, subst}
 use mathlib.Core.List.{List, [], _∷_, _++_}
@@ -8,7 +8,19 @@ use native.Mathlib.Decide.{ℕ-discrete}
 use lib.ListN.{length, getD, take, drop, length-append, length-drop, List·getD-append}
 use lib.Seq.{getD-append-add, take-append-le, drop-append-le, drop-at, take-length}
 use Rattle.laws.specs.Counted.{sumOf, joinOf}
-use Rattle.tree.proofs.Members.{sum-ext}
+use Rattle.tree.proofs.Members.{All, sum-ext}
+
+-- ---- every element
+
+pub all-get : (P : ℕ → Type 0) (xs : List ℕ) (k : ℕ) → All P xs → P 0 → P (getD xs k 0)
+all-get P [] k a z = z
+all-get P (x ∷ xs) zero a z = a .0
+all-get P (x ∷ xs) (suc k) a z = all-get P xs k (a .1) z
+
+pub all-nth : (P : ℕ → Type 0) (xs : List ℕ) (k : ℕ) → k < length xs → All P xs → P (getD xs k 0)
+all-nth P [] k h a = absurd (not-suc-le-zero h)
+all-nth P (x ∷ xs) zero h a = a .0
+all-nth P (x ∷ xs) (suc k) h a = all-nth P xs k (omega arith) (a .1)
 
 -- ---- sums
 

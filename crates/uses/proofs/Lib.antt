@@ -3,3 +3,6 @@ pub mod Puts
 pub mod Reading
 pub mod Nodes
 pub mod Collecting
+pub mod Fits
+pub mod Sums
+pub mod Bounds

@@ -26,10 +26,10 @@ pub data Pairs (strings : List ℕ) : List ℕ → List (List ℕ) → Type 0 wh
   one : {at len : ℕ} {ws : List ℕ} {ts : List (List ℕ)} → Pairs strings ws ts → Pairs strings (at ∷ len ∷ ws) (partAt strings at len ∷ ts)
 
 -- a pair further on
-further : (a b k : ℕ) (ws : List ℕ) → getD (a ∷ b ∷ ws) (suc k + suc k) 0 ≡ getD ws (k + k) 0
+pub further : (a b k : ℕ) (ws : List ℕ) → getD (a ∷ b ∷ ws) (suc k + suc k) 0 ≡ getD ws (k + k) 0
 further a b k ws = let e : suc k + suc k ≡ suc (suc (k + k)) = omega arith in ap (λ (m : ℕ). getD (a ∷ b ∷ ws) m 0) e
 
-further-length : (a b k : ℕ) (ws : List ℕ) → getD (a ∷ b ∷ ws) (suc k + suc k + 1) 0 ≡ getD ws (k + k + 1) 0
+pub further-length : (a b k : ℕ) (ws : List ℕ) → getD (a ∷ b ∷ ws) (suc k + suc k + 1) 0 ≡ getD ws (k + k + 1) 0
 further-length a b k ws = let e : suc k + suc k + 1 ≡ suc (suc (k + k + 1)) = omega arith in ap (λ (m : ℕ). getD (a ∷ b ∷ ws) m 0) e
 
 module _ {strings : List ℕ} where

@@ -22,8 +22,8 @@ use Rattle.draft.specs.Numbering.{oldOf, newOf}
 use Rattle.encoder.specs.Written.{fieldStart, fieldWords, putFields, moreWords, nodeOut, startIn}
 use Rattle.written.specs.Written.{DraftWords}
 use Rattle.tree.proofs.Members.{both-true, and-true, sum-ext}
-use Rattle.encoder.proofs.Joined.{sum-below}
-use Rattle.written.proofs.Lists.{not-of, all-get}
+use Rattle.encoder.proofs.Joined.{all-get, sum-below}
+use Rattle.written.proofs.Lists.{not-of}
 use Rattle.draft.proofs.Numbers.{place-get, get-place}
 use Rattle.written.proofs.Header.{image-length}
 use Rattle.written.proofs.Draft.{Taken, Numbered}

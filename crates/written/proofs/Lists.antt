@@ -5,8 +5,7 @@ use mathlib.Core.Logic.{⊎-elim}
 use mathlib.Core.List.{List, [], _∷_, List·Memᴰ·cases-cons, List·Memᴰ·not-nil}
 use mathlib.Core.Bool.{Bool, true, false, _||_, not, false≢true}
 use native.Mathlib.Omega.{arith}
-use native.Mathlib.Nat.{not-suc-le-zero}
-use lib.ListN.{length, getD, set}
+use lib.ListN.{set}
 use lib.Seq.{sets}
 use Rattle.laws.specs.Counted.{joinOf}
 use Rattle.laws.specs.Lists.{Below}
@@ -27,16 +26,6 @@ pub all-joined : (P : ℕ → Type 0) (n : ℕ) (g : ℕ → List ℕ) → ((j :
 unfolding joinOf
 all-joined P zero g h = tt
 all-joined P (suc n) g h = all-append P (joinOf n g) (g n) (all-joined P n g (λ j k. h j (omega arith))) (h n (omega arith))
-
-pub all-get : (P : ℕ → Type 0) (xs : List ℕ) (k : ℕ) → All P xs → P 0 → P (getD xs k 0)
-all-get P [] k a z = z
-all-get P (x ∷ xs) zero a z = a .0
-all-get P (x ∷ xs) (suc k) a z = all-get P xs k (a .1) z
-
-pub all-nth : (P : ℕ → Type 0) (xs : List ℕ) (k : ℕ) → k < length xs → All P xs → P (getD xs k 0)
-all-nth P [] k h a = absurd (not-suc-le-zero h)
-all-nth P (x ∷ xs) zero h a = a .0
-all-nth P (x ∷ xs) (suc k) h a = all-nth P xs k (omega arith) (a .1)
 
 all-set : (P : ℕ → Type 0) (xs : List ℕ) (k v : ℕ) → All P xs → P v → All P (set xs k v)
 all-set P [] k v a p = tt
