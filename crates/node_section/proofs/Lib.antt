@@ -1,0 +1,3 @@
+pub mod ByTag
+pub mod Made
+pub mod Counting
