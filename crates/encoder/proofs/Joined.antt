@@ -45,7 +45,7 @@ sum-below k (suc n) g h =
 
 -- ---- joined parts
 
-pub join-length : (n : ℕ) (g : ℕ → List ℕ) → length (joinOf n g) ≡ sumOf n (λ j. length (g j))
+pub join-length : {X : Type 0} (n : ℕ) (g : ℕ → List X) → length (joinOf n g) ≡ sumOf n (λ j. length (g j))
 unfolding joinOf sumOf
 join-length zero g = refl
 join-length (suc n) g = rw (length-append, join-length n g) refl
@@ -68,23 +68,23 @@ join-part (suc n) k g h =
     ]
 
 -- element k of part j
-join-at : (n j k : ℕ) (g : ℕ → List ℕ) → j < n → k < length (g j) → getD (joinOf n g) (sumOf j (λ m. length (g m)) + k) 0 ≡ getD (g j) k 0
+pub join-at : {X : Type 0} (z : X) (n j k : ℕ) (g : ℕ → List X) → j < n → k < length (g j) → getD (joinOf n g) (sumOf j (λ m. length (g m)) + k) z ≡ getD (g j) k z
 unfolding joinOf
-join-at zero j k g h q = absurd (not-suc-le-zero h)
-join-at (suc n) j k g h q =
+join-at z zero j k g h q = absurd (not-suc-le-zero h)
+join-at z (suc n) j k g h q =
     elim (ℕ-discrete j n) [
-      | yes e ↦ subst (λ (m : ℕ). getD (joinOf n g ++ g n) (sumOf m (λ i. length (g i)) + k) 0 ≡ getD (g m) k 0) (sym e)
-          (rw (← join-length n g) (getD-append-add (joinOf n g) (g n) k 0))
+      | yes e ↦ subst (λ (m : ℕ). getD (joinOf n g ++ g n) (sumOf m (λ i. length (g i)) + k) z ≡ getD (g m) k z) (sym e)
+          (rw (← join-length n g) (getD-append-add (joinOf n g) (g n) k z))
       | no d ↦
           let below = sum-below j n (λ m. length (g m)) (omega arith) in
           let whole = join-length n g in
-          List·getD-append (joinOf n g) (g n) 0 (sumOf j (λ m. length (g m)) + k) (omega arith) ∙ join-at n j k g (omega arith) q
+          List·getD-append (joinOf n g) (g n) z (sumOf j (λ m. length (g m)) + k) (omega arith) ∙ join-at z n j k g (omega arith) q
     ]
 
 -- the same, where the parts' lengths are known
 module _ (n : ℕ) (g : ℕ → List ℕ) (len : ℕ → ℕ) (e : (m : ℕ) → m < n → length (g m) ≡ len m) where
   pub join-read : (j k : ℕ) → j < n → k < len j → getD (joinOf n g) (sumOf j len + k) 0 ≡ getD (g j) k 0
-  join-read j k h q = rw (sym (sum-ext j (λ m. length (g m)) len (λ m i. e m (omega arith)))) (join-at n j k g h (omega (arith, e j h)))
+  join-read j k h q = rw (sym (sum-ext j (λ m. length (g m)) len (λ m i. e m (omega arith)))) (join-at 0 n j k g h (omega (arith, e j h)))
 
   pub join-len : length (joinOf n g) ≡ sumOf n len
   join-len = join-length n g ∙ sum-ext n (λ m. length (g m)) len e

@@ -9,7 +9,7 @@ use lib.Seq.{take-suc, take-all, take-at, drop-append-add, drop-drop, length-tak
 use Rattle.laws.specs.Counted.{joinOf}
 use Rattle.words.specs.Words.{bytes4, bytesOf}
 use Rattle.words.proofs.Words.{length-bytes, bytes-append}
-use Rattle.outputs.specs.Output.{putAt}
+use Rattle.outputs.specs.Output.{putAt, over}
 
 -- from an offset on the output holds `done`, and is otherwise as it was
 pub record Filled (at : ℕ) (done out₀ out : List ℕ) : Type 0 where
@@ -104,7 +104,7 @@ put-is at ws out₀ out f =
     rw z at (f .is)
 
 -- and at the start of the output
-pub front-is : (done out₀ out : List ℕ) → Filled 0 done out₀ out → out ≡ done ++ drop (length done) out₀
+pub front-is : (done out₀ out : List ℕ) → Filled 0 done out₀ out → out ≡ over done out₀
 front-is done out₀ out f =
     let z : 0 + length done ≡ length done = omega arith in
     rw z at (f .is)

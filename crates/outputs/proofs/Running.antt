@@ -1,15 +1,15 @@
 -- A section of n entries that is written entry by entry, from a base on: the invariant of its loop. Assumes nothing.
 use Prim.Native.Nat.{ℕ, zero, suc, _+_, _*_, _≤_, _<_}
 use mathlib.Core.Path.{_≡_, refl, ap}
-use mathlib.Core.List.{List, _++_}
+use mathlib.Core.List.{List, [], _∷_, _++_}
 use native.Mathlib.Omega.{arith}
 use native.Mathlib.Nat.{not-suc-le-zero}
 use native.Mathlib.Numerals.{add-one}
 use native.Mathlib.Decide.{ℕ-discrete}
-use lib.ListN.{length, drop, length-append}
+use lib.ListN.{length, take, drop, length-append}
 use Rattle.laws.specs.Counted.{joinOf}
-use Rattle.words.specs.Words.{bytesOf}
-use Rattle.outputs.specs.Output.{putAt}
+use Rattle.words.specs.Words.{bytes4, bytesOf}
+use Rattle.outputs.specs.Output.{putAt, over}
 use Rattle.outputs.proofs.Filled.{FilledWords, start, more-joined, put-is, front-is}
 
 pub join-longer : (j : ℕ) (g : ℕ → List ℕ) → length (joinOf (j + 1) g) ≡ length (joinOf j g) + length (g j)
@@ -68,5 +68,16 @@ module _ (base n : ℕ) (g : ℕ → List ℕ) (out₀ : List ℕ) where
 
 -- a section that begins where the output does
 pub run-front : (n : ℕ) (g : ℕ → List ℕ) (out₀ out : List ℕ) (j at : ℕ) → Running 0 n g out₀ out j at → n ≤ j
-    → out ≡ bytesOf (joinOf n g) ++ drop (length (bytesOf (joinOf n g))) out₀
+    → out ≡ over (bytesOf (joinOf n g)) out₀
 run-front n g out₀ out j at r h = let e : j ≡ n = omega arith in front-is (bytesOf (joinOf n g)) out₀ out (rw e at (r .filled))
+
+-- ---- entries of one word
+
+module _ (base n : ℕ) (x : ℕ → ℕ) (out₀ out : List ℕ) (j at : ℕ) (r : Running base n (λ m. x m ∷ []) out₀ out j at) where
+  pub word-room : j < n → at + 4 ≤ length out
+  word-room h = run-room base n (λ m. x m ∷ []) out₀ out j at r h
+
+  pub word-next : (v : ℕ) (out′ : List ℕ) → j < n → v ≡ x j → out′ ≡ take at out ++ bytes4 v ++ drop (at + 4) out
+      → Running base n (λ m. x m ∷ []) out₀ out′ (j + 1) (at + 4)
+  unfolding bytesOf
+  word-next v out′ h e q = run-next base n (λ m. x m ∷ []) out₀ out j at r (v ∷ []) out′ (at + 4) h (ap (λ (y : ℕ). y ∷ []) e) q refl

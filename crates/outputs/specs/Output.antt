@@ -7,3 +7,7 @@ use Rattle.words.specs.Words.{bytesOf}
 -- the bytes with those of words from an offset on
 abbrev pub putAt : List ℕ → ℕ → List ℕ → List ℕ
 putAt out at ws = take at out ++ bytesOf ws ++ drop (at + 4 * length ws) out
+
+-- bytes over the start of an output
+abbrev pub over : List ℕ → List ℕ → List ℕ
+over bs out = bs ++ drop (length bs) out
