@@ -1,0 +1,4 @@
+pub mod ByTag
+pub mod Made
+pub mod Counting
+pub mod Fielded
