@@ -26,7 +26,7 @@ use Rattle.encoder.specs.Encode.{imageFor}
 use Rattle.encoder.proofs.Joined.{join-length, join-len, even-len, all-get}
 use Rattle.encoder.proofs.Blocks.{w, nodes-length, child-count, named-whole, definitions-whole, items-whole, index-whole}
 use Rattle.uses.proofs.Sums.{sum-ordered}
-use Rattle.fill.specs.Length.{containerCount, storedBytes, imageLength}
+use Rattle.fill.specs.Length.{storedBytes, imageLength}
 
 -- ---- the header
 
@@ -52,6 +52,10 @@ list-length s order kept at =
     )
 
 -- ---- the sections of a draft whose tables are right and whose nodes are all reached
+
+-- the image's containers
+abbrev containerCount : Sections → ℕ
+containerCount s = length (byPath s (numbering s))
 
 pub record Sized (s v : Sections) : Type 0 where
   pub wide : v .stride ≡ nodeWords
