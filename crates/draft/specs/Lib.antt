@@ -1,3 +1,5 @@
 pub mod Source
+pub mod Needs
 pub mod Draft
+pub mod Shown
 pub mod Numbering

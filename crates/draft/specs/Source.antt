@@ -1,8 +1,11 @@
 -- A draft's sections, out of its words and bytes: a draft has no index. Assumes nothing.
 use Prim.Native.Nat.{ℕ}
+use mathlib.Core.Path.{_≡_}
 use mathlib.Core.List.{List, []}
 use Rattle.image.specs.Header.{nodeWords}
 use Rattle.image.specs.Sections.{Sections}
+use Rattle.records.specs.declared.Counts.{Counts}
+use Rattle.records.specs.Shown.{countsOf}
 
 abbrev pub draftOf : List ℕ → List ℕ → List ℕ → List ℕ → List ℕ → List ℕ → List ℕ → Sections
 draftOf nodes children named definitions items payload strings =
@@ -17,3 +20,11 @@ draftOf nodes children named definitions items payload strings =
       payload = payload;
       strings = strings;
     }
+
+-- sections whose nodes, payload and strings are these, with their counts
+pub record NodesFrom (s : Sections) (nodes payload strings : List ℕ) (c : Counts) : Type 0 where
+  pub stride : s .stride ≡ nodeWords
+  pub nodes-are : s .nodes ≡ nodes
+  pub payload-is : s .payload ≡ payload
+  pub strings-are : s .strings ≡ strings
+  pub counts : c ≡ countsOf s

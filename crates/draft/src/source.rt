@@ -3,7 +3,11 @@ ghost use mathlib.Core.Path.{_≡_};
 ghost use Prim.Native.Nat.{_+_, _*_, _≤_};
 ghost use lib.ListN.{length, getD};
 ghost use Rattle.image.specs.Entries.{recordOf, textEntryOf, definitionOf};
+ghost use mathlib.Core.List.{[]};
+ghost use Rattle.records.specs.Shown.{insideAmong, tagIn};
+ghost use Rattle.draft.specs.Source.{draftOf};
 use image::Definition;
+use image::NONE;
 use image::NodeRecord;
 use image::TextEntry;
 
@@ -58,5 +62,27 @@ pub fn definition_at(definitions: &[u32], j: usize) -> Definition
         len: definitions[at + 1],
         first: definitions[at + 2],
         count: definitions[at + 3],
+    }
+}
+
+// Whether the word is a node's number, among so many nodes; NONE never is.
+pub fn is_node(nodes: usize, n: u32) -> bool
+    ensures { λ r. ⌜ r ≡ insideAmong nodes n ⌝ }
+{
+    if n == NONE {
+        false
+    } else {
+        (n as usize) < nodes
+    }
+}
+
+// The tag of node `n`, 0 where there is no such node.
+pub fn tag_at(nodes: &[u32], n: u32) -> u32
+    ensures { λ r. ⌜ r ≡ tagIn (draftOf (now (nodes .entry)) [] [] [] [] [] []) n ⌝ }
+{
+    if is_node(nodes.len() / 10, n) {
+        word(nodes, n as usize * 10 + 2)
+    } else {
+        0
     }
 }

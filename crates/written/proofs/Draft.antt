@@ -1,28 +1,26 @@
 -- What the rules say of a draft that the writer takes, and of its numbering. Assumes nothing.
-use Prim.Native.Nat.{ℕ, zero, _%_, _≤_, _<_}
-use mathlib.Core.Path.{_≡_, refl, ap, _∙_}
-use mathlib.Core.List.{List, [], _∷_, reverse, reverse-append}
-use mathlib.Core.Bool.{true, _&&_, not}
-use native.Mathlib.Omega.{arith}
-use lib.ListN.{length, getD, length-reverse}
-use lib.Dec.{eqb, leb}
-use borrow.Author.Tests.{eqb-false, leb-true, not-true}
+use Prim.Native.Nat.{ℕ, zero, _≤_, _<_}
+use mathlib.Core.Path.{_≡_}
+use mathlib.Core.Bool.{true}
+use lib.ListN.{length}
+use lib.Dec.{leb}
+use borrow.Author.Tests.{leb-true}
 use Rattle.laws.specs.Lists.{has}
-use Rattle.laws.proofs.First.{both, passed, as-zero, first-all}
+use Rattle.laws.proofs.First.{both, passed, first-all}
 use Rattle.words.specs.Words.{NONE}
 use Rattle.texts.specs.Text.{rising}
 use Rattle.image.specs.Sections.{Sections, nodeCount, definitionCount, itemCount}
 use Rattle.image.specs.Header.{inkRight}
 use Rattle.records.specs.Records.{fieldsRule, parentRule, rootRight, usedUp}
-use Rattle.tree.specs.Tree.{entriesRule, readWalk, allSeen}
+use Rattle.tree.specs.Tree.{entriesRule, readWalk}
+use Rattle.tree.proofs.Members.{both-true}
 use Rattle.index.specs.Definitions.{goodDefinition, goodItem, itemsRight, itemsOf, itemsUsedUp, definitionText, itemTextOf}
-use Rattle.draft.specs.Draft.{wholeEntries, draftNodeRule, draftDefinitionRule, draftItemRule, tablesRule, reachRule, relationRule, orderRule, shapeRule, newPath, pathRule, pathsRule}
+use Rattle.draft.specs.Draft.{newPath, pathRule, pathsRule, tablesRule, reachRule, shapeRule}
 use Rattle.draft.specs.Numbering.{numbering}
+use Rattle.draft.proofs.Rules.{tables, shape}
+use Rattle.draft.proofs.Reached.{reached, numbered as draft-numbered}
 use Rattle.encoder.specs.Encode.{imageFor, draftRule, encodeRule}
-use Rattle.tree.proofs.Members.{both-true, All, all-of, all-reverse, has-reverse, Distinct, pigeon, cover}
-use Rattle.tree.proofs.Entries.{entries-inside, counts}
-use Rattle.tree.proofs.Numbers.{read-distinct, read-inside, read-first}
-use Rattle.written.proofs.Numbers.{distinct-reverse}
+pub use Rattle.draft.proofs.Reached.{Numbered}
 
 pub record Taken (s : Sections) : Type 0 where
   pub some : zero < nodeCount s
@@ -48,77 +46,35 @@ module _ (ink : ℕ) (s : Sections) (work room : ℕ) (p : encodeRule ink s work
   unfolding encodeRule
   image-fits = leb-true _ _ (both-true (leb (length (imageFor ink s)) room) _ (passed _ 22 (both _ _ p .1)) .1)
 
-  some-node : wholeEntries s ≡ true → not (eqb (nodeCount s) 0) ≡ true
-  unfolding wholeEntries
-  some-node h =
-      both-true (eqb (length (s .nodes) % s .stride) 0 && eqb (length (s .named) % 3) 0 && eqb (length (s .definitions) % 4) 0 && eqb (length (s .items) % 3) 0) _ h .1
-
-  pub taken : Taken s
-  unfolding encodeRule draftRule tablesRule draftNodeRule draftDefinitionRule draftItemRule reachRule allSeen shapeRule relationRule orderRule pathsRule pathRule
-  taken =
+  -- the rules 19 to 22, one by one
+  drafted : (tablesRule s ≡ 0) × (reachRule s ≡ 0) × (shapeRule s ≡ 0) × (pathsRule s ≡ 0)
+  unfolding encodeRule draftRule
+  drafted =
       let after-ink = both _ _ (both _ _ p .0) .1 in
       let after-tables = both _ _ (both _ _ after-ink .1) .1 in
-      let after-reach = both _ _ after-tables .1 in
-      -- 19: whole entries, nodes, leftovers, children, named, definitions, items used up, items
-      let table = both _ _ (both _ _ after-ink .0) in
-      let t1 = both _ _ (table .1) in
-      let t5 = both _ _ (both _ _ (both _ _ (both _ _ (t1 .1) .1) .1) .1) in
-      let t6 = both _ _ (t5 .1) in
-      -- 21: the root, nodes, definitions
-      let shape = both _ _ (both _ _ after-reach .0) in
-      let relation : (i : ℕ) → i < nodeCount s → (parentRule s i ≡ 0) × (entriesRule s i ≡ 0) =
-      λ i h. let q = both _ _ (first-all _ _ (both _ _ (shape .1) .0) i h) in (as-zero 20 _ (q .0), as-zero 20 _ (q .1)) in
+      let after-reach = both _ _ (both _ _ after-tables .1) in
+      (both _ _ after-ink .0, both _ _ after-tables .0, after-reach .0, after-reach .1)
+
+  pub taken : Taken s
+  unfolding pathsRule pathRule
+  taken =
+      let t = tables s (drafted .0) in
+      let u = shape s (drafted .2) in
       record {
-        some = positive (eqb-false (nodeCount s) 0 (not-true (eqb (nodeCount s) 0) (some-node (passed _ 18 (table .0)))));
-        fields = λ i h. as-zero 18 _ (both _ _ (first-all _ _ (t1 .0) i h) .0);
-        definitions = λ d h. let q = both _ _ (first-all _ _ (t5 .0) d h) in (passed _ 18 (q .0), passed _ 18 (q .1));
-        items = λ j h. passed _ 18 (first-all _ _ (t6 .1) j h);
-        items-used = passed _ 18 (t6 .0);
-        used = passed _ 18 (both _ _ (t1 .1) .0);
-        reached = λ i h. all-of _ _ (passed _ 19 (both _ _ after-tables .0)) i h;
-        root = passed _ 20 (shape .0);
-        parents = λ i h. relation i h .0;
-        entries = λ i h. relation i h .1;
-        rising-definitions = λ d h. passed _ 20 (both _ _ (first-all _ _ (both _ _ (shape .1) .1) d h) .0);
-        rising-items = λ d h j k. passed _ 20 (first-all _ _ (both _ _ (first-all _ _ (both _ _ (shape .1) .1) d h) .1) j k);
-        paths = λ i h. passed _ 21 (both _ _ (first-all _ _ (both _ _ after-reach .1) i h) .1);
+        some = t .some;
+        fields = t .fields;
+        definitions = t .definitions;
+        items = t .items;
+        items-used = t .items-used;
+        used = t .used;
+        reached = reached s (drafted .1);
+        root = u .root;
+        parents = u .parents;
+        entries = u .entries;
+        rising-definitions = u .rising-definitions;
+        rising-items = u .rising-items;
+        paths = λ i h. passed _ 21 (both _ _ (first-all _ _ (drafted .3) i h) .1);
       }
-    where
-      positive : {n : ℕ} → (n ≡ 0 → ⊥) → zero < n
-      positive {n} d = omega arith
-
--- ---- the numbering
-
--- each number below n once, and 0 first
-pub record Numbered (n : ℕ) (order : List ℕ) : Type 0 where
-  pub len : length order ≡ n
-  pub apart : Distinct order
-  pub within : All (λ x. x < n) order
-  pub each : (i : ℕ) → i < n → has i order ≡ true
-  pub first : getD order 0 0 ≡ 0
-
-module _ (s : Sections) (t : Taken s) where
-  within-all : All (λ x. x < nodeCount s) (readWalk s .seen)
-  within-all = read-inside s (counts s (t .some) (t .used)) (λ i h. entries-inside s i (t .entries i h))
-
-  root-first : getD (numbering s) 0 0 ≡ 0
-  unfolding numbering
-  root-first =
-      ap (λ (l : List ℕ). getD (reverse l) 0 0) (read-first s .behind) ∙ ap (λ (l : List ℕ). getD l 0 0) (reverse-append (read-first s .front) (0 ∷ []))
 
   pub numbered : Numbered (nodeCount s) (numbering s)
-  unfolding numbering
-  numbered =
-      record {
-        len =
-            omega (
-              arith,
-              length-reverse (readWalk s .seen),
-              pigeon (nodeCount s) (readWalk s .seen) (read-distinct s) within-all,
-              cover (nodeCount s) (readWalk s .seen) (t .reached),
-            );
-        apart = distinct-reverse (readWalk s .seen) [] (read-distinct s) tt (λ x h. unfold has in refl);
-        within = all-reverse (λ x. x < nodeCount s) (readWalk s .seen) within-all;
-        each = λ i h. has-reverse i (readWalk s .seen) ∙ t .reached i h;
-        first = root-first;
-      }
+  numbered = draft-numbered s (tables s (drafted .0)) (reached s (drafted .1))

@@ -23,7 +23,7 @@ use Rattle.encoder.specs.Written.{fieldStart, fieldWords, putFields, moreWords,
 use Rattle.written.specs.Written.{DraftWords}
 use Rattle.tree.proofs.Members.{both-true, and-true, sum-ext}
 use Rattle.written.proofs.Lists.{not-of, all-get, sum-below}
-use Rattle.written.proofs.Numbers.{place-get, get-place}
+use Rattle.draft.proofs.Numbers.{place-get, get-place}
 use Rattle.written.proofs.Header.{image-length}
 use Rattle.written.proofs.Draft.{Taken, Numbered}
 use Rattle.written.proofs.Texts.{Stored}

@@ -76,7 +76,7 @@ module _ (ink : ℕ) (s : Sections) (work room : ℕ) (ten : s .stride ≡ nodeW
         wide = omega arith;
         words = words;
         taken = t;
-        numbered = numbered s t;
+        numbered = numbered ink s work room p;
         stored = stored s order;
         room = roomy ink (w s order kept) fits;
       }

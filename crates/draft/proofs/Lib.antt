@@ -1,0 +1,10 @@
+pub mod Numbers
+pub mod Rules
+pub mod Reached
+pub mod NodeTable
+pub mod EntryTables
+pub mod Row19
+pub mod Lent
+pub mod Runs
+pub mod Relations
+pub mod Row21

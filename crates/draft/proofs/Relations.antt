@@ -1,0 +1,288 @@
+-- The rules of row 21 by the tests that the code makes. Assumes nothing.
+use Prim.Native.Nat.{ℕ, zero, suc, _+_, _*_, _-_, _/_, _≤_, _<_}
+use mathlib.Core.Path.{_≡_, refl, sym, ap, _∙_}
+use mathlib.Core.List.{List, []}
+use mathlib.Core.Bool.{Bool, true, false, cond, not, _&&_}
+use native.Mathlib.Omega.{arith}
+use native.Mathlib.Nat.{add-zero}
+use lib.ListN.{length, getD}
+use lib.Dec.{eqb, leb}
+use borrow.Author.Tests.{not-true, not-false, eq-eqb, ne-eqb}
+use Rattle.laws.specs.Refusal.{unless, countsAs, passes, _▸_, firstOf}
+use Rattle.laws.specs.Counted.{allOf}
+use Rattle.laws.proofs.First.{pass, fail}
+use Rattle.texts.specs.declared.Order.{Order}
+use Rattle.texts.specs.Text.{before, rising, orderOf, isLess}
+use Rattle.image.specs.declared.NodeRecord.{NodeRecord}
+use Rattle.image.specs.declared.TextEntry.{TextEntry}
+use Rattle.image.specs.declared.Definition.{Definition}
+use Rattle.image.specs.Sections.{Sections, nodeCount, definitionCount, nodeWord, childWord, parentOf, placeOf, tagOf, f, inside, isContainer, insideContainer, goodText, textIn, textAt, partAt}
+use Rattle.image.specs.Entries.{textEntryOf, definitionOf, nodeIn, namedIn}
+use Rattle.image.proofs.Entries.{IsNode, is-node, named-entry, item-entry, definition-entry}
+use Rattle.image.proofs.Parts.{good-part}
+use Rattle.records.specs.declared.Counts.{Counts}
+use Rattle.records.specs.Records.{childrenOf, namedOf, parentRule}
+use Rattle.records.specs.Shown.{ShowsParent, tagIn, insideAmong}
+use Rattle.records.proofs.Tests.{stop, go}
+use Rattle.tree.specs.Tree.{childAt, namedAt, namedText, rightChild, childRule, namedRule, entriesRule}
+use Rattle.index.specs.Definitions.{definitionText, itemText, itemTextOf, firstItem, itemsOf}
+use Rattle.index.proofs.Rising.{rising-next}
+use Rattle.draft.specs.Source.{draftOf}
+use Rattle.draft.specs.Draft.{relationRule, orderRule}
+use Rattle.draft.specs.Shown.{shownEntry, shownDefinition, rightContainer, namedRight, TreePassed, ListsPassed}
+use Rattle.draft.proofs.NodeTable.{countsIn}
+use Rattle.draft.proofs.Runs.{as-passes, passes-unless, passes-both, passes-all, unless-both, unless-all, rising-upto, all-like}
+
+-- ---- the order of two texts
+
+pub order-told : (a b s t : List ℕ) (o : Order) → a ≡ s → b ≡ t → o ≡ orderOf a b → isLess o ≡ before s t
+unfolding before
+order-told a b s t o p q e = rw (e, p, q)
+
+pub entry-rises : (ws ts : List ℕ) (first place : ℕ) (last entry : TextEntry) (b : Bool) → (place ≡ 0 → ⊥)
+    → last ≡ textEntryOf ws (first + (place - 1)) → entry ≡ textEntryOf ws (first + place)
+    → b ≡ before (textIn ts (last .offset) (last .len)) (textIn ts (entry .offset) (entry .len)) → b ≡ rising (shownEntry ws ts first) place
+unfolding shownEntry
+entry-rises ws ts first place last entry b d p q e = rw (rising-next (shownEntry ws ts first) place d, ← p, ← q) e
+
+pub definition-rises : (ws ts : List ℕ) (d : ℕ) (last entry : Definition) (b : Bool) → (d ≡ 0 → ⊥) → last ≡ definitionOf ws (d - 1) → entry ≡ definitionOf ws d
+    → b ≡ before (textIn ts (last .offset) (last .len)) (textIn ts (entry .offset) (entry .len)) → b ≡ rising (shownDefinition ws ts) d
+unfolding shownDefinition
+definition-rises ws ts d last entry b h p q e = rw (rising-next (shownDefinition ws ts) d h, ← p, ← q) e
+
+-- ---- a node by its words
+
+module _ (ns : List ℕ) where
+  -- sections that have nodes alone
+  abbrev alone : Sections
+  alone = draftOf ns [] [] [] [] [] []
+
+  module _ (x i j : ℕ) (b : Bool) (e : b ≡ insideAmong (length ns / 10) x) where
+    pub child-outside : not b ≡ true → false ≡ rightChild alone x i j
+    child-outside q = ap (λ (t : Bool). t && eqb (parentOf alone x) i && eqb (placeOf alone x) j) (sym (sym e ∙ not-true b q))
+
+    module _ (q : not b ≡ false) (p : ℕ) (k : p ≡ getD ns (x * 10) 0) where
+      parent-is : p ≡ parentOf alone x
+      unfolding nodeWord
+      parent-is = rw add-zero k
+
+      by-parent : rightChild alone x i j ≡ (eqb p i && eqb (placeOf alone x) j)
+      by-parent =
+          ap (λ (t : Bool). t && eqb (parentOf alone x) i && eqb (placeOf alone x) j) (sym e ∙ not-false b q)
+          ∙ ap (λ (n : ℕ). eqb n i && eqb (placeOf alone x) j) (sym parent-is)
+
+      pub child-astray : (p ≡ i → ⊥) → false ≡ rightChild alone x i j
+      child-astray d = sym (by-parent ∙ ap (λ (t : Bool). t && eqb (placeOf alone x) j) (ne-eqb p i d))
+
+      pub child-placed : p ≡ i → (n : ℕ) → n ≡ getD ns (x * 10 + 1) 0 → eqb n j ≡ rightChild alone x i j
+      unfolding nodeWord
+      child-placed d n r = sym (by-parent ∙ ap (λ (t : Bool). t && eqb (placeOf alone x) j) (eq-eqb p i d) ∙ ap (λ (m : ℕ). eqb m j) (sym r))
+
+  module _ (n i tag : ℕ) (e : tag ≡ tagIn alone n) where
+    container-is : insideContainer alone n ≡ eqb tag 1
+    unfolding tagIn
+    container-is = by (inside alone n) e
+      where
+        by : (b : Bool) → tag ≡ cond b (tagOf alone n) 0 → (b && isContainer alone n) ≡ eqb tag 1
+        by true q = ap (λ (x : ℕ). eqb x 1) (sym q)
+        by false q = ap (λ (x : ℕ). eqb x 1) (sym q)
+
+    pub no-container : (tag ≡ 1 → ⊥) → false ≡ rightContainer ns n i
+    no-container d = sym (ap (λ (t : Bool). t && eqb (parentOf alone n) i) (container-is ∙ ne-eqb tag 1 d))
+
+    pub its-container : tag ≡ 1 → (p : ℕ) → p ≡ getD ns (n * 10) 0 → eqb p i ≡ rightContainer ns n i
+    unfolding nodeWord
+    its-container d p k =
+        sym (ap (λ (t : Bool). t && eqb (parentOf alone n) i) (container-is ∙ eq-eqb tag 1 d) ∙ ap (λ (x : ℕ). eqb x i) (rw add-zero (sym k)))
+
+-- ---- a named entry
+
+module _ (ns ms ts : List ℕ) (i first j : ℕ) (b : Bool) (e : b ≡ rising (shownEntry ms ts first) j) where
+  pub entry-falls : not b ≡ true → false ≡ namedRight ns ms ts i first j
+  unfolding namedRight
+  entry-falls q = ap (λ (t : Bool). t && rightContainer ns (textEntryOf ms (first + j) .value) i) (sym (sym e ∙ not-true b q))
+
+  pub entry-leads : not b ≡ false → (entry : TextEntry) (r : Bool) → entry ≡ textEntryOf ms (first + j) → r ≡ rightContainer ns (entry .value) i
+      → r ≡ namedRight ns ms ts i first j
+  unfolding namedRight
+  entry-leads q entry r p k =
+      k ∙ ap (λ (x : TextEntry). rightContainer ns (x .value) i) p
+      ∙ ap (λ (t : Bool). t && rightContainer ns (textEntryOf ms (first + j) .value) i) (sym (sym e ∙ not-false b q))
+
+-- ---- the rules of node i
+
+module _ (ns cs ms ts : List ℕ) (g : TreePassed (draftOf ns cs ms [] [] [] ts)) (i : ℕ) (h : i < length ns / 10) (r : NodeRecord)
+    (node : r ≡ nodeIn (draftOf ns cs ms [] [] [] ts) i) where
+  abbrev s : Sections
+  s = draftOf ns cs ms [] [] [] ts
+
+  node-words : IsNode s i r
+  node-words = is-node s i r node
+
+  pub parent-told : (tag : ℕ) → tag ≡ tagIn (alone ns) (r .parent) → ShowsParent s i r (countsIn ns cs ms) tag
+  unfolding tagIn nodeWord
+  parent-told tag e = record { node = node; counts = refl; parent = e ∙ ap (λ (x : NodeRecord). tagIn (alone ns) (x .parent)) node }
+
+  by-passing : relationRule s i ≡ unless (passes (parentRule s i) && passes (entriesRule s i)) 21
+  unfolding relationRule
+  by-passing = rw (as-passes 21 (parentRule s i), as-passes 21 (entriesRule s i)) (unless-both (passes (parentRule s i)) (passes (entriesRule s i)) 20)
+
+  -- ---- of a container
+
+  module _ (t : r .tag ≡ 1) where
+    container : isContainer s i ≡ true
+    container = eq-eqb (tagOf s i) 1 (sym (node-words .tag) ∙ t)
+
+    pub children-range : r .f3 + r .f4 ≤ length cs
+    children-range = omega (arith, g .ranges i h container .children, node-words .f3, node-words .f4)
+
+    pub named-range : (r .f5 + r .f6) * 3 ≤ length ms
+    named-range = omega (arith, g .ranges i h container .named, node-words .f5, node-words .f6)
+
+    -- the tests of ordered children, of named ones
+    abbrev children-tests : Bool
+    children-tests = allOf (r .f4) (λ j. rightChild (alone ns) (getD cs (r .f3 + j) 0) i j)
+
+    abbrev named-tests : Bool
+    named-tests = allOf (r .f6) (namedRight ns ms ts i (r .f5))
+
+    child-test : (j : ℕ) → rightChild (alone ns) (getD cs (r .f3 + j) 0) i j ≡ passes (childRule s i j)
+    unfolding childRule childWord nodeWord
+    child-test j =
+        ap (λ (k : ℕ). rightChild (alone ns) (getD cs (k + j) 0) i j) (node-words .f3) ∙ sym (passes-unless (rightChild s (childAt s i j) i j) 13)
+
+    children-pass : children-tests ≡ passes (firstOf (childrenOf s i) (childRule s i))
+    unfolding childrenOf
+    children-pass =
+        passes-all (r .f4) (λ j. rightChild (alone ns) (getD cs (r .f3 + j) 0) i j) (childRule s i) (λ j k. child-test j)
+        ∙ ap (λ (n : ℕ). passes (firstOf n (childRule s i))) (node-words .f4)
+        ∙ ap (λ (b : Bool). passes (firstOf (cond b (f s i 4) 0) (childRule s i))) (sym container)
+
+    -- the words of the j-th named entry
+    entry-is : (j : ℕ) → textEntryOf ms (r .f5 + j) ≡ namedIn s (f s i 5 + j)
+    entry-is j = named-entry s ms (r .f5 + j) refl ∙ ap (λ (k : ℕ). namedIn s (k + j)) (node-words .f5)
+
+    good-entry : (j : ℕ) → j < r .f6 → goodText s (namedAt s i j 0) (namedAt s i j 1) ≡ true
+    good-entry j k = g .texts (f s i 5 + j) (omega (arith, named-range, node-words .f5))
+
+    entry-text : (j : ℕ) → j < r .f6 → shownEntry ms ts (r .f5) j ≡ namedText s i j
+    unfolding shownEntry
+    entry-text j k =
+        ap (λ (x : TextEntry). textIn ts (x .offset) (x .len)) (entry-is j) ∙ good-part ts (namedAt s i j 0) (namedAt s i j 1) (good-entry j k)
+
+    named-test : (j : ℕ) → j < r .f6 → namedRight ns ms ts i (r .f5) j ≡ passes (namedRule s i j)
+    unfolding namedRight namedRule nodeWord
+    named-test j k =
+        rw (
+          rising-upto (shownEntry ms ts (r .f5)) (namedText s i) j (λ m l. entry-text m (omega arith)),
+          entry-is j,
+          passes-both (unless (goodText s (namedAt s i j 0) (namedAt s i j 1)) 14) (unless (rising (namedText s i) j) 14 ▸ unless (insideContainer s (namedAt s i j 2)) 9 ▸ unless (eqb (parentOf s (namedAt s i j 2)) i) 14),
+          passes-both (unless (rising (namedText s i) j) 14) (unless (insideContainer s (namedAt s i j 2)) 9 ▸ unless (eqb (parentOf s (namedAt s i j 2)) i) 14),
+          passes-both (unless (insideContainer s (namedAt s i j 2)) 9) (unless (eqb (parentOf s (namedAt s i j 2)) i) 14),
+          passes-unless (goodText s (namedAt s i j 0) (namedAt s i j 1)) 13,
+          passes-unless (rising (namedText s i) j) 13,
+          passes-unless (insideContainer s (namedAt s i j 2)) 8,
+          passes-unless (eqb (parentOf s (namedAt s i j 2)) i) 13,
+          good-entry j k,
+        )
+        refl
+
+    named-pass : named-tests ≡ passes (firstOf (namedOf s i) (namedRule s i))
+    unfolding namedOf
+    named-pass =
+        passes-all (r .f6) (namedRight ns ms ts i (r .f5)) (namedRule s i) named-test
+        ∙ ap (λ (n : ℕ). passes (firstOf n (namedRule s i))) (node-words .f6)
+        ∙ ap (λ (b : Bool). passes (firstOf (cond b (f s i 6) 0) (namedRule s i))) (sym container)
+
+  -- ---- by the answers
+
+  module _ (x : ℕ) (e : x ≡ parentRule s i) where
+    pub wrong-parent : (x ≡ 0 → ⊥) → 21 ≡ relationRule s i
+    wrong-parent d =
+        sym (by-passing ∙ ap (λ (t : Bool). unless (t && passes (entriesRule s i)) 21) (ne-eqb (parentRule s i) 0 (λ z. d (e ∙ z))) ∙ fail false 21 refl)
+
+    module _ (z : x ≡ 0) where
+      by-entries : relationRule s i ≡ unless (passes (entriesRule s i)) 21
+      by-entries = by-passing ∙ ap (λ (t : Bool). unless (t && passes (entriesRule s i)) 21) (eq-eqb (parentRule s i) 0 (sym e ∙ z))
+
+      pub plain-node : (r .tag ≡ 1 → ⊥) → 0 ≡ relationRule s i
+      unfolding entriesRule childrenOf namedOf firstOf _▸_
+      plain-node d =
+          sym (by-entries ∙ ap (λ (t : Bool). unless (passes (firstOf (cond t (f s i 4) 0) (childRule s i) ▸ firstOf (cond t (f s i 6) 0) (namedRule s i))) 21) (ne-eqb (tagOf s i) 1 (λ q. d (node-words .tag ∙ q)))
+          ∙ pass true 21 refl)
+
+      module _ (t : r .tag ≡ 1) where
+        by-tests : relationRule s i ≡ unless (children-tests t && named-tests t) 21
+        unfolding entriesRule
+        by-tests =
+            by-entries
+            ∙ ap (λ (b : Bool). unless b 21)
+            (passes-both (firstOf (childrenOf s i) (childRule s i)) (firstOf (namedOf s i) (namedRule s i))
+            ∙ ap (λ (b : Bool). b && passes (firstOf (namedOf s i) (namedRule s i))) (sym (children-pass t)) ∙ ap (λ (b : Bool). children-tests t && b) (sym (named-pass t)))
+
+        module _ (a : Bool) (p : a ≡ children-tests t) where
+          pub wrong-children : not a ≡ true → 21 ≡ relationRule s i
+          wrong-children q = sym (by-tests ∙ ap (λ (b : Bool). unless (b && named-tests t) 21) (sym p ∙ not-true a q) ∙ fail false 21 refl)
+
+          module _ (q : not a ≡ false) (b : Bool) (k : b ≡ named-tests t) where
+            by-named : relationRule s i ≡ unless b 21
+            by-named = by-tests ∙ ap (λ (x : Bool). unless (x && named-tests t) 21) (sym p ∙ not-false a q) ∙ ap (λ (x : Bool). unless x 21) (sym k)
+
+            pub right-node : b ≡ true → 0 ≡ relationRule s i
+            right-node u = sym (by-named ∙ pass b 21 u)
+
+            pub wrong-named : b ≡ false → 21 ≡ relationRule s i
+            wrong-named u = sym (by-named ∙ fail b 21 u)
+
+-- ---- the order of definition d and its items
+
+module _ (ds is ts : List ℕ) (g : ListsPassed (draftOf [] [] [] ds is [] ts)) (d : ℕ) (h : d < length ds / 4) where
+  abbrev lists : Sections
+  lists = draftOf [] [] [] ds is [] ts
+
+  definition-text : (k : ℕ) → k ≤ d → shownDefinition ds ts k ≡ definitionText lists k
+  unfolding shownDefinition
+  definition-text k l =
+      ap (λ (x : Definition). textIn ts (x .offset) (x .len)) (definition-entry lists ds k refl) ∙ good-part ts _ _ (g .definitions k (omega arith))
+
+  module _ (a : Bool) (p : a ≡ rising (shownDefinition ds ts) d) where
+    rises-is : rising (definitionText lists) d ≡ a
+    rises-is = sym (p ∙ rising-upto (shownDefinition ds ts) (definitionText lists) d definition-text)
+
+    pub definition-falls : not a ≡ true → 21 ≡ orderRule lists d
+    unfolding orderRule
+    definition-falls q = stop (rising (definitionText lists) d) a 21 _ refl (sym rises-is) q
+
+    module _ (q : not a ≡ false) (entry : Definition) (r : entry ≡ definitionOf ds d) where
+      first-is : entry .first ≡ firstItem lists d
+      first-is = ap (λ (x : Definition). x .first) (r ∙ definition-entry lists ds d refl)
+
+      count-is : entry .count ≡ itemsOf lists d
+      count-is = ap (λ (x : Definition). x .count) (r ∙ definition-entry lists ds d refl)
+
+      pub items-range : (entry .first + entry .count) * 3 ≤ length is
+      items-range = omega (arith, g .ranges d h, first-is, count-is)
+
+      item-text : (j : ℕ) → j < entry .count → shownEntry is ts (entry .first) j ≡ itemTextOf lists d j
+      unfolding shownEntry
+      item-text j k =
+          ap (λ (x : TextEntry). textIn ts (x .offset) (x .len)) (item-entry lists is (entry .first + j) refl)
+          ∙ good-part ts _ _ (g .items (entry .first + j) (omega (arith, items-range)))
+          ∙ ap (λ (n : ℕ). itemText lists (n + j)) first-is
+
+      module _ (b : Bool) (k : b ≡ allOf (entry .count) (rising (shownEntry is ts (entry .first)))) where
+        items-are : firstOf (itemsOf lists d) (λ j. unless (rising (itemTextOf lists d) j) 21) ≡ unless b 21
+        items-are =
+            unless-all (itemsOf lists d) 20 (rising (itemTextOf lists d))
+            ∙ ap (λ (n : ℕ). unless (allOf n (rising (itemTextOf lists d))) 21) (sym count-is)
+            ∙ ap (λ (x : Bool). unless x 21)
+            (sym (k ∙ all-like (entry .count) (rising (shownEntry is ts (entry .first))) (rising (itemTextOf lists d))
+            (λ j l. rising-upto (shownEntry is ts (entry .first)) (itemTextOf lists d) j (λ m n. item-text m (omega arith)))))
+
+        pub items-rise : b ≡ true → 0 ≡ orderRule lists d
+        unfolding orderRule
+        items-rise u = go (rising (definitionText lists) d) a 21 _ 0 (sym rises-is) q (sym (items-are ∙ pass b 21 u))
+
+        pub items-fall : b ≡ false → 21 ≡ orderRule lists d
+        unfolding orderRule
+        items-fall u = go (rising (definitionText lists) d) a 21 _ 21 (sym rises-is) q (sym (items-are ∙ fail b 21 u))

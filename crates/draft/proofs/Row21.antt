@@ -1,0 +1,75 @@
+-- Row 21 put together out of what the functions answer, of a draft that row 19 has passed. Assumes nothing.
+use Prim.Native.Nat.{ℕ, _+_, _*_, _≤_}
+use mathlib.Core.Path.{_≡_, refl, sym, _∙_}
+use mathlib.Core.List.{List, []}
+use mathlib.Core.Bool.{Bool, true, false, not}
+use native.Mathlib.Omega.{arith}
+use lib.ListN.{length}
+use Rattle.laws.specs.Refusal.{unless, _▸_, firstOf}
+use Rattle.laws.proofs.First.{second}
+use Rattle.image.specs.Sections.{Sections, nodeCount, definitionCount, nodeWord, childWord, namedWord, definitionWord, itemWord}
+use Rattle.records.specs.Records.{childrenOf, namedOf, parentRule, rootRight}
+use Rattle.records.proofs.Tests.{stop, go, refused}
+use Rattle.tree.specs.Tree.{childRule, namedRule, entriesRule}
+use Rattle.draft.specs.Source.{draftOf}
+use Rattle.draft.specs.Draft.{tablesRule, relationRule, orderRule, shapeRule}
+use Rattle.draft.specs.Shown.{TreePassed, ListsPassed}
+use Rattle.draft.proofs.Rules.{Tables, tables, tables-fit, items-end}
+
+module _ (ns cs ms ds is ps ts : List ℕ) where
+  abbrev s : Sections
+  s = draftOf ns cs ms ds is ps ts
+
+  -- the sections of the tree; of the definitions
+  abbrev tree : Sections
+  tree = draftOf ns cs ms [] [] [] ts
+
+  abbrev lists : Sections
+  lists = draftOf [] [] [] ds is [] ts
+
+  -- ---- what row 19 has shown
+
+  module _ (p : tablesRule s ≡ 0) where
+    shown : Tables s
+    shown = tables s p
+
+    pub root-there : 0 * 10 + 10 ≤ length ns
+    root-there = omega (arith, shown .some)
+
+    pub tree-passed : TreePassed tree
+    unfolding nodeWord namedWord
+    tree-passed =
+        record {
+          ranges = λ i h c. let r = tables-fit s shown .ranges i h c in record { children = r .children; named = r .named };
+          texts = shown .named-texts;
+        }
+
+    pub lists-passed : ListsPassed lists
+    unfolding definitionWord itemWord
+    lists-passed = record { ranges = λ d h. items-end s shown d h; definitions = λ d h. shown .definitions d h .0; items = shown .items }
+
+  -- ---- the row
+
+  relations-are : firstOf (nodeCount tree) (relationRule tree) ≡ firstOf (nodeCount s) (relationRule s)
+  unfolding relationRule parentRule entriesRule childrenOf namedOf childRule namedRule nodeWord childWord namedWord
+  relations-are = refl
+
+  orders-are : firstOf (definitionCount lists) (orderRule lists) ≡ firstOf (definitionCount s) (orderRule s)
+  unfolding orderRule definitionWord itemWord
+  orders-are = refl
+
+  module _ (b : Bool) (e : b ≡ rootRight s) where
+    pub wrong-root : not b ≡ true → 21 ≡ shapeRule s
+    unfolding shapeRule
+    wrong-root q = stop (rootRight s) b 21 _ refl e q
+
+    module _ (q : not b ≡ false) (x : ℕ) (k : x ≡ firstOf (nodeCount tree) (relationRule tree)) where
+      past-root : (y : ℕ) → y ≡ (firstOf (nodeCount s) (relationRule s) ▸ firstOf (definitionCount s) (orderRule s)) → y ≡ shapeRule s
+      unfolding shapeRule
+      past-root y u = go (rootRight s) b 21 _ y e q u
+
+      pub wrong-relation : (x ≡ 0 → ⊥) → x ≡ shapeRule s
+      wrong-relation d = past-root x (refused (firstOf (nodeCount s) (relationRule s)) _ x (k ∙ relations-are) d)
+
+      pub orders-decide : x ≡ 0 → (y : ℕ) → y ≡ firstOf (definitionCount lists) (orderRule lists) → y ≡ shapeRule s
+      orders-decide z y u = past-root y (u ∙ orders-are ∙ sym (second (firstOf (nodeCount s) (relationRule s)) _ (sym (k ∙ relations-are) ∙ z)))

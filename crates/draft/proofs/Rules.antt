@@ -1,0 +1,200 @@
+-- What the rules 19 and 21 say of a draft that breaks none of them, one fact at a time. Assumes nothing.
+use Prim.Native.Nat.{ℕ, zero, _+_, _*_, _%_, _/_, _≤_, _<_}
+use mathlib.Core.Path.{_≡_, refl, sym, ap, _∙_, subst}
+use mathlib.Core.Bool.{Bool, true, false, _&&_, _||_, not}
+use native.Mathlib.Omega.{arith}
+use native.Mathlib.Nat.{le-trans}
+use lib.ListN.{length}
+use lib.Dec.{eqb, leb}
+use borrow.Author.Tests.{eqb-true, eqb-false, leb-true, ne-eqb, not-true}
+use Rattle.laws.specs.Refusal.{unless, _▸_, firstOf}
+use Rattle.laws.proofs.First.{both, passed, as-zero, first-all}
+use Rattle.texts.specs.Text.{rising}
+use Rattle.image.specs.Sections.{Sections, nodeCount, childCount, namedCount, definitionCount, itemCount, parentOf, f, childWord, namedWord, goodText, inside, isContainer}
+use Rattle.image.specs.Header.{nodeWords}
+use Rattle.records.specs.Records.{childrenOf, namedOf, fieldsRule, parentRule, rootRight, usedUp}
+use Rattle.records.proofs.Passed.{Node, node-of, ranges as fields-ranges}
+use Rattle.tree.specs.Tree.{childAt, namedAt, entryNodes, entriesRule}
+use Rattle.tree.specs.Parts.{Counts, Ranges, Fit}
+use Rattle.tree.proofs.Members.{both-true, All}
+use Rattle.tree.proofs.Entries.{entry-each, child-container, named-container, counts}
+use Rattle.index.specs.Definitions.{goodDefinition, goodItem, firstItem, itemsOf, itemsBefore, itemsRight, itemsUsedUp, definitionText, itemTextOf}
+use Rattle.draft.specs.Draft.{wholeEntries, draftNodeRule, draftChildRule, draftNamedRule, draftDefinitionRule, draftItemRule, tablesRule, relationRule, orderRule, shapeRule}
+
+-- ---- 19
+
+-- each section is whole entries
+pub record Entries (s : Sections) : Type 0 where
+  pub nodes : length (s .nodes) ≡ nodeCount s * nodeWords
+  pub named : length (s .named) ≡ namedCount s * 3
+  pub definitions : length (s .definitions) ≡ definitionCount s * 4
+  pub items : length (s .items) ≡ itemCount s * 3
+
+-- the texts and numbers that a draft's tables hold
+pub record Tables (s : Sections) : Type 0 where
+  pub some : zero < nodeCount s
+  pub fields : (i : ℕ) → i < nodeCount s → fieldsRule s i ≡ 0
+  pub parents : (i : ℕ) → i < nodeCount s → 0 < i → inside s (parentOf s i) ≡ true
+  pub used : usedUp s ≡ true
+  pub children : (j : ℕ) → j < childCount s → inside s (childWord s j) ≡ true
+  pub named-texts : (j : ℕ) → j < namedCount s → goodText s (namedWord s j 0) (namedWord s j 1) ≡ true
+  pub named-nodes : (j : ℕ) → j < namedCount s → inside s (namedWord s j 2) ≡ true
+  pub definitions : (d : ℕ) → d < definitionCount s → (goodDefinition s d ≡ true) × (itemsRight s d ≡ true)
+  pub items-used : itemsUsedUp s ≡ true
+  pub items : (j : ℕ) → j < itemCount s → goodItem s j ≡ true
+
+-- the sections are whole, and there is a node
+record Checked (s : Sections) : Type 0 where
+  nodes : length (s .nodes) % s .stride ≡ 0
+  named : length (s .named) % 3 ≡ 0
+  definitions : length (s .definitions) % 4 ≡ 0
+  items : length (s .items) % 3 ≡ 0
+  some : zero < nodeCount s
+
+checked : (s : Sections) → wholeEntries s ≡ true → Checked s
+unfolding wholeEntries
+checked s h =
+    let e = both-true (eqb (length (s .nodes) % s .stride) 0 && eqb (length (s .named) % 3) 0 && eqb (length (s .definitions) % 4) 0 && eqb (length (s .items) % 3) 0) _ h in
+    let d = both-true (eqb (length (s .nodes) % s .stride) 0 && eqb (length (s .named) % 3) 0 && eqb (length (s .definitions) % 4) 0) _ (e .0) in
+    let c = both-true (eqb (length (s .nodes) % s .stride) 0 && eqb (length (s .named) % 3) 0) _ (d .0) in
+    let b = both-true (eqb (length (s .nodes) % s .stride) 0) _ (c .0) in
+    record {
+      nodes = eqb-true _ _ (b .0);
+      named = eqb-true _ _ (b .1);
+      definitions = eqb-true _ _ (c .1);
+      items = eqb-true _ _ (d .1);
+      some = positive (nodeCount s) (eqb-false (nodeCount s) 0 (not-true (eqb (nodeCount s) 0) (e .1)));
+    }
+  where
+    positive : (n : ℕ) → (n ≡ 0 → ⊥) → zero < n
+    positive n d = omega arith
+
+module _ (s : Sections) (p : tablesRule s ≡ 0) where
+  pub tables : Tables s
+  unfolding tablesRule draftNodeRule draftChildRule draftNamedRule draftDefinitionRule draftItemRule
+  tables =
+      -- whole entries, nodes, leftovers, children, named, definitions, items used up, items
+      let t0 = both _ _ p in
+      let t1 = both _ _ (t0 .1) in
+      let t2 = both _ _ (t1 .1) in
+      let t3 = both _ _ (t2 .1) in
+      let t4 = both _ _ (t3 .1) in
+      let t5 = both _ _ (t4 .1) in
+      let t6 = both _ _ (t5 .1) in
+      record {
+        some = checked s (passed _ 18 (t0 .0)) .some;
+        fields = λ i h. as-zero 18 _ (both _ _ (first-all _ _ (t1 .0) i h) .0);
+        parents = λ i h k. below-root i k (passed _ 18 (both _ _ (first-all _ _ (t1 .0) i h) .1));
+        used = passed _ 18 (t2 .0);
+        children = λ j h. passed _ 18 (first-all _ _ (t3 .0) j h);
+        named-texts = λ j h. passed _ 18 (both _ _ (first-all _ _ (t4 .0) j h) .0);
+        named-nodes = λ j h. passed _ 18 (both _ _ (first-all _ _ (t4 .0) j h) .1);
+        definitions = λ d h. let q = both _ _ (first-all _ _ (t5 .0) d h) in (passed _ 18 (q .0), passed _ 18 (q .1));
+        items-used = passed _ 18 (t6 .0);
+        items = λ j h. passed _ 18 (first-all _ _ (t6 .1) j h);
+      }
+    where
+      below-root : (i : ℕ) → 0 < i → (eqb i 0 || inside s (parentOf s i)) ≡ true → inside s (parentOf s i) ≡ true
+      below-root i k q = rw (ne-eqb i 0 (λ e. omega arith)) at q
+
+  pub whole : s .stride ≡ nodeWords → Entries s
+  unfolding tablesRule
+  whole wide =
+      let c = checked s (passed _ 18 (both _ _ p .0)) in
+      record {
+        nodes = by-stride (s .stride) wide (c .nodes);
+        named = omega (arith, c .named);
+        definitions = omega (arith, c .definitions);
+        items = omega (arith, c .items);
+      }
+    where
+      by-stride : (w : ℕ) → w ≡ nodeWords → length (s .nodes) % w ≡ 0 → length (s .nodes) ≡ (length (s .nodes) / w) * nodeWords
+      by-stride w e = subst (λ (x : ℕ). length (s .nodes) % x ≡ 0 → length (s .nodes) ≡ (length (s .nodes) / x) * nodeWords) (sym e) (λ q. omega arith)
+
+-- ---- what the tables give
+
+module _ (s : Sections) (t : Tables s) where
+  pub entries-counts : Counts s
+  entries-counts = counts s (t .some) (t .used)
+
+  pub tables-fit : Fit s
+  tables-fit =
+      record {
+        counts = entries-counts;
+        ranges = λ i h c. let all = fields-ranges s i c (t .fields i h) in record { children = all .children-end; named = all .named-end };
+      }
+
+  pub parent-node : (i : ℕ) → i < nodeCount s → 0 < i → Node s (parentOf s i)
+  parent-node i h k = node-of s (parentOf s i) (t .parents i h k)
+
+  pub child-node : (j : ℕ) → j < childCount s → Node s (childWord s j)
+  child-node j h = node-of s (childWord s j) (t .children j h)
+
+  pub named-node : (j : ℕ) → j < namedCount s → Node s (namedWord s j 2)
+  named-node j h = node-of s (namedWord s j 2) (t .named-nodes j h)
+
+  -- ---- the entries of container i
+
+  module _ (i : ℕ) (h : i < nodeCount s) where
+    child-in : (j : ℕ) → j < childrenOf s i → f s i 3 + j < childCount s
+    unfolding childrenOf
+    child-in j k = go (child-container s i j k) k
+      where
+        go : isContainer s i ≡ true → j < childrenOf s i → f s i 3 + j < childCount s
+        go c q = let l : j < f s i 4 = rw c at q in omega (arith, tables-fit .ranges i h c .children)
+
+    named-in : (j : ℕ) → j < namedOf s i → f s i 5 + j < namedCount s
+    unfolding namedOf
+    named-in j k = go (named-container s i j k) k
+      where
+        go : isContainer s i ≡ true → j < namedOf s i → f s i 5 + j < namedCount s
+        go c q = let l : j < f s i 6 = rw c at q in omega (arith, tables-fit .ranges i h c .named)
+
+    pub child-at : (j : ℕ) → j < childrenOf s i → Node s (childAt s i j)
+    child-at j k = child-node (f s i 3 + j) (child-in j k)
+
+    pub named-text-at : (j : ℕ) → j < namedOf s i → goodText s (namedAt s i j 0) (namedAt s i j 1) ≡ true
+    named-text-at j k = t .named-texts (f s i 5 + j) (named-in j k)
+
+    pub named-at : (j : ℕ) → j < namedOf s i → Node s (namedAt s i j 2)
+    named-at j k = named-node (f s i 5 + j) (named-in j k)
+
+    pub entries-below : All (λ x. x < nodeCount s) (entryNodes s i)
+    entries-below = entry-each s i (λ x. x < nodeCount s) (λ j k. child-at j k .below) (λ j k. named-at j k .below)
+
+  -- ---- the items of definition d
+
+  module _ (d : ℕ) (h : d < definitionCount s) where
+    pub items-start : firstItem s d ≡ itemsBefore s d
+    items-start = eqb-true _ _ (both-true (leb (firstItem s d + itemsOf s d) (itemCount s)) _ (t .definitions d h .1) .1)
+
+    pub items-end : firstItem s d + itemsOf s d ≤ itemCount s
+    items-end = leb-true _ _ (both-true (leb (firstItem s d + itemsOf s d) (itemCount s)) _ (t .definitions d h .1) .0)
+
+    pub item-good : (j : ℕ) → j < itemsOf s d → goodItem s (firstItem s d + j) ≡ true
+    item-good j k = t .items (firstItem s d + j) (omega (arith, items-end))
+
+  pub items-all : itemsBefore s (definitionCount s) ≡ itemCount s
+  unfolding itemsUsedUp
+  items-all = eqb-true _ _ (t .items-used)
+
+-- ---- 21
+
+pub record Shape (s : Sections) : Type 0 where
+  pub root : rootRight s ≡ true
+  pub parents : (i : ℕ) → i < nodeCount s → parentRule s i ≡ 0
+  pub entries : (i : ℕ) → i < nodeCount s → entriesRule s i ≡ 0
+  pub rising-definitions : (d : ℕ) → d < definitionCount s → rising (definitionText s) d ≡ true
+  pub rising-items : (d : ℕ) → d < definitionCount s → (j : ℕ) → j < itemsOf s d → rising (itemTextOf s d) j ≡ true
+
+pub shape : (s : Sections) → shapeRule s ≡ 0 → Shape s
+unfolding shapeRule relationRule orderRule
+shape s p =
+    let rest = both _ _ (both _ _ p .1) in
+    record {
+      root = passed _ 20 (both _ _ p .0);
+      parents = λ i h. as-zero 20 _ (both _ _ (first-all _ _ (rest .0) i h) .0);
+      entries = λ i h. as-zero 20 _ (both _ _ (first-all _ _ (rest .0) i h) .1);
+      rising-definitions = λ d h. passed _ 20 (both _ _ (first-all _ _ (rest .1) d h) .0);
+      rising-items = λ d h j k. passed _ 20 (first-all _ _ (both _ _ (first-all _ _ (rest .1) d h) .1) j k);
+    }

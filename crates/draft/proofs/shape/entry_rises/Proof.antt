@@ -1,0 +1,45 @@
+-- `draft::shape::entry_rises` meets its contract. Assumes nothing.
+use mathlib.Core.Path.{sym}
+use borrow.Author.Needs.{needs}
+use Rattle.index.proofs.Rising.{rising-first}
+use Rattle.draft.proofs.Relations.{entry-rises}
+use Rattle.draft.proofs.shape.entry_rises.Statement.{statement}
+use Rattle.draft.proofs.shape.entry_rises.Tie as tie
+
+returns : tie.Need-returns
+returns c = sym (rising-first _ _ (c .if1 .taken))
+
+sub-entry-at : tie.Need-sub-entry-at
+sub-entry-at c = search needs
+
+add-entry-at : tie.Need-add-entry-at
+add-entry-at c = search needs
+
+entry-at-requires : tie.Need-entry-at-requires
+entry-at-requires c κs = search needs
+
+add-entry-at-2 : tie.Need-add-entry-at-2
+add-entry-at-2 c = search needs
+
+entry-at-requires-2 : tie.Need-entry-at-requires-2
+entry-at-requires-2 c κs = search needs
+
+comes-before-requires : tie.Need-comes-before-requires
+comes-before-requires c κs = search needs
+
+returns-2 : tie.Need-returns-2
+returns-2 c =
+    entry-rises _ _ _ _ _ _ _ (c .before .before .before .if1 .left) (c .before .before .entry-at .ensures) (c .before .entry-at2 .ensures) (c .comes-before .ensures)
+
+pub entry-rises-spec : {M : Type 1} → statement M
+entry-rises-spec =
+    tie.close
+    (tie.spec
+    returns
+    sub-entry-at
+    add-entry-at
+    entry-at-requires
+    add-entry-at-2
+    entry-at-requires-2
+    comes-before-requires
+    returns-2)

@@ -1,0 +1,27 @@
+-- `draft::shape::right_container` meets its contract. Assumes nothing.
+use borrow.Author.Needs.{needs}
+use Rattle.draft.proofs.Relations.{no-container, its-container}
+use Rattle.draft.proofs.shape.right_container.Statement.{statement}
+use Rattle.draft.proofs.shape.right_container.Tie as tie
+
+tag-at-requires : tie.Need-tag-at-requires
+tag-at-requires c κs = search needs
+
+returns : tie.Need-returns
+returns c = no-container _ _ _ _ (c .before .tag-at .ensures) (c .if1 .taken)
+
+mul-word : tie.Need-mul-word
+mul-word c = search needs
+
+word-requires : tie.Need-word-requires
+word-requires c κs = search needs
+
+cast-result : tie.Need-cast-result
+cast-result c = search needs
+
+returns-2 : tie.Need-returns-2
+returns-2 c = its-container _ _ _ _ (c .before .before .tag-at .ensures) (c .before .if1 .left) _ (c .word .ensures)
+
+pub right-container-spec : {M : Type 1} → statement M
+right-container-spec =
+    tie.close (tie.spec tag-at-requires returns mul-word word-requires cast-result returns-2)

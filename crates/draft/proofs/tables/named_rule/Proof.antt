@@ -1,0 +1,62 @@
+-- `draft::tables::named_rule` meets its contract. The invariant: the entries before `j` pass. Assumes nothing.
+use Prim.Native.Nat.{_≤_, _-_}
+use mathlib.Core.Path.{_≡_}
+use mathlib.Core.List.{[]}
+use borrow.Author.Needs.{needs}
+use Rattle.laws.specs.Refusal.{firstOf}
+use Rattle.index.proofs.Runs.{run-starts, run-stops, run-goes, run-ends}
+use Rattle.draft.specs.Source.{draftOf}
+use Rattle.draft.specs.Draft.{draftNamedRule}
+use Rattle.draft.proofs.EntryTables.{entry-told}
+use Rattle.draft.proofs.tables.named_rule.Statement.{statement}
+use Rattle.draft.proofs.tables.named_rule.Tie as tie
+
+abbrev Inv-loop : tie.InvT-loop
+Inv-loop nodes named strings nodes' count j₀ j = (j ≤ count) × (firstOf j (draftNamedRule (draftOf nodes [] named [] [] [] strings)) ≡ 0)
+
+abbrev μ-loop : tie.MeasureT-loop
+μ-loop nodes named strings nodes' count j₀ j = count - j
+
+loop-holds : tie.Need-loop-holds Inv-loop μ-loop
+loop-holds c = (search needs, run-starts _)
+
+entry-at-requires : tie.Need-entry-at-requires Inv-loop μ-loop
+entry-at-requires c κs = search needs
+
+entry-rule-requires : tie.Need-entry-rule-requires Inv-loop μ-loop
+entry-rule-requires c κs = search needs
+
+returns : tie.Need-returns Inv-loop μ-loop
+returns c =
+    run-stops _ _ _ _ (c .before .before .before .loop-test .taken) (c .before .before .before .before .loop .inv .1) (entry-told _ _ _ _ _ _ (c .before .before .entry-at .ensures) (c .before .entry-rule .ensures))
+    (c .if1 .taken)
+
+add-j : tie.Need-add-j Inv-loop μ-loop
+add-j c = search needs
+
+loop-less : tie.Need-loop-less Inv-loop μ-loop
+loop-less c = search needs
+
+loop-again : tie.Need-loop-again Inv-loop μ-loop
+loop-again c = (
+  search needs,
+  run-goes _ _ _ (c .before .before .before .before .loop .inv .1) (entry-told _ _ _ _ _ _ (c .before .before .entry-at .ensures) (c .before .entry-rule .ensures)) (c .if1 .left),
+)
+
+returns-2 : tie.Need-returns-2 Inv-loop μ-loop
+returns-2 c = run-ends _ _ _ (c .before .loop .inv .0) (c .loop-test .left) (c .before .loop .inv .1)
+
+pub named-rule-spec : {M : Type 1} → statement M
+named-rule-spec =
+    tie.close
+    (tie.spec
+    Inv-loop
+    μ-loop
+    loop-holds
+    entry-at-requires
+    entry-rule-requires
+    returns
+    add-j
+    loop-less
+    loop-again
+    returns-2)

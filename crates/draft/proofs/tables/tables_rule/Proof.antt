@@ -1,0 +1,58 @@
+-- `draft::tables::tables_rule` meets its contract. Assumes nothing.
+use borrow.Author.Needs.{needs}
+use Rattle.draft.proofs.Row19.{broken-entries, nodes-refused, children-refused, named-refused, definitions-refused, items-decide}
+use Rattle.draft.proofs.tables.tables_rule.Statement.{statement}
+use Rattle.draft.proofs.tables.tables_rule.Tie as tie
+
+whole-entries-requires : tie.Need-whole-entries-requires
+whole-entries-requires c κs = search needs
+
+returns : tie.Need-returns
+returns c = broken-entries _ _ _ _ _ _ _ _ (c .before .whole-entries .ensures) (c .if1 .taken)
+
+nodes-rule-requires : tie.Need-nodes-rule-requires
+nodes-rule-requires c κs = search needs
+
+returns-2 : tie.Need-returns-2
+returns-2 c = nodes-refused _ _ _ _ _ _ _ _ (c .before .before .before .whole-entries .ensures) (c .before .before .if1 .left) _ (c .before .nodes-rule .ensures _ _) (c .if2 .taken)
+
+children-rule-requires : tie.Need-children-rule-requires
+children-rule-requires c κs = search needs
+
+returns-3 : tie.Need-returns-3
+returns-3 c = children-refused _ _ _ _ _ _ _ _ (c .before .before .before .before .before .whole-entries .ensures) (c .before .before .before .before .if1 .left) _ (c .before .before .before .nodes-rule .ensures _ _) (c .before .before .if2 .left) _ (c .before .children-rule .ensures) (c .if3 .taken)
+
+named-rule-requires : tie.Need-named-rule-requires
+named-rule-requires c κs = search needs
+
+returns-4 : tie.Need-returns-4
+returns-4 c = named-refused _ _ _ _ _ _ _ _ (c .before .before .before .before .before .before .before .whole-entries .ensures) (c .before .before .before .before .before .before .if1 .left) _ (c .before .before .before .before .before .nodes-rule .ensures _ _) (c .before .before .before .before .if2 .left) _ (c .before .before .before .children-rule .ensures) (c .before .before .if3 .left) _ (c .before .named-rule .ensures) (c .if4 .taken)
+
+definitions-rule-requires : tie.Need-definitions-rule-requires
+definitions-rule-requires c κs = search needs
+
+returns-5 : tie.Need-returns-5
+returns-5 c = definitions-refused _ _ _ _ _ _ _ _ (c .before .before .before .before .before .before .before .before .before .whole-entries .ensures) (c .before .before .before .before .before .before .before .before .if1 .left) _ (c .before .before .before .before .before .before .before .nodes-rule .ensures _ _) (c .before .before .before .before .before .before .if2 .left) _ (c .before .before .before .before .before .children-rule .ensures) (c .before .before .before .before .if3 .left) _ (c .before .before .before .named-rule .ensures) (c .before .before .if4 .left) _ (c .before .definitions-rule .ensures) (c .if5 .taken)
+
+items-rule-requires : tie.Need-items-rule-requires
+items-rule-requires c κs = search needs
+
+returns-6 : tie.Need-returns-6
+returns-6 c = items-decide _ _ _ _ _ _ _ _ (c .before .before .before .before .before .before .before .before .before .before .whole-entries .ensures) (c .before .before .before .before .before .before .before .before .before .if1 .left) _ (c .before .before .before .before .before .before .before .before .nodes-rule .ensures _ _) (c .before .before .before .before .before .before .before .if2 .left) _ (c .before .before .before .before .before .before .children-rule .ensures) (c .before .before .before .before .before .if3 .left) _ (c .before .before .before .before .named-rule .ensures) (c .before .before .before .if4 .left) _ (c .before .before .definitions-rule .ensures) (c .before .if5 .left) _ (c .items-rule .ensures)
+
+pub tables-rule-spec : {M : Type 1} → statement M
+tables-rule-spec =
+    tie.close
+    (tie.spec
+    whole-entries-requires
+    returns
+    nodes-rule-requires
+    returns-2
+    children-rule-requires
+    returns-3
+    named-rule-requires
+    returns-4
+    definitions-rule-requires
+    returns-5
+    items-rule-requires
+    returns-6)

@@ -1,0 +1,265 @@
+// Row 21: the root, the parents, the tree's entries, the order of definitions and items. Row 19 has passed: texts are good and ranges are inside.
+ghost use mathlib.Core.Path.{_≡_};
+ghost use mathlib.Core.Bool.{_&&_};
+ghost use mathlib.Core.List.{[]};
+ghost use Prim.Native.Nat.{_+_, _*_, _≤_, _<_};
+ghost use lib.ListN.{length, getD};
+ghost use Rattle.laws.specs.Refusal.{firstOf};
+ghost use Rattle.laws.specs.Counted.{allOf};
+ghost use Rattle.texts.specs.Text.{before, rising};
+ghost use Rattle.image.specs.Sections.{nodeCount, definitionCount, textIn, insideContainer};
+ghost use Rattle.tree.specs.Tree.{rightChild};
+ghost use Rattle.draft.specs.Source.{draftOf};
+ghost use Rattle.draft.specs.Draft.{tablesRule, relationRule, orderRule, shapeRule};
+ghost use Rattle.draft.specs.Shown.{shownEntry, shownDefinition, rightContainer, namedRight, TreePassed, ListsPassed};
+use crate::source;
+use image::refusal::DRAFT_SHAPE;
+use records::Counts;
+use texts::Order;
+
+// Whether the first of two texts of the strings comes before the second.
+fn comes_before(strings: &[u8], offset: u32, len: u32, next_offset: u32, next_len: u32) -> bool
+    ensures { λ r. ⌜ r ≡ before (textIn (now (strings .entry)) offset len) (textIn (now (strings .entry)) «next_offset» «next_len») ⌝ }
+{
+    let order = texts::compare(
+        image::text_part(strings, offset, len),
+        image::text_part(strings, next_offset, next_len),
+    );
+    match order {
+        Order::Less => true,
+        Order::Equal => false,
+        Order::Greater => false,
+    }
+}
+
+// Whether the text of an entry, the `place`-th from entry `first` on, comes after that of the entry before it.
+fn entry_rises(entries: &[u32], strings: &[u8], first: usize, place: usize) -> bool
+    requires { ⌜ (first + place) * 3 + 3 ≤ length (now entries) ⌝ }
+    ensures { λ r. ⌜ r ≡ rising (shownEntry (now (entries .entry)) (now (strings .entry)) first) place ⌝ }
+{
+    if place == 0 {
+        return true;
+    }
+    let last = source::entry_at(entries, first + (place - 1));
+    let entry = source::entry_at(entries, first + place);
+    comes_before(strings, last.offset, last.len, entry.offset, entry.len)
+}
+
+// Whether the text of definition `d` comes after that of the definition before it.
+fn definition_rises(definitions: &[u32], strings: &[u8], d: usize) -> bool
+    requires { ⌜ d * 4 + 4 ≤ length (now definitions) ⌝ }
+    ensures { λ r. ⌜ r ≡ rising (shownDefinition (now (definitions .entry)) (now (strings .entry))) d ⌝ }
+{
+    if d == 0 {
+        return true;
+    }
+    let last = source::definition_at(definitions, d - 1);
+    let definition = source::definition_at(definitions, d);
+    comes_before(
+        strings,
+        last.offset,
+        last.len,
+        definition.offset,
+        definition.len,
+    )
+}
+
+// Whether the word is a node whose parent is `id` and that stands at `place` among the ordered children.
+fn right_child(nodes: &[u32], child: u32, id: usize, place: usize) -> bool
+    ensures { λ r. ⌜ r ≡ rightChild (draftOf (now (nodes .entry)) [] [] [] [] [] []) child id place ⌝ }
+{
+    if !source::is_node(nodes.len() / 10, child) {
+        return false;
+    }
+    if source::word(nodes, child as usize * 10) as usize != id {
+        return false;
+    }
+    source::word(nodes, child as usize * 10 + 1) as usize == place
+}
+
+// Whether all of so many ordered children of container `id`, from `start` on, are right.
+fn right_children(nodes: &[u32], children: &[u32], id: usize, start: usize, count: usize) -> bool
+    requires { ⌜ start + count ≤ length (now children) ⌝ }
+    ensures { λ r. ⌜ r ≡ allOf count (λ j. rightChild (draftOf (now (nodes .entry)) [] [] [] [] [] []) (getD (now (children .entry)) (start + j) 0) id j) ⌝ }
+{
+    let mut j = 0;
+    while j < count {
+        if !right_child(nodes, children[start + j], id, j) {
+            return false;
+        }
+        j += 1;
+    }
+    true
+}
+
+// Whether the word is a container whose parent is `id`.
+fn right_container(nodes: &[u32], n: u32, id: usize) -> bool
+    ensures { λ r. ⌜ r ≡ rightContainer (now (nodes .entry)) n id ⌝ }
+{
+    if source::tag_at(nodes, n) != 1 {
+        return false;
+    }
+    source::word(nodes, n as usize * 10) as usize == id
+}
+
+// Whether a named entry, the `place`-th from entry `first` on, has its text in order and names a container whose parent is `id`.
+fn right_entry(
+    nodes: &[u32],
+    named: &[u32],
+    strings: &[u8],
+    id: usize,
+    first: usize,
+    place: usize,
+) -> bool
+    requires { ⌜ (first + place) * 3 + 3 ≤ length (now named) ⌝ }
+    ensures { λ r. ⌜ r ≡ namedRight (now (nodes .entry)) (now (named .entry)) (now (strings .entry)) id first place ⌝ }
+{
+    if !entry_rises(named, strings, first, place) {
+        return false;
+    }
+    right_container(nodes, source::entry_at(named, first + place).value, id)
+}
+
+// Whether all of so many named entries of container `id`, from `first` on, are right.
+fn right_entries(
+    nodes: &[u32],
+    named: &[u32],
+    strings: &[u8],
+    id: usize,
+    first: usize,
+    count: usize,
+) -> bool
+    requires { ⌜ (first + count) * 3 ≤ length (now named) ⌝ }
+    ensures { λ r. ⌜ r ≡ allOf count (namedRight (now (nodes .entry)) (now (named .entry)) (now (strings .entry)) id first) ⌝ }
+{
+    let mut j = 0;
+    while j < count {
+        if !right_entry(nodes, named, strings, id, first, j) {
+            return false;
+        }
+        j += 1;
+    }
+    true
+}
+
+// Whether all of so many items, from `first` on, have their texts in order.
+fn items_rise(items: &[u32], strings: &[u8], first: usize, count: usize) -> bool
+    requires { ⌜ (first + count) * 3 ≤ length (now items) ⌝ }
+    ensures { λ r. ⌜ r ≡ allOf count (rising (shownEntry (now (items .entry)) (now (strings .entry)) first)) ⌝ }
+{
+    let mut j = 0;
+    while j < count {
+        if !entry_rises(items, strings, first, j) {
+            return false;
+        }
+        j += 1;
+    }
+    true
+}
+
+// The rules of node `i`: its parent's, and of a container those of its entries.
+fn relation_rule(nodes: &[u32], children: &[u32], named: &[u32], strings: &[u8], i: usize) -> u32
+    requires { ⌜ TreePassed (draftOf (now nodes) (now children) (now named) [] [] [] (now strings)) ⌝ }
+    requires { ⌜ i < nodeCount (draftOf (now nodes) (now children) (now named) [] [] [] (now strings)) ⌝ }
+    ensures { λ r. ⌜ r ≡ relationRule (draftOf (now (nodes .entry)) (now (children .entry)) (now (named .entry)) [] [] [] (now (strings .entry))) i ⌝ }
+{
+    let counts = Counts {
+        nodes: nodes.len() / 10,
+        children: children.len(),
+        named: named.len() / 3,
+    };
+    let node = source::node_at(nodes, i);
+    if records::parent_rule(node, i, counts, source::tag_at(nodes, node.parent)) != 0 {
+        return DRAFT_SHAPE;
+    }
+    if node.tag != 1 {
+        return 0;
+    }
+    if !right_children(nodes, children, i, node.f3 as usize, node.f4 as usize) {
+        return DRAFT_SHAPE;
+    }
+    if right_entries(nodes, named, strings, i, node.f5 as usize, node.f6 as usize) {
+        0
+    } else {
+        DRAFT_SHAPE
+    }
+}
+
+// The rules of every node.
+fn relations_rule(nodes: &[u32], children: &[u32], named: &[u32], strings: &[u8]) -> u32
+    requires { ⌜ TreePassed (draftOf (now nodes) (now children) (now named) [] [] [] (now strings)) ⌝ }
+    ensures { λ r. ⌜ r ≡ firstOf (nodeCount (draftOf (now (nodes .entry)) (now (children .entry)) (now (named .entry)) [] [] [] (now (strings .entry)))) (relationRule (draftOf (now (nodes .entry)) (now (children .entry)) (now (named .entry)) [] [] [] (now (strings .entry)))) ⌝ }
+{
+    let count = nodes.len() / 10;
+    let mut i = 0;
+    while i < count {
+        let refused = relation_rule(nodes, children, named, strings, i);
+        if refused != 0 {
+            return refused;
+        }
+        i += 1;
+    }
+    0
+}
+
+// The order of definition `d` and of its items.
+fn order_rule(definitions: &[u32], items: &[u32], strings: &[u8], d: usize) -> u32
+    requires { ⌜ ListsPassed (draftOf [] [] [] (now definitions) (now items) [] (now strings)) ⌝ }
+    requires { ⌜ d < definitionCount (draftOf [] [] [] (now definitions) (now items) [] (now strings)) ⌝ }
+    ensures { λ r. ⌜ r ≡ orderRule (draftOf [] [] [] (now (definitions .entry)) (now (items .entry)) [] (now (strings .entry))) d ⌝ }
+{
+    if !definition_rises(definitions, strings, d) {
+        return DRAFT_SHAPE;
+    }
+    let definition = source::definition_at(definitions, d);
+    if items_rise(
+        items,
+        strings,
+        definition.first as usize,
+        definition.count as usize,
+    ) {
+        0
+    } else {
+        DRAFT_SHAPE
+    }
+}
+
+// The order of every definition and of its items.
+fn orders_rule(definitions: &[u32], items: &[u32], strings: &[u8]) -> u32
+    requires { ⌜ ListsPassed (draftOf [] [] [] (now definitions) (now items) [] (now strings)) ⌝ }
+    ensures { λ r. ⌜ r ≡ firstOf (definitionCount (draftOf [] [] [] (now (definitions .entry)) (now (items .entry)) [] (now (strings .entry)))) (orderRule (draftOf [] [] [] (now (definitions .entry)) (now (items .entry)) [] (now (strings .entry)))) ⌝ }
+{
+    let count = definitions.len() / 4;
+    let mut d = 0;
+    while d < count {
+        let refused = order_rule(definitions, items, strings, d);
+        if refused != 0 {
+            return refused;
+        }
+        d += 1;
+    }
+    0
+}
+
+// Row 21, or 0, of a draft whose tables row 19 has passed.
+pub fn shape_rule(
+    nodes: &[u32],
+    children: &[u32],
+    named: &[u32],
+    definitions: &[u32],
+    items: &[u32],
+    payload: &[u8],
+    strings: &[u8],
+) -> u32
+    requires { ⌜ tablesRule (draftOf (now nodes) (now children) (now named) (now definitions) (now items) (now payload) (now strings)) ≡ 0 ⌝ }
+    ensures { λ r. ⌜ r ≡ shapeRule (draftOf (now (nodes .entry)) (now (children .entry)) (now (named .entry)) (now (definitions .entry)) (now (items .entry)) (now (payload .entry)) (now (strings .entry))) ⌝ }
+{
+    if !records::root_right(source::node_at(nodes, 0)) {
+        return DRAFT_SHAPE;
+    }
+    let refused = relations_rule(nodes, children, named, strings);
+    if refused != 0 {
+        return refused;
+    }
+    orders_rule(definitions, items, strings)
+}

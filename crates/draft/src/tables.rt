@@ -1,0 +1,224 @@
+// Row 19: a draft's tables. Every record rule holds, every text is good, and every number that should be a node's is one.
+ghost use mathlib.Core.Path.{_≡_};
+ghost use mathlib.Core.List.{List, []};
+ghost use Prim.Native.Nat.{ℕ};
+ghost use Rattle.laws.specs.Refusal.{unless, _▸_, firstOf};
+ghost use Rattle.image.specs.Sections.{Sections, nodeCount, childCount, namedCount, definitionCount, itemCount, goodIn};
+ghost use Rattle.image.specs.Entries.{nodeIn};
+ghost use Rattle.records.specs.Records.{usedUp};
+ghost use Rattle.records.specs.Shown.{sumsBefore, insideAmong, follows};
+ghost use Rattle.index.specs.Definitions.{itemsUsedUp};
+ghost use Rattle.draft.specs.Source.{NodesFrom, draftOf};
+ghost use Rattle.draft.specs.Draft.{wholeEntries, draftNodeRule, draftChildRule, draftNamedRule, draftDefinitionRule, draftItemRule, tablesRule};
+use crate::source;
+use image::Definition;
+use image::NodeRecord;
+use image::TextEntry;
+use image::refusal::BAD_DRAFT;
+use records::Counts;
+use records::Sums;
+
+// Whether each section is whole entries, and there is a node.
+fn whole_entries(nodes: &[u32], named: &[u32], definitions: &[u32], items: &[u32]) -> bool
+    ensures { λ r. ⌜ r ≡ wholeEntries (draftOf (now (nodes .entry)) [] (now (named .entry)) (now (definitions .entry)) (now (items .entry)) [] []) ⌝ }
+{
+    if nodes.len() % 10 != 0 {
+        return false;
+    }
+    if named.len() % 3 != 0 {
+        return false;
+    }
+    if definitions.len() % 4 != 0 {
+        return false;
+    }
+    if items.len() % 3 != 0 {
+        return false;
+    }
+    nodes.len() / 10 != 0
+}
+
+// The rules of node `i`: those of its fields, and that its parent is a node, the root aside.
+fn node_rule(
+    nodes: &[u32],
+    payload: &[u8],
+    strings: &[u8],
+    counts: Counts,
+    sums: Sums,
+    i: usize,
+    node: NodeRecord,
+) -> u32
+    ensures { λ r. ⌜ ((s : Sections) → NodesFrom s (now (nodes .entry)) (now (payload .entry)) (now (strings .entry)) counts → sums ≡ sumsBefore s i → node ≡ nodeIn s i → r ≡ draftNodeRule s i) ⌝ }
+{
+    let target_tag = source::tag_at(nodes, records::target_of(node));
+    if records::fields_rule(node, counts, sums, target_tag, payload, strings) != 0 {
+        return BAD_DRAFT;
+    }
+    if i == 0 {
+        return 0;
+    }
+    if source::is_node(counts.nodes, node.parent) {
+        0
+    } else {
+        BAD_DRAFT
+    }
+}
+
+// The rules of every node, and that they use up the ordered children, the named ones and the payload.
+fn nodes_rule(nodes: &[u32], children: &[u32], named: &[u32], payload: &[u8], strings: &[u8]) -> u32
+    ensures { λ r. ⌜ ((ds is : List ℕ) → r ≡ (firstOf (nodeCount (draftOf (now (nodes .entry)) (now (children .entry)) (now (named .entry)) ds is (now (payload .entry)) (now (strings .entry)))) (draftNodeRule (draftOf (now (nodes .entry)) (now (children .entry)) (now (named .entry)) ds is (now (payload .entry)) (now (strings .entry)))) ▸ unless (usedUp (draftOf (now (nodes .entry)) (now (children .entry)) (now (named .entry)) ds is (now (payload .entry)) (now (strings .entry)))) 19)) ⌝ }
+{
+    let counts = Counts {
+        nodes: nodes.len() / 10,
+        children: children.len(),
+        named: named.len() / 3,
+    };
+    let mut sums = Sums {
+        children: 0,
+        named: 0,
+        payload: 0,
+        containers: 0,
+    };
+    let mut i = 0;
+    while i < counts.nodes {
+        let node = source::node_at(nodes, i);
+        if node_rule(nodes, payload, strings, counts, sums, i, node) != 0 {
+            return BAD_DRAFT;
+        }
+        sums = records::add(sums, node);
+        i += 1;
+    }
+    if records::used_up(sums, counts, payload.len()) {
+        0
+    } else {
+        BAD_DRAFT
+    }
+}
+
+// Every ordered child is a node.
+fn children_rule(nodes: &[u32], children: &[u32]) -> u32
+    ensures { λ r. ⌜ r ≡ firstOf (childCount (draftOf (now (nodes .entry)) (now (children .entry)) [] [] [] [] [])) (draftChildRule (draftOf (now (nodes .entry)) (now (children .entry)) [] [] [] [] [])) ⌝ }
+{
+    let count = nodes.len() / 10;
+    let mut j = 0;
+    while j < children.len() {
+        if !source::is_node(count, children[j]) {
+            return BAD_DRAFT;
+        }
+        j += 1;
+    }
+    0
+}
+
+// A named entry, where there are so many nodes: its text is good, and it names a node.
+fn entry_rule(entry: TextEntry, nodes: usize, strings: &[u8]) -> u32
+    ensures { λ r. ⌜ r ≡ (unless (goodIn (now (strings .entry)) (entry .offset) (entry .len)) 19 ▸ unless (insideAmong nodes (entry .value)) 19) ⌝ }
+{
+    if !image::good_text(strings, entry.offset, entry.len) {
+        return BAD_DRAFT;
+    }
+    if source::is_node(nodes, entry.value) {
+        0
+    } else {
+        BAD_DRAFT
+    }
+}
+
+// The rules of every named entry.
+fn named_rule(nodes: &[u32], named: &[u32], strings: &[u8]) -> u32
+    ensures { λ r. ⌜ r ≡ firstOf (namedCount (draftOf (now (nodes .entry)) [] (now (named .entry)) [] [] [] (now (strings .entry)))) (draftNamedRule (draftOf (now (nodes .entry)) [] (now (named .entry)) [] [] [] (now (strings .entry)))) ⌝ }
+{
+    let nodes = nodes.len() / 10;
+    let count = named.len() / 3;
+    let mut j = 0;
+    while j < count {
+        let refused = entry_rule(source::entry_at(named, j), nodes, strings);
+        if refused != 0 {
+            return refused;
+        }
+        j += 1;
+    }
+    0
+}
+
+// A definition, where the ones before it use so many of all the items: its text is good, and its items follow theirs.
+fn definition_rule(definition: Definition, used: usize, items: usize, strings: &[u8]) -> u32
+    ensures { λ r. ⌜ r ≡ (unless (goodIn (now (strings .entry)) (definition .offset) (definition .len)) 19 ▸ unless (follows (definition .first) (definition .count) used items) 19) ⌝ }
+{
+    if !image::good_text(strings, definition.offset, definition.len) {
+        return BAD_DRAFT;
+    }
+    let first = definition.first as usize;
+    if items < first + definition.count as usize {
+        return BAD_DRAFT;
+    }
+    if first == used { 0 } else { BAD_DRAFT }
+}
+
+// The rules of every definition, and that they use up the items.
+fn definitions_rule(definitions: &[u32], items: &[u32], strings: &[u8]) -> u32
+    ensures { λ r. ⌜ r ≡ (firstOf (definitionCount (draftOf [] [] [] (now (definitions .entry)) (now (items .entry)) [] (now (strings .entry)))) (draftDefinitionRule (draftOf [] [] [] (now (definitions .entry)) (now (items .entry)) [] (now (strings .entry)))) ▸ unless (itemsUsedUp (draftOf [] [] [] (now (definitions .entry)) (now (items .entry)) [] (now (strings .entry)))) 19) ⌝ }
+{
+    let count = definitions.len() / 4;
+    let all = items.len() / 3;
+    let mut used = 0;
+    let mut d = 0;
+    while d < count {
+        let definition = source::definition_at(definitions, d);
+        if definition_rule(definition, used, all, strings) != 0 {
+            return BAD_DRAFT;
+        }
+        used = definition.first as usize + definition.count as usize;
+        d += 1;
+    }
+    if used == all { 0 } else { BAD_DRAFT }
+}
+
+// The text of every item is good.
+fn items_rule(items: &[u32], strings: &[u8]) -> u32
+    ensures { λ r. ⌜ r ≡ firstOf (itemCount (draftOf [] [] [] [] (now (items .entry)) [] (now (strings .entry)))) (draftItemRule (draftOf [] [] [] [] (now (items .entry)) [] (now (strings .entry)))) ⌝ }
+{
+    let count = items.len() / 3;
+    let mut j = 0;
+    while j < count {
+        let item = source::entry_at(items, j);
+        if !image::good_text(strings, item.offset, item.len) {
+            return BAD_DRAFT;
+        }
+        j += 1;
+    }
+    0
+}
+
+// Row 19, or 0.
+pub fn tables_rule(
+    nodes: &[u32],
+    children: &[u32],
+    named: &[u32],
+    definitions: &[u32],
+    items: &[u32],
+    payload: &[u8],
+    strings: &[u8],
+) -> u32
+    ensures { λ r. ⌜ r ≡ tablesRule (draftOf (now (nodes .entry)) (now (children .entry)) (now (named .entry)) (now (definitions .entry)) (now (items .entry)) (now (payload .entry)) (now (strings .entry))) ⌝ }
+{
+    if !whole_entries(nodes, named, definitions, items) {
+        return BAD_DRAFT;
+    }
+    let refused = nodes_rule(nodes, children, named, payload, strings);
+    if refused != 0 {
+        return refused;
+    }
+    let refused = children_rule(nodes, children);
+    if refused != 0 {
+        return refused;
+    }
+    let refused = named_rule(nodes, named, strings);
+    if refused != 0 {
+        return refused;
+    }
+    let refused = definitions_rule(definitions, items, strings);
+    if refused != 0 {
+        return refused;
+    }
+    items_rule(items, strings)
+}
