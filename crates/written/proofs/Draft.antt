@@ -1,10 +1,9 @@
 -- What the rules say of a draft that the writer takes, and of its numbering. Assumes nothing.
 use Prim.Native.Nat.{ℕ, zero, _%_, _≤_, _<_}
-use mathlib.Core.Path.{_≡_, refl, ap, _∙_}
-use mathlib.Core.List.{List, [], _∷_, reverse, reverse-append}
+use mathlib.Core.Path.{_≡_}
 use mathlib.Core.Bool.{true, _&&_, not}
 use native.Mathlib.Omega.{arith}
-use lib.ListN.{length, getD, length-reverse}
+use lib.ListN.{length}
 use lib.Dec.{eqb, leb}
 use borrow.Author.Tests.{eqb-false, leb-true, not-true}
 use Rattle.laws.specs.Lists.{has}
@@ -19,10 +18,9 @@ use Rattle.index.specs.Definitions.{goodDefinition, goodItem, itemsRight, items
 use Rattle.draft.specs.Draft.{wholeEntries, draftNodeRule, draftDefinitionRule, draftItemRule, tablesRule, reachRule, relationRule, orderRule, shapeRule, newPath, pathRule, pathsRule}
 use Rattle.draft.specs.Numbering.{numbering}
 use Rattle.encoder.specs.Encode.{imageFor, draftRule, encodeRule}
-use Rattle.tree.proofs.Members.{both-true, All, all-of, all-reverse, has-reverse, Distinct, pigeon, cover}
+use Rattle.tree.proofs.Members.{both-true, all-of}
 use Rattle.tree.proofs.Entries.{entries-inside, counts}
-use Rattle.tree.proofs.Numbers.{read-distinct, read-inside, read-first}
-use Rattle.written.proofs.Numbers.{distinct-reverse}
+use Rattle.tree.proofs.Numbers.{EachOnce, read-once}
 
 pub record Taken (s : Sections) : Type 0 where
   pub some : zero < nodeCount s
@@ -89,36 +87,6 @@ module _ (ink : ℕ) (s : Sections) (work room : ℕ) (p : encodeRule ink s work
 
 -- ---- the numbering
 
--- each number below n once, and 0 first
-pub record Numbered (n : ℕ) (order : List ℕ) : Type 0 where
-  pub len : length order ≡ n
-  pub apart : Distinct order
-  pub within : All (λ x. x < n) order
-  pub each : (i : ℕ) → i < n → has i order ≡ true
-  pub first : getD order 0 0 ≡ 0
-
-module _ (s : Sections) (t : Taken s) where
-  within-all : All (λ x. x < nodeCount s) (readWalk s .seen)
-  within-all = read-inside s (counts s (t .some) (t .used)) (λ i h. entries-inside s i (t .entries i h))
-
-  root-first : getD (numbering s) 0 0 ≡ 0
-  unfolding numbering
-  root-first =
-      ap (λ (l : List ℕ). getD (reverse l) 0 0) (read-first s .behind) ∙ ap (λ (l : List ℕ). getD l 0 0) (reverse-append (read-first s .front) (0 ∷ []))
-
-  pub numbered : Numbered (nodeCount s) (numbering s)
-  unfolding numbering
-  numbered =
-      record {
-        len =
-            omega (
-              arith,
-              length-reverse (readWalk s .seen),
-              pigeon (nodeCount s) (readWalk s .seen) (read-distinct s) within-all,
-              cover (nodeCount s) (readWalk s .seen) (t .reached),
-            );
-        apart = distinct-reverse (readWalk s .seen) [] (read-distinct s) tt (λ x h. unfold has in refl);
-        within = all-reverse (λ x. x < nodeCount s) (readWalk s .seen) within-all;
-        each = λ i h. has-reverse i (readWalk s .seen) ∙ t .reached i h;
-        first = root-first;
-      }
+pub numbered : (s : Sections) → Taken s → EachOnce (nodeCount s) (numbering s)
+unfolding numbering
+numbered s t = read-once s (counts s (t .some) (t .used)) (λ i h. entries-inside s i (t .entries i h)) (t .reached)

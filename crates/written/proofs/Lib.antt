@@ -1,5 +1,4 @@
 pub mod Lists
-pub mod Numbers
 pub mod Header
 pub mod Draft
 pub mod Texts
