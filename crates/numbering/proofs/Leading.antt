@@ -10,7 +10,7 @@ use Rattle.laws.specs.Lists.{has, placeIn}
 use Rattle.words.specs.Words.{NONE}
 use Rattle.image.specs.Sections.{Sections, nodeCount, childWord, namedWord, f, inside, isContainer}
 use Rattle.records.specs.Records.{childrenOf, namedOf}
-use Rattle.tree.specs.Tree.{childAt, namedAt, entryNodes, readWalk, Walked, allSeen}
+use Rattle.tree.specs.Tree.{childAt, namedAt, entryNodes, readWalk, allSeen}
 use Rattle.tree.specs.Parts.{Fit}
 use Rattle.tree.proofs.Members.{both-true, All, all-map, all-of, pigeon, cover}
 use Rattle.tree.proofs.Entries.{entry-each, child-container, named-container}

@@ -1,5 +1,5 @@
 -- From marks to numbers: the loop that writes them, and what they come to after the walk. Assumes nothing.
-use Prim.Native.Nat.{ℕ, zero, suc, _+_, _*_, _-_, _≤_, _<_}
+use Prim.Native.Nat.{ℕ, suc, _+_, _*_, _-_, _≤_, _<_}
 use mathlib.Core.Path.{_≡_, refl, sym, ap, _∙_}
 use mathlib.Core.List.{List, _++_}
 use mathlib.Core.Bool.{true}
@@ -9,7 +9,7 @@ use lib.ListN.{length, getD, take, drop, set, replicate, length-set}
 use lib.Seq.{getD-take, getD-set-same, getD-set-other, take-set-le, drop-set-lt}
 use Rattle.laws.specs.Lists.{placeIn}
 use Rattle.image.specs.Sections.{Sections, nodeCount}
-use Rattle.tree.specs.Tree.{readWalk, Walked, allSeen}
+use Rattle.tree.specs.Tree.{readWalk, allSeen}
 use Rattle.tree.specs.Work.{treeWords}
 use Rattle.tree.specs.Parts.{Fit}
 use Rattle.tree.proofs.Stack.{drop-more}

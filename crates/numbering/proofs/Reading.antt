@@ -4,8 +4,7 @@ use mathlib.Core.Path.{_≡_, refl, sym, ap, _∙_, subst}
 use mathlib.Core.List.{List, [], _∷_}
 use mathlib.Core.Bool.{Bool, true, false, not}
 use native.Mathlib.Omega.{arith}
-use native.Mathlib.Numerals.{add-one}
-use lib.ListN.{length, getD, drop, set}
+use lib.ListN.{length, getD, set}
 use lib.Dec.{eqb}
 use lib.Seq.{drop-set-lt}
 use Rattle.laws.specs.Counted.{sumOf, allOf}

@@ -4,7 +4,7 @@ use mathlib.Core.Path.{_≡_, refl}
 use mathlib.Core.List.{List}
 use Rattle.image.specs.Sections.{nodeWord, childWord, namedWord}
 use Rattle.records.specs.Records.{childrenOf, namedOf}
-use Rattle.tree.specs.Tree.{entryNodes, readWalk, Walked, allSeen}
+use Rattle.tree.specs.Tree.{entryNodes, readWalk, allSeen}
 use Rattle.tree.specs.Parts.{Fit}
 use Rattle.draft.specs.Source.{draftOf}
 use Rattle.draft.specs.Numbering.{numbering}

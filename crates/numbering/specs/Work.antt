@@ -7,7 +7,7 @@ use lib.ListN.{getD, drop}
 use Rattle.laws.specs.Lists.{placeIn}
 use Rattle.words.specs.Words.{NONE}
 use Rattle.image.specs.Sections.{Sections, nodeCount, childCount, namedCount, childWord, namedWord, inside}
-use Rattle.tree.specs.Tree.{entryNodes, readWalk, Walked}
+use Rattle.tree.specs.Tree.{entryNodes, readWalk}
 use Rattle.tree.specs.Work.{markIn, treeWords, Pushed, Entered}
 use Rattle.draft.specs.Source.{draftOf}
 use Rattle.draft.specs.Numbering.{numbering, oldOf}

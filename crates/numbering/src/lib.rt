@@ -4,7 +4,7 @@ ghost use mathlib.Core.Bool.{true};
 ghost use Prim.Native.Nat.{ℕ, _+_, _*_, _/_, _≤_, _<_};
 ghost use lib.ListN.{length, getD, drop};
 ghost use Rattle.image.specs.Sections.{nodeCount};
-ghost use Rattle.tree.specs.Tree.{entryNodes, readWalk, allSeen, Walked};
+ghost use Rattle.tree.specs.Tree.{entryNodes, readWalk, allSeen};
 ghost use Rattle.tree.specs.Work.{treeWords};
 ghost use Rattle.tree.specs.Parts.{Fit};
 ghost use Rattle.numbering.specs.Work.{treeOf, Leads, Numbered, ChildrenPushed, NamedPushed, NodeEntered, Read, Marks, Ordered};

@@ -1,13 +1,13 @@
 -- `numbering::number` meets its contract. Assumes nothing.
-use Prim.Native.Nat.{ℕ, _+_, _*_, _≤_}
+use Prim.Native.Nat.{ℕ, _+_, _*_}
 use mathlib.Core.Path.{_≡_, refl, sym, ap, _∙_}
 use mathlib.Core.List.{List}
-use mathlib.Core.Bool.{true, false≢true}
+use mathlib.Core.Bool.{false≢true}
 use native.Mathlib.Omega.{arith}
 use lib.ListN.{getD}
 use borrow.Author.Tests.{not-true, not-false}
 use Rattle.image.specs.Sections.{Sections, childWord, namedWord}
-use Rattle.tree.specs.Tree.{readWalk, Walked, allSeen}
+use Rattle.tree.specs.Tree.{readWalk, allSeen}
 use Rattle.tree.proofs.Loading.{cleared-zero}
 use Rattle.numbering.specs.Work.{treeOf}
 use Rattle.numbering.proofs.Leading.{InWords}
