@@ -29,11 +29,6 @@ unfolding joinOf
 all-joined P zero g h = tt
 all-joined P (suc n) g h = all-append P (joinOf n g) (g n) (all-joined P n g (λ j k. h j (omega arith))) (h n (omega arith))
 
-pub all-get : (P : ℕ → Type 0) (xs : List ℕ) (k : ℕ) → All P xs → P 0 → P (getD xs k 0)
-all-get P [] k a z = z
-all-get P (x ∷ xs) zero a z = a .0
-all-get P (x ∷ xs) (suc k) a z = all-get P xs k (a .1) z
-
 pub all-nth : (P : ℕ → Type 0) (xs : List ℕ) (k : ℕ) → k < length xs → All P xs → P (getD xs k 0)
 all-nth P [] k h a = absurd (not-suc-le-zero h)
 all-nth P (x ∷ xs) zero h a = a .0
