@@ -2,30 +2,24 @@
 use Prim.Native.Nat.{ℕ, zero, suc, _+_, _*_, _/_, _≤_, _<_}
 use mathlib.Core.Path.{_≡_, refl, sym, ap, _∙_, subst}
 use mathlib.Core.List.{List, [], _∷_, _++_, append-assoc, append-nil}
-use mathlib.Core.Bool.{true}
 use native.Mathlib.Omega.{arith}
 use native.Mathlib.Nat.{mul-one}
 use lib.ListN.{length, getD, length-append}
 use Rattle.laws.specs.Counted.{sumOf, joinOf}
-use Rattle.image.specs.Sections.{Sections, definitionCount, itemCount, definitionWord, itemWord, textAt, goodText}
-use Rattle.image.proofs.Parts.{part-length, good}
+use Rattle.image.specs.Sections.{Sections, definitionCount, itemCount, definitionWord, itemWord}
 use Rattle.index.specs.Definitions.{definitionText, firstItem, itemsOf, itemText, itemTextOf, itemsBefore as itemsSum}
 use Rattle.draft.specs.Draft.{tablesRule}
 use Rattle.draft.proofs.Rules.{Tables, tables, items-start, items-all, item-good}
 use Rattle.encoder.specs.Strings.{definitionTexts, offsetOf}
 use Rattle.encoder.specs.Ready.{OffsetsAt, definitionUses}
 use Rattle.encoder.specs.Written.{definitionOut, itemOut}
-use Rattle.encoder.proofs.Joined.{sum-const, join-length}
+use Rattle.encoder.proofs.Joined.{sum-const, join-same, join-length}
 use Rattle.encoder.proofs.Offsets.{offset-first, offsets-right, offsets-part}
 use Rattle.tree.proofs.Members.{sum-ext}
+use Rattle.node_section.proofs.Fielded.{text-length}
 use Rattle.list_sections.specs.Entered.{textsBefore, itemsBefore, definitionWords, itemWords, itemsWords}
 
 -- ---- joined parts
-
-pub join-like : (n : ℕ) (g h : ℕ → List ℕ) → ((j : ℕ) → j < n → g j ≡ h j) → joinOf n g ≡ joinOf n h
-unfolding joinOf
-join-like zero g h e = refl
-join-like (suc n) g h e = rw (join-like n g h (λ j k. e j (omega arith)), e n (omega arith)) refl
 
 -- parts one after the other are the parts of a longer run
 join-more : (a b : ℕ) (g : ℕ → List ℕ) → joinOf a g ++ joinOf b (λ i. g (a + i)) ≡ joinOf (a + b) g
@@ -43,9 +37,6 @@ regroup zero c g = refl
 regroup (suc n) c g = ap (λ (l : List ℕ). l ++ joinOf (c n) (λ i. g (sumOf n c + i))) (regroup n c g) ∙ join-more (sumOf n c) (c n) g
 
 -- ---- texts
-
-text-length : (s : Sections) (at len : ℕ) → goodText s at len ≡ true → length (textAt s at len) ≡ len
-text-length s at len p = part-length (s .strings) at len (good (s .strings) at len p .inside)
 
 -- a definition's texts: its own and one an item
 definition-size : (s : Sections) (d : ℕ) → length (definitionTexts s d) ≡ 1 + itemsOf s d
@@ -94,27 +85,27 @@ module _ (s : Sections) (order : List ℕ) (kept : List (List ℕ)) (w : List �
     definition-written : definitionWords (s .definitions) w at d ≡ definitionOut s order kept d
     unfolding definitionWords definitionOut definitionWord
     definition-written =
-        let size = sym (text-length s (definitionWord s d 0) (definitionWord s d 1) (t .definitions d h .0)) in
+        let size = text-length s (definitionWord s d 0) (definitionWord s d 1) (t .definitions d h .0) in
         λ j. definition-offset j ∷ size j ∷ definitionWord s d 2 ∷ definitionWord s d 3 ∷ []
 
     item-written : (i : ℕ) → i < itemsOf s d → itemWords (s .items) w (here + 1) (firstItem s d) i ≡ itemOut s order kept (firstItem s d + i)
     unfolding itemWords itemOut itemWord
     item-written i k =
         let offset = item-offset i k in
-        let size = sym (text-length s (itemWord s (firstItem s d + i) 0) (itemWord s (firstItem s d + i) 1) (item-good s t d h i k)) in
+        let size = text-length s (itemWord s (firstItem s d + i) 0) (itemWord s (firstItem s d + i) 1) (item-good s t d h i k) in
         λ j. offset j ∷ size j ∷ itemWord s (firstItem s d + i) 2 ∷ []
 
     items-written : itemsWords (s .definitions) (s .items) w at d ≡ joinOf (itemsOf s d) (λ i. itemOut s order kept (itemsSum s d + i))
     unfolding itemsWords definitionWord
     items-written =
-        join-like (itemsOf s d) (itemWords (s .items) w (here + 1) (firstItem s d)) (λ i. itemOut s order kept (itemsSum s d + i))
+        join-same (itemsOf s d) (itemWords (s .items) w (here + 1) (firstItem s d)) (λ i. itemOut s order kept (itemsSum s d + i))
         (λ i k. item-written i k ∙ ap (λ (m : ℕ). itemOut s order kept (m + i)) (items-start s t d h))
 
   pub definitions-are : joinOf (definitionCount s) (definitionWords (s .definitions) w at) ≡ joinOf (definitionCount s) (definitionOut s order kept)
-  definitions-are = join-like (definitionCount s) (definitionWords (s .definitions) w at) (definitionOut s order kept) definition-written
+  definitions-are = join-same (definitionCount s) (definitionWords (s .definitions) w at) (definitionOut s order kept) definition-written
 
   pub items-are : joinOf (definitionCount s) (itemsWords (s .definitions) (s .items) w at) ≡ joinOf (itemCount s) (itemOut s order kept)
   items-are =
-      join-like (definitionCount s) (itemsWords (s .definitions) (s .items) w at) (λ d. joinOf (itemsOf s d) (λ i. itemOut s order kept (itemsSum s d + i))) items-written
+      join-same (definitionCount s) (itemsWords (s .definitions) (s .items) w at) (λ d. joinOf (itemsOf s d) (λ i. itemOut s order kept (itemsSum s d + i))) items-written
       ∙ regroup (definitionCount s) (itemsOf s) (itemOut s order kept)
       ∙ ap (λ (n : ℕ). joinOf n (itemOut s order kept)) (items-all s t)
