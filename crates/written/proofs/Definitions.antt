@@ -15,7 +15,7 @@ use Rattle.index.specs.Definitions.{definitionText, firstItem, itemsOf, itemTex
 use Rattle.encoder.specs.Strings.{offsetOf}
 use Rattle.encoder.specs.Written.{definitionOut, itemOut}
 use Rattle.written.proofs.Texts.{good-utf8}
-use Rattle.written.proofs.Blocks.{w, definition-count, definition-word, item-count, item-word}
+use Rattle.encoder.proofs.Blocks.{w, definition-count, definition-word, item-count, item-word}
 use Rattle.written.proofs.Fields.{Given}
 use Rattle.written.proofs.Rules.{good-at, text-at}
 use Rattle.written.proofs.Tree.{rising-same}

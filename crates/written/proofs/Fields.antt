@@ -22,12 +22,13 @@ use Rattle.draft.specs.Numbering.{oldOf, newOf}
 use Rattle.encoder.specs.Written.{fieldStart, fieldWords, putFields, moreWords, nodeOut, startIn}
 use Rattle.written.specs.Written.{DraftWords}
 use Rattle.tree.proofs.Members.{both-true, and-true, sum-ext}
-use Rattle.written.proofs.Lists.{not-of, sum-below}
+use Rattle.encoder.proofs.Joined.{sum-below}
+use Rattle.written.proofs.Lists.{not-of}
 use Rattle.tree.proofs.Numbers.{EachOnce, get-below, place-below, get-of-place, place-of-get}
 use Rattle.written.proofs.Header.{image-length}
 use Rattle.written.proofs.Draft.{Taken}
 use Rattle.written.proofs.Texts.{Stored}
-use Rattle.written.proofs.Blocks.{w, put-length, nodes-length, node-count, node-word}
+use Rattle.encoder.proofs.Blocks.{w, put-length, nodes-length, node-count, node-word}
 
 -- the bytes of each section fit an image
 pub record Room (v : Sections) : Type 0 where

@@ -20,7 +20,8 @@ use Rattle.image.specs.Header.{magic, headerLength, version, nodeWords, section
 use Rattle.image.specs.Encoding.{countOf, sectionOut, startOf, bodyOf, headerWith, imageOf}
 use Rattle.load.specs.Load.{checksumRule}
 use Rattle.tree.proofs.Members.{and-true, all-so, sum-ext}
-use Rattle.written.proofs.Lists.{not-of, sum-below, join-length, join-part}
+use Rattle.encoder.proofs.Joined.{sum-below, join-length, join-part}
+use Rattle.written.proofs.Lists.{not-of}
 
 -- one of eight
 pub eight : (P : ℕ → Type 0) → P 0 → P 1 → P 2 → P 3 → P 4 → P 5 → P 6 → P 7 → (k : ℕ) → k < 8 → P k

@@ -23,8 +23,9 @@ use Rattle.draft.specs.Draft.{newPath}
 use Rattle.draft.specs.Numbering.{oldOf}
 use Rattle.encoder.specs.Strings.{insertBy, sortBy, byPath, pathOf, offsetOf}
 use Rattle.encoder.specs.Written.{indexOut}
-use Rattle.written.proofs.Lists.{or-else, all-nth}
-use Rattle.written.proofs.Blocks.{w, index-count, index-word}
+use Rattle.encoder.proofs.Joined.{all-nth}
+use Rattle.written.proofs.Lists.{or-else}
+use Rattle.encoder.proofs.Blocks.{w, index-count, index-word}
 use Rattle.written.proofs.Fields.{Given, counted, old-in, new-old, inside-written, container-same}
 use Rattle.written.proofs.Rules.{good-at, text-at}
 use Rattle.written.proofs.Tree.{rising-same}

@@ -2,7 +2,6 @@ pub mod Lists
 pub mod Header
 pub mod Draft
 pub mod Texts
-pub mod Blocks
 pub mod Fields
 pub mod Payload
 pub mod Rules

@@ -25,7 +25,7 @@ use Rattle.written.specs.Written.{DraftWords, WrittenLoads, WrittenAccep
 use Rattle.written.proofs.Header.{Whole, round-trip, header-passes, checksum-passes, image-length}
 use Rattle.written.proofs.Draft.{taken, numbered, ink-taken, image-fits}
 use Rattle.written.proofs.Texts.{stored}
-use Rattle.written.proofs.Blocks.{w, index-count}
+use Rattle.encoder.proofs.Blocks.{w, index-count}
 use Rattle.written.proofs.Fields.{Given, roomy, counted}
 use Rattle.written.proofs.Rules.{root-kept, node-kept, used-up}
 use Rattle.written.proofs.Tree.{tree-kept}

@@ -27,7 +27,7 @@ use Rattle.encoder.specs.Strings.{textIf, fieldTexts, offsetOf}
 use Rattle.encoder.specs.Written.{fieldWords}
 use Rattle.written.proofs.Lists.{or-else}
 use Rattle.written.proofs.Texts.{in-left, in-one, offset-inside, good-utf8, good-length}
-use Rattle.written.proofs.Blocks.{w}
+use Rattle.encoder.proofs.Blocks.{w}
 use Rattle.written.proofs.Fields.{Given, counted, old-in, old-new, new-in, old-zero, new-zero, zero-old, place-word, container-reads}
 use Rattle.written.proofs.Payload.{strings-small}
 use Rattle.written.proofs.Rules.{text-at, parent-draft, parent-lt, parent-new}

@@ -20,9 +20,10 @@ use Rattle.draft.specs.Numbering.{oldOf}
 use Rattle.encoder.specs.Strings.{offsetOf}
 use Rattle.encoder.specs.Written.{listItemOut, listOriginOut, listOut, payloadOut, writtenWith}
 use Rattle.tree.proofs.Members.{both-true, All, all-append}
-use Rattle.written.proofs.Lists.{all-joined, all-below, join-read, join-len, even-read, even-len}
+use Rattle.encoder.proofs.Joined.{join-read, join-len, even-read, even-len}
+use Rattle.written.proofs.Lists.{all-joined, all-below}
 use Rattle.written.proofs.Texts.{offset-le, text-short}
-use Rattle.written.proofs.Blocks.{w}
+use Rattle.encoder.proofs.Blocks.{w}
 use Rattle.written.proofs.Fields.{Given, old-in}
 
 abbrev pub Small : ℕ → Type 0

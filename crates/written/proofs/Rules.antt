@@ -22,9 +22,10 @@ use Rattle.draft.specs.Numbering.{oldOf, newOf}
 use Rattle.encoder.specs.Strings.{textIf, listTexts, fieldTexts, offsetOf}
 use Rattle.encoder.specs.Written.{fieldStart, fieldWords, listItemOut, listOriginOut, listOut, writtenWith}
 use Rattle.tree.proofs.Members.{both-true, and-true, or-left, or-right, all-of, sum-ext}
-use Rattle.written.proofs.Lists.{or-else, not-of, sum-below}
+use Rattle.encoder.proofs.Joined.{sum-below}
+use Rattle.written.proofs.Lists.{or-else, not-of}
 use Rattle.written.proofs.Texts.{in-left, in-right, in-one, in-join, good-utf8, text-back, text-good}
-use Rattle.written.proofs.Blocks.{w, child-count, named-count}
+use Rattle.encoder.proofs.Blocks.{w, child-count, named-count}
 use Rattle.written.proofs.Fields.{Given, counted, old-in, old-new, new-in, old-zero, zero-old, inside-lt, new-is, inside-new, parent-word, place-word, tag-word, Reads, ReadsAll, reads, container-same, children-of, named-of, payload-of, start-is, sum-written}
 use Rattle.written.proofs.Payload.{strings-small, list-length, list-item, list-origin, list-right, list-size, payload-count, payload-word}
 

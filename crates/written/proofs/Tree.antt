@@ -23,7 +23,7 @@ use Rattle.draft.specs.Numbering.{oldOf, newOf}
 use Rattle.encoder.specs.Strings.{textWords}
 use Rattle.encoder.specs.Written.{fieldWords}
 use Rattle.written.proofs.Texts.{good-utf8}
-use Rattle.written.proofs.Blocks.{w, child-word, named-word}
+use Rattle.encoder.proofs.Blocks.{w, child-word, named-word}
 use Rattle.written.proofs.Fields.{Given, counted, old-in, old-new, new-in, new-old, new-zero, new-is, parent-word, place-word, container-reads, children-of, named-of, start-is}
 use Rattle.written.proofs.Rules.{good-at, text-at, node-at, container-at, children-used, named-used}
 

@@ -19,12 +19,13 @@ use Rattle.tree.proofs.Members.{All, all-append}
 use Rattle.draft.specs.Numbering.{oldOf, newOf}
 use Rattle.encoder.specs.Strings.{byPath, pathOf}
 use Rattle.encoder.specs.Written.{fieldStart, fieldWords, putFields, moreWords, nodeOut, childrenOut, namedOut, definitionOut, itemOut, indexOut, startIn, writtenWith}
-use Rattle.written.proofs.Lists.{all-joined, all-sets, all-below, sum-below}
+use Rattle.encoder.proofs.Joined.{sum-below}
+use Rattle.written.proofs.Lists.{all-joined, all-sets, all-below}
 use Rattle.tree.proofs.Places.{place-le}
 use Rattle.written.proofs.Header.{Whole}
 use Rattle.written.proofs.Draft.{taken, numbered}
 use Rattle.written.proofs.Texts.{stored, offset-inside}
-use Rattle.written.proofs.Blocks.{w, nodes-length, child-count, named-whole, definitions-whole, items-whole, index-whole}
+use Rattle.encoder.proofs.Blocks.{w, nodes-length, child-count, named-whole, definitions-whole, items-whole, index-whole}
 use Rattle.written.proofs.Fields.{Given, counted, few, start-is}
 use Rattle.written.proofs.Payload.{Small, offset-small, text-small, cond-small, strings-small, payload-count}
 use Rattle.written.proofs.Index.{index-node}

@@ -14,9 +14,9 @@ use Rattle.records.specs.Fields.{Field}
 use Rattle.records.specs.Records.{fieldsAt, childrenOf, namedOf}
 use Rattle.tree.specs.Tree.{childAt, namedAt, namedText}
 use Rattle.draft.specs.Numbering.{oldOf, newOf}
 use Rattle.encoder.specs.Strings.{byPath, textWords}
 use Rattle.encoder.specs.Written.{fieldStart, fieldWords, putFields, moreWords, nodeOut, childrenOut, namedOut, definitionOut, itemOut, indexOut, writtenWith}
-use Rattle.written.proofs.Lists.{sum-scale, join-read, join-len, even-read, even-len, ones-len, ones-read}
+use Rattle.encoder.proofs.Joined.{sum-scale, join-read, join-len, even-read, even-len, ones-len, ones-read}
 
 module _ (s : Sections) (order : List ℕ) (kept : List (List ℕ)) where
   -- the sections as they are written, shut
@@ -36,7 +36,7 @@ module _ (s : Sections) (order : List ℕ) (kept : List (List ℕ)) where
   more-length i = ones-len (s .stride - nodeWords) (λ k. nodeWord s i (nodeWords + k))
 
   module _ (wide : nodeWords ≤ s .stride) where
-    node-length : (i : ℕ) → length (nodeOut s order kept i) ≡ s .stride
+    pub node-length : (i : ℕ) → length (nodeOut s order kept i) ≡ s .stride
     unfolding nodeOut
     node-length i =
         omega (
@@ -61,7 +61,7 @@ module _ (s : Sections) (order : List ℕ) (kept : List (List ℕ)) where
 
   -- ---- ordered children
 
-  children-length : (i : ℕ) → length (childrenOut s order kept i) ≡ childrenOf s i
+  pub children-length : (i : ℕ) → length (childrenOut s order kept i) ≡ childrenOf s i
   unfolding childrenOut
   children-length i = ones-len (childrenOf s i) (λ j. newOf order (childAt s i j))
 
@@ -83,7 +83,7 @@ module _ (s : Sections) (order : List ℕ) (kept : List (List ℕ)) where
   abbrev named-entry : ℕ → ℕ → List ℕ
   named-entry i k = textWords kept (namedText s i k) ++ (newOf order (namedAt s i k 2) ∷ [])
 
-  named-length : (i : ℕ) → length (namedOut s order kept i) ≡ namedOf s i * 3
+  pub named-length : (i : ℕ) → length (namedOut s order kept i) ≡ namedOf s i * 3
   unfolding namedOut
   named-length i = even-len (namedOf s i) 3 (named-entry i) (λ m h. refl)
 

@@ -1,0 +1,5 @@
+pub mod ByTag
+pub mod Made
+pub mod Counting
+pub mod Fielded
+pub mod Going

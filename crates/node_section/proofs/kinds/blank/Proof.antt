@@ -1,0 +1,13 @@
+-- `node_section::kinds::blank` meets its contract. Assumes nothing.
+use borrow.Author.Needs.{needs}
+use Rattle.node_section.proofs.kinds.blank.Statement.{statement}
+use Rattle.node_section.proofs.kinds.blank.Tie as tie
+
+new-number-requires : tie.Need-new-number-requires
+new-number-requires c κs = search needs
+
+returns : tie.Need-returns
+returns c = cc
+
+pub blank-spec : {M : Type 1} → statement M
+blank-spec = tie.close (tie.spec new-number-requires returns)

@@ -1,0 +1,53 @@
+-- The draft whose words the section writers are lent, and the numbers that the work words hold. Assumes nothing.
+use Prim.Native.Nat.{ℕ, _<_}
+use mathlib.Core.Path.{_≡_, ap}
+use mathlib.Core.List.{List}
+use mathlib.Core.Bool.{cond}
+use borrow.Author.Tests.{eq-eqb}
+use Rattle.words.specs.Words.{NONE, isNone}
+use Rattle.image.specs.Sections.{Sections}
+use Rattle.image.specs.Header.{nodeWords}
+use Rattle.draft.specs.Numbering.{newOf}
+use Rattle.encoder.specs.Ready.{NewsAt}
+pub use Rattle.encoder.proofs.Joined.{join-same}
+use Rattle.sections.specs.Held.{newIn}
+
+-- sections with some of their lists by name
+abbrev pub retold : Sections → List ℕ → List ℕ → List ℕ → List ℕ → Sections
+retold s nodes children named payload =
+    record {
+      stride = nodeWords;
+      nodes = nodes;
+      children = children;
+      named = named;
+      definitions = s .definitions;
+      items = s .items;
+      index = s .index;
+      payload = payload;
+      strings = s .strings;
+    }
+
+pub told : (s : Sections) (nodes children named payload : List ℕ) → s .stride ≡ nodeWords → s .nodes ≡ nodes → s .children ≡ children
+    → s .named ≡ named → s .payload ≡ payload → s ≡ retold s nodes children named payload
+told s nodes children named payload q e d m p =
+    λ t. record {
+      stride = q t;
+      nodes = e t;
+      children = d t;
+      named = m t;
+      definitions = s .definitions;
+      items = s .items;
+      index = s .index;
+      payload = p t;
+      strings = s .strings;
+    }
+
+-- a number of a node
+pub new-is : (order w : List ℕ) (n new x : ℕ) → NewsAt order w n new → x < n → newIn w new x ≡ newOf order x
+unfolding newIn newOf
+new-is order w n new x h k = ap (cond (isNone x) NONE) (h x k)
+
+-- NONE stays
+pub new-none : (order w : List ℕ) (new x : ℕ) → x ≡ NONE → newIn w new x ≡ newOf order x
+unfolding newIn newOf
+new-none order w new x e = rw (eq-eqb x NONE e)

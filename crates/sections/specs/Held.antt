@@ -1,0 +1,42 @@
+-- What the section writers read out of the draft's words and the work words, over plain lists; laws tie it to the written sections.
+-- Assumes nothing.
+use Prim.Native.Nat.{ℕ, _+_, _/_, _≤_, _<_}
+use mathlib.Core.List.{List, [], _∷_}
+use mathlib.Core.Bool.{cond}
+use lib.ListN.{length, getD}
+use Rattle.laws.specs.Counted.{joinOf, sumOf}
+use Rattle.words.specs.Words.{NONE, isNone}
+use Rattle.image.specs.Sections.{Sections, f}
+use Rattle.records.specs.Records.{childrenOf}
+use Rattle.draft.specs.Source.{draftOf}
+use Rattle.sections.specs.declared.numbers.Numbers.{Numbers}
+
+-- ---- numbers
+
+-- the image's number of a node, which the words from `new` on hold
+unfoldable pub newIn : List ℕ → ℕ → ℕ → ℕ
+newIn w new n = cond (isNone n) NONE (getD w (new + n) 0)
+
+-- a draft that has nodes alone
+abbrev pub nodesOnly : List ℕ → Sections
+nodesOnly nodes = draftOf nodes [] [] [] [] [] []
+
+-- the words hold a number of a node for each node of the image
+pub record OrderFits (nodes w : List ℕ) (n : Numbers) : Type 0 where
+  pub olds : (j : ℕ) → j < length nodes / 10 → getD w (n .order + j) 0 < length nodes / 10
+  pub order-end : n .order + length nodes / 10 ≤ length w
+  pub new-start : n .new ≤ length w
+
+-- ---- ordered children
+
+-- of one node, by their numbers in the image
+abbrev pub childWords : List ℕ → List ℕ → ℕ → ℕ → ℕ → List ℕ
+childWords children w new first count = joinOf count (λ j. newIn w new (getD children (first + j) 0) ∷ [])
+
+-- of draft's node i
+unfoldable pub childWordsOf : List ℕ → List ℕ → List ℕ → ℕ → ℕ → List ℕ
+childWordsOf nodes children w new i = childWords children w new (f (nodesOnly nodes) i 3) (childrenOf (nodesOnly nodes) i)
+
+-- how many there are
+abbrev pub childrenSize : List ℕ → List ℕ → ℕ → ℕ
+childrenSize nodes w order = sumOf (length nodes / 10) (λ j. childrenOf (nodesOnly nodes) (getD w (order + j) 0))
