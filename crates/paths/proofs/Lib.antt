@@ -1,1 +1,3 @@
 pub mod Rule
+pub mod Filling
+pub mod Listing

@@ -19,6 +19,7 @@ use Rattle.index.specs.Paths.{canonicalPath}
 use Rattle.draft.specs.Draft.{placed, newPath, pathRule, pathsRule}
 use Rattle.draft.specs.Numbering.{oldOf}
 use Rattle.encoder.specs.Strings.{pathOf}
+use Rattle.image.proofs.Tests.{all-fails}
 use Rattle.tree.proofs.Members.{all-of, all-so}
 use Rattle.paths.specs.Listed.{containers, Renumbers}
 
@@ -133,13 +134,6 @@ all-not (suc n) g e = go (allOf n g) refl (g n) refl e (all-not n g)
     go true p false q h r = (n, (omega arith, q))
     go true p true q h r = absurd (false≢true (sym h))
 
-all-fails : (n i : ℕ) (g : ℕ → Bool) → i < n → g i ≡ false → allOf n g ≡ false
-all-fails n i g h e = go (allOf n g) refl
-  where
-    go : (b : Bool) → allOf n g ≡ b → b ≡ false
-    go true q = absurd (false≢true (sym e ∙ all-of n g q i h))
-    go false q = refl
-
 -- ---- the paths of a draft
 
 module _ (s : Sections) where
@@ -172,7 +166,7 @@ module _ (s : Sections) where
   alike i j l h p q e =
       let here : (not (isContainer s i) || not (same (canonicalPath s i) (canonicalPath s j))) ≡ false =
       rw (p, e, same-self (canonicalPath s j)) refl in
-      let n : newPath s j ≡ false = rw (q, all-fails j i (λ k. not (isContainer s k) || not (same (canonicalPath s k) (canonicalPath s j))) l here) refl in
+      let n : newPath s j ≡ false = rw (q, all-fails j (λ k. not (isContainer s k) || not (same (canonicalPath s k) (canonicalPath s j))) i l here) refl in
       first-some 21 (nodeCount s) j (pathRule s) each h (refused-path j n)
 
   module _ (order : List ℕ) (r : Renumbers (nodeCount s) order) where

@@ -1,1 +1,109 @@
-// The paths of a draft's containers: listed in the image's order, measured, and sorted by text.
+// The paths of a draft's containers (rule 22): listed in the image's order, measured, and sorted by text.
+ghost use mathlib.Core.Path.{_≡_};
+ghost use mathlib.Core.List.{_∷_, []};
+ghost use Prim.Native.Nat.{_+_, _*_, _≤_};
+ghost use lib.ListN.{length, getD};
+ghost use lib.Seq.{sets};
+ghost use Rattle.laws.specs.Counted.{allOf, joinOf};
+ghost use Rattle.image.specs.Header.{nodeWords};
+ghost use Rattle.image.specs.Sections.{Sections};
+ghost use Rattle.draft.specs.Draft.{placed};
+ghost use Rattle.paths.specs.Listed.{containersIn, placedIn};
+use draft::source;
+use image::NONE;
+use image::NodeRecord;
+
+// Whether node `i` is the root, no container, or a container that has a name or a place.
+fn is_placed(node: NodeRecord, i: usize) -> bool
+    ensures { λ r. ⌜ r ≡ placedIn node i ⌝ }
+{
+    if node.tag != 1 {
+        return true;
+    }
+    if i == 0 {
+        return true;
+    }
+    if node.place != NONE {
+        return true;
+    }
+    if node.f1 == 0 {
+        return false;
+    }
+    if node.f1 != NONE {
+        return true;
+    }
+    if node.f0 == NONE { false } else { true }
+}
+
+// Whether each of the nodes is so.
+fn all_placed(nodes: &[u32], count: usize) -> bool
+    requires { ⌜ count * 10 ≤ length (now nodes) ⌝ }
+    ensures { λ r. ⌜ ((s : Sections) → s .nodes ≡ now (nodes .entry) → s .stride ≡ nodeWords → r ≡ allOf count (placed s)) ⌝ }
+{
+    let mut i = 0;
+    while i < count {
+        if !is_placed(source::node_at(nodes, i), i) {
+            return false;
+        }
+        i += 1;
+    }
+    true
+}
+
+// Lists the containers among the `count` nodes whose numbers stand from `order` on; the list begins at `paths`. How many they are.
+fn list_containers(nodes: &[u32], w: &mut [u32], order: usize, count: usize, paths: usize) -> usize
+    requires { ⌜ (paths + count ≤ order) × (order + count ≤ length (now w)) ⌝ }
+    ensures answer { λ r. ⌜ r ≡ length (containersIn (now (nodes .entry)) (now (w .entry)) order count) ⌝ }
+    ensures words { λ r. ⌜ now (w .exit) ≡ sets (now (w .entry)) paths (containersIn (now (nodes .entry)) (now (w .entry)) order count) ⌝ }
+{
+    let mut found = 0;
+    let mut j = 0;
+    while j < count {
+        let node = source::word(w, order + j);
+        if source::word(nodes, node as usize * 10 + 2) == 1 {
+            w[paths + found] = node;
+            found += 1;
+        }
+        j += 1;
+    }
+    found
+}
+
+// Writes the numbers below the count into the first words.
+fn count_up(w: &mut [u32], count: usize)
+    requires { ⌜ (count ≤ length (now w)) × (count ≤ 4294967295) ⌝ }
+    ensures { λ _. ⌜ now (w .exit) ≡ sets (now (w .entry)) 0 (joinOf count (λ i. i ∷ [])) ⌝ }
+{
+    let mut i = 0;
+    let mut number = 0u32;
+    while i < count {
+        w[i] = number;
+        number += 1;
+        i += 1;
+    }
+}
+
+// Puts behind the first `count` words, for each, the word of the list at `list` that it names.
+fn gather(w: &mut [u32], count: usize, list: usize)
+    requires { ⌜ (count + count ≤ list) × (list ≤ length (now w)) ⌝ }
+    ensures { λ _. ⌜ now (w .exit) ≡ sets (now (w .entry)) count (joinOf count (λ i. getD (now (w .entry)) (list + getD (now (w .entry)) i 0) 0 ∷ [])) ⌝ }
+{
+    let mut i = 0;
+    while i < count {
+        let at = source::word(w, i) as usize;
+        w[count + i] = source::word(w, list + at);
+        i += 1;
+    }
+}
+
+// Copies as many words from behind the first `count` to the list.
+fn settle(w: &mut [u32], count: usize, list: usize)
+    requires { ⌜ (count + count ≤ list) × (list + count ≤ length (now w)) ⌝ }
+    ensures { λ _. ⌜ now (w .exit) ≡ sets (now (w .entry)) list (joinOf count (λ i. getD (now (w .entry)) (count + i) 0 ∷ [])) ⌝ }
+{
+    let mut i = 0;
+    while i < count {
+        w[list + i] = w[count + i];
+        i += 1;
+    }
+}
