@@ -1,3 +1,5 @@
 pub mod Rule
 pub mod Filling
 pub mod Listing
+pub mod Sorting
+pub mod Measuring
