@@ -3,3 +3,4 @@ pub mod Filling
 pub mod Listing
 pub mod Sorting
 pub mod Measuring
+pub mod Arranging

@@ -94,7 +94,7 @@ sort-map k g (x ∷ xs) = insert-map k g x (isort (byKey (λ a. k (g a))) xs) �
 
 -- ---- the numbers below n, as names of a list's places
 
-join-at : (n : ℕ) (g : ℕ → ℕ) (i : ℕ) → i < n → getD (joinOf n (λ j. g j ∷ [])) i 0 ≡ g i
+pub join-at : (n : ℕ) (g : ℕ → ℕ) (i : ℕ) → i < n → getD (joinOf n (λ j. g j ∷ [])) i 0 ≡ g i
 unfolding joinOf
 join-at zero g i h = absurd (omega arith)
 join-at (suc n) g i h = go (decLt i n) (join-at n g i)
@@ -108,14 +108,14 @@ join-at (suc n) g i h = go (decLt i n) (join-at n g i)
         let e : i ≡ n = omega arith in
         ap (λ (k : ℕ). getD (before-last ++ (g n ∷ [])) k 0) (e ∙ sym (length-join n g)) ∙ getD-append-seam before-last (g n) [] 0 ∙ ap g (sym e)
 
-pub names : ℕ → List ℕ
+unfoldable pub names : ℕ → List ℕ
 names n = joinOf n (λ i. i ∷ [])
 
 names-at : (n i : ℕ) → i < n → getD (names n) i 0 ≡ i
 unfolding names
 names-at n i h = join-at n (λ j. j) i h
 
-names-length : (n : ℕ) → length (names n) ≡ n
+pub names-length : (n : ℕ) → length (names n) ≡ n
 unfolding names
 names-length n = length-join n (λ i. i)
 
