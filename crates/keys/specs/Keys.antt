@@ -2,7 +2,7 @@
 -- nowhere as bytes: it is read from its end, piece by piece up the parents. Every read is total: past the end of a list it gives 0. Assumes nothing.
 use Prim.Native.Nat.{ℕ, zero, suc, _+_, _-_, _*_, _^_, _≤_}
 use mathlib.Core.List.{List, [], _∷_, _++_}
-use mathlib.Core.Bool.{Bool, true, false, cond, not}
+use mathlib.Core.Bool.{Bool, true, false, cond, not, _&&_}
 use lib.ListN.{length, getD, drop}
 use lib.Dec.{eqb, ltb}
 use Rattle.texts.specs.Decimal.{decimal, decimals}
@@ -38,11 +38,13 @@ atEnd nodes x =
       above = wordOf nodes x 0;
     }
 
+-- byte i of a cursor's piece
+abbrev pub pieceByte : List ℕ → Cursor → ℕ → ℕ
+pieceByte strings c i = cond (c .named) (getD strings (c .at + i) 0) (getD (decimal (c .at)) i 0)
+
 -- the byte before a cursor: of its piece, or the dot before the piece
 unfoldable pub lastByte : List ℕ → Cursor → ℕ
-lastByte strings c =
-    cond (eqb (c .left) 0) dot
-    (cond (c .named) (getD strings (c .at + (c .left - 1)) 0) (getD (decimal (c .at)) (c .left - 1) 0))
+lastByte strings c = cond (eqb (c .left) 0) dot (pieceByte strings c (c .left - 1))
 
 -- the cursor before that byte; before a dot stands the whole piece of the node above
 unfoldable pub stepBack : List ℕ → Cursor → Cursor
@@ -60,6 +62,17 @@ unfoldable pub back : ℕ → List ℕ → Cursor → Cursor
 back zero nodes c = c
 back (suc n) nodes c = back n nodes (stepBack nodes c)
 
+-- ---- two texts of one length, the first difference of which decides, else what follows them
+
+unfoldable pub decided : List ℕ → List ℕ → Bool → Bool
+decided [] ys later = later
+decided (x ∷ xs) [] later = later
+decided (x ∷ xs) (y ∷ ys) later = let r = decided xs ys later in cond (ltb x y) true (cond (ltb y x) false r)
+
+-- what is left is one text: both cursors stand before pieces below one node
+abbrev pub alike : Cursor → Cursor → Bool
+alike c d = eqb (c .left) 0 && eqb (d .left) 0 && eqb (c .above) (d .above)
+
 -- ---- uses
 
 -- the node whose path is use a
@@ -76,7 +89,18 @@ keyOf nodes strings texts paths lengths tab a =
     cond (ltb a texts) (textIn strings (getD tab (a + a) 0) (getD tab (a + a + 1) 0))
     (readBack (longOf lengths tab (nodeOf texts paths tab a)) nodes strings (atEnd nodes (nodeOf texts paths tab a)))
 
--- the same by the place of the tables in the work words
+-- how long that text is
+unfoldable pub keyLength : List ℕ → ℕ → ℕ → ℕ → List ℕ → ℕ → ℕ
+keyLength strings texts paths lengths tab a =
+    cond (ltb a texts) (length (textIn strings (getD tab (a + a) 0) (getD tab (a + a + 1) 0))) (longOf lengths tab (nodeOf texts paths tab a))
+
+-- the cursor at its end: a text is one name, with nothing above that is ever read
+unfoldable pub endOf : List ℕ → ℕ → ℕ → List ℕ → ℕ → Cursor
+endOf nodes texts paths tab a =
+    cond (ltb a texts) (record { named = true; at = getD tab (a + a) 0; left = getD tab (a + a + 1) 0; above = 0 })
+    (atEnd nodes (nodeOf texts paths tab a))
+
+-- the text by the place of the tables in the work words
 abbrev pub keyIn : List ℕ → List ℕ → Tables → List ℕ → ℕ → List ℕ
 keyIn nodes strings t w a = keyOf nodes strings (t .texts) (t .paths) (t .lengths) (drop (t .at) w) a
 
@@ -100,5 +124,5 @@ lengthFrom (suc n) nodes x =
 
 -- names on an `unfolding` line what a computation with this module needs
 unfoldable pub keyed : Unit {0}
-unfolding pieceLength atEnd lastByte stepBack readBack back keyOf lengthFrom sections decimals
+unfolding pieceLength atEnd lastByte stepBack readBack back decided keyOf keyLength endOf lengthFrom sections decimals
 keyed = tt

@@ -1,0 +1,5 @@
+pub mod Deciding
+pub mod Digits
+pub mod Reading
+pub mod Uses
+
