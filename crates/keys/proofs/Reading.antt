@@ -122,3 +122,8 @@ module _ (nodes : List ℕ) where
         placed =
             drop-cons (set out left b) left 0 (lt-length-set out left b h)
             ∙ rw (getD-set-same out left b 0 h, drop-set-lt (suc left) out left b (le-refl (suc left)))
+
+    -- all are written
+    pub read-none : (n : ℕ) (c : Cursor) (out : List ℕ) → n ≡ 0 → readBack n nodes strings c ++ drop n out ≡ out
+    unfolding readBack
+    read-none n c out e = rw e

@@ -2,18 +2,23 @@
 use Prim.Native.Nat.{ℕ, zero, suc, _+_, _-_, _≤_, _<_}
 use mathlib.Core.Path.{_≡_, refl, sym, ap, _∙_}
 use mathlib.Core.List.{List, [], _∷_, _++_}
-use mathlib.Core.Bool.{Bool, true, false, cond}
+use mathlib.Core.Bool.{Bool, true, false, cond, _&&_}
 use native.Mathlib.Omega.{arith}
-use lib.Dec.{leb, ltb}
+use lib.Dec.{eqb, leb, ltb}
 use lib.ListN.{length, getD, take, drop, length-take, length-drop}
-use lib.Seq.{take-suc, getD-drop, getD-take}
-use borrow.Author.Tests.{lt-ltb, le-leb, leb-true}
+use lib.Seq.{take-all, getD-drop}
+use borrow.Author.Tests.{lt-ltb, le-ltb, le-leb, leb-true, eqb-true}
 use Rattle.texts.specs.Text.{before}
 use Rattle.image.specs.Sections.{partAt, textIn}
+use Rattle.image.proofs.Tests.{both-true}
 use Rattle.keys.specs.declared.Cursor.{Cursor}
-use Rattle.keys.specs.Keys.{atEnd, lastByte, stepBack, readBack, back, decided, nodeOf, longOf, keyOf, keyLength, endOf}
-use Rattle.keys.proofs.Deciding.{before-shorter, before-longer}
-use Rattle.keys.proofs.Reading.{read-length, read-front, piece-read}
+use Rattle.keys.specs.Keys.{atEnd, lastByte, stepBack, readBack, back, decided, alike, nodeOf, longOf, keyOf, keyLength, endOf}
+use Rattle.keys.proofs.Deciding.{decided-last, decided-self, before-shorter, before-longer}
+use Rattle.keys.proofs.Reading.{read-length, read-front, read-one, read-alike, piece-read}
+
+-- the part from a word on
+pub tail-part : (at : ℕ) (w : List ℕ) → take (length w - at) (drop at w) ≡ drop at w
+tail-part at w = take-all (length w - at) (drop at w) (omega (arith, length-drop at w))
 
 -- ---- texts
 
@@ -41,6 +46,31 @@ module _ (nodes strings : List ℕ) where
           let n : length (take len (drop at strings)) ≡ len = simp (length-take, length-drop) (omega arith) in
           rw n (name-read at len above h)
       by false e = refl
+
+-- ---- two cursors, each before as many bytes
+
+  module _ (n : ℕ) (c d : Cursor) (later : Bool) where
+    pub none-decided : n ≡ 0 → decided (readBack n nodes strings c) (readBack n nodes strings d) later ≡ later
+    unfolding decided readBack
+    none-decided e = rw e
+
+    -- one text is left before both
+    pub rest-decided : alike c d ≡ true → decided (readBack n nodes strings c) (readBack n nodes strings d) later ≡ later
+    rest-decided e =
+        let p = both-true (eqb (c .left) 0 && eqb (d .left) 0) (eqb (c .above) (d .above)) e in
+        let q = both-true (eqb (c .left) 0) (eqb (d .left) 0) (p .0) in
+        rw (read-alike nodes strings n c d (eqb-true (c .left) 0 (q .0)) (eqb-true (d .left) 0 (q .1)) (eqb-true (c .above) (d .above) (p .1)))
+        (decided-self (readBack n nodes strings d) later)
+
+  -- a byte before each
+  pub byte-decided : (left n : ℕ) (c d : Cursor) (later : Bool) → n ≡ left + 1
+      → decided (readBack n nodes strings c) (readBack n nodes strings d) later
+      ≡ decided (readBack left nodes strings (stepBack nodes c)) (readBack left nodes strings (stepBack nodes d))
+        (cond (ltb (lastByte strings c) (lastByte strings d)) true (cond (ltb (lastByte strings d) (lastByte strings c)) false later))
+  byte-decided left n c d later e =
+      rw (read-one nodes strings left n c e, read-one nodes strings left n d e)
+      (decided-last (readBack left nodes strings (stepBack nodes c)) (readBack left nodes strings (stepBack nodes d)) (lastByte strings c) (lastByte strings d) later
+      (read-length nodes strings left (stepBack nodes c) ∙ sym (read-length nodes strings left (stepBack nodes d))))
 
 -- ---- uses
 
@@ -74,11 +104,21 @@ module _ (nodes strings : List ℕ) (texts paths lengths : ℕ) (tab : List ℕ)
       by true = text-read nodes strings at len 0
       by false = refl
 
+  pub text-key : (a : ℕ) → a < texts → keyOf nodes strings texts paths lengths tab a ≡ textIn strings (getD tab (a + a) 0) (getD tab (a + a + 1) 0)
+  unfolding keyOf
+  text-key a h = rw (lt-ltb a texts h)
+
   -- a text use's text is that part of the strings
   pub key-text : (a : ℕ) → a < texts → getD tab (a + a) 0 + getD tab (a + a + 1) 0 ≤ length strings
       → keyOf nodes strings texts paths lengths tab a ≡ partAt strings (getD tab (a + a) 0) (getD tab (a + a + 1) 0)
-  unfolding keyOf textIn
-  key-text a h g = rw (lt-ltb a texts h, le-leb (getD tab (a + a) 0 + getD tab (a + a + 1) 0) (length strings) g)
+  unfolding textIn
+  key-text a h g = text-key a h ∙ rw (le-leb (getD tab (a + a) 0 + getD tab (a + a + 1) 0) (length strings) g)
+
+  -- a path use's text is read from the end of its node's piece
+  pub path-key : (a x n : ℕ) (c : Cursor) → texts ≤ a → x ≡ nodeOf texts paths tab a → c ≡ atEnd nodes x → n ≡ longOf lengths tab x
+      → keyOf nodes strings texts paths lengths tab a ≡ readBack n nodes strings c
+  unfolding keyOf
+  path-key a x n c h e q l = rw (le-ltb a texts h, q, l, e)
 
   -- ---- order: the surplus of the longer text is passed
 

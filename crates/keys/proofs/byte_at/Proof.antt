@@ -1,20 +1,19 @@
+-- `keys::byte_at` meets its contract. Assumes nothing.
+use mathlib.Core.Path.{sym}
+use lib.ListN.{List·getD-eq-default}
+use native.Mathlib.Omega.{arith}
 use borrow.Author.Needs.{needs}
 use Rattle.keys.proofs.byte_at.Statement.{statement}
 use Rattle.keys.proofs.byte_at.Tie as tie
-use Rattle.keys.proofs.byte_at.Reads as reads
-use Rattle.keys.proofs.byte_at.Lts as lts
 
--- src/lib.rt:93:28
 shared-slice-read-result : tie.Need-shared-slice-read-result
 shared-slice-read-result c = search needs
 
--- src/lib.rt:90:1
 returns : tie.Need-returns
 returns c = search needs
 
--- src/lib.rt:90:1
 returns-2 : tie.Need-returns-2
-returns-2 c = ?
+returns-2 c = sym (List·getD-eq-default (c .before .args .strings .now) 0 {n = c .before .args .i} (omega arith))
 
 pub byte-at-spec : {M : Type 1} → statement M
 byte-at-spec = tie.close (tie.spec shared-slice-read-result returns returns-2)

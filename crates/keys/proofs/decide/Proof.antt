@@ -1,19 +1,16 @@
+-- `keys::decide` meets its contract. Assumes nothing.
+use borrow.Author.Tests.{lt-ltb, le-ltb}
 use Rattle.keys.proofs.decide.Statement.{statement}
 use Rattle.keys.proofs.decide.Tie as tie
-use Rattle.keys.proofs.decide.Reads as reads
-use Rattle.keys.proofs.decide.Lts as lts
 
--- src/lib.rt:177:9
 returns : tie.Need-returns
-returns c = ?
+returns c = rw (lt-ltb _ _ (c .if1 .taken))
 
--- src/lib.rt:180:9
 returns-2 : tie.Need-returns-2
-returns-2 c = ?
+returns-2 c = rw (le-ltb _ _ (c .before .if1 .left), lt-ltb _ _ (c .if2 .taken))
 
--- src/lib.rt:173:1
 returns-3 : tie.Need-returns-3
-returns-3 c = ?
+returns-3 c = rw (le-ltb _ _ (c .before .if1 .left), le-ltb _ _ (c .if2 .left))
 
 pub decide-spec : {M : Type 1} → statement M
 decide-spec = tie.close (tie.spec returns returns-2 returns-3)

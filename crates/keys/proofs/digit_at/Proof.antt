@@ -1,54 +1,56 @@
+-- `keys::digit_at` meets its contract. The invariant: digit i of what is left, which has `size` digits, is digit i of n. Assumes nothing.
+use borrow.Author.Needs.{needs}
+use native.Mathlib.Omega.{arith}
+use Prim.Native.Nat.{_<_}
+use mathlib.Core.Path.{_≡_, refl, sym, _∙_}
+use lib.ListN.{length, getD, List·getD-eq-default}
+use Rattle.texts.specs.Decimal.{decimal}
+use Rattle.keys.proofs.Digits.{digit-before, digit-last}
 use Rattle.keys.proofs.digit_at.Statement.{statement}
 use Rattle.keys.proofs.digit_at.Tie as tie
-use Rattle.keys.proofs.digit_at.Reads as reads
-use Rattle.keys.proofs.digit_at.Lts as lts
-use Rattle.texts.proofs.decimal_len.Reads as decimal-len-reads
 
 abbrev Inv-loop : tie.InvT-loop
-Inv-loop n i size₀ rest₀ size rest = ?
+Inv-loop n i size₀ rest₀ size rest = (i < size) × (size ≡ length (decimal rest)) × (getD (decimal n) i 0 ≡ getD (decimal rest) i 0)
 
 abbrev μ-loop : tie.MeasureT-loop
-μ-loop n i size₀ rest₀ size rest = ?
+μ-loop n i size₀ rest₀ size rest = size
 
--- src/lib.rt:100:9
 decimal-len-requires : tie.Need-decimal-len-requires Inv-loop μ-loop
-decimal-len-requires c κs = ?
+decimal-len-requires c κs = search needs
 
--- src/lib.rt:102:9
 returns : tie.Need-returns Inv-loop μ-loop
-returns c = ?
+returns c = let to = c .before .before .args in sym (List·getD-eq-default (decimal (to .n)) 0 {n = to .i} (omega arith))
 
--- src/lib.rt:105:5
 loop-holds : tie.Need-loop-holds Inv-loop μ-loop
-loop-holds c = ?
+loop-holds c = (omega arith, c .before .decimal-len .ensures, refl)
 
--- src/lib.rt:105:11
 add-loop : tie.Need-add-loop Inv-loop μ-loop
-add-loop c = ?
+add-loop c = search needs
 
--- src/lib.rt:107:9
 sub-size : tie.Need-sub-size Inv-loop μ-loop
-sub-size c = ?
+sub-size c = search needs
 
--- src/lib.rt:105:5
 loop-less : tie.Need-loop-less Inv-loop μ-loop
-loop-less c = ?
+loop-less c = search needs
 
--- src/lib.rt:105:5
 loop-again : tie.Need-loop-again Inv-loop μ-loop
-loop-again c = ?
+loop-again c =
+    let at = c .before in
+    let to = at .before .before .before .args in
+    let one = digit-before (at .loop .rest) (to .i) (omega arith) in
+    (omega arith, omega (arith, one .0), at .loop .inv .2 ∙ one .1)
 
--- src/lib.rt:109:6
 add-result : tie.Need-add-result Inv-loop μ-loop
-add-result c = ?
+add-result c = search needs
 
--- src/lib.rt:109:5
 cast-result : tie.Need-cast-result Inv-loop μ-loop
-cast-result c = ?
+cast-result c = search needs
 
--- src/lib.rt:97:1
 returns-2 : tie.Need-returns-2 Inv-loop μ-loop
-returns-2 c = ?
+returns-2 c =
+    let at = c .before in
+    let to = at .before .before .before .args in
+    sym (at .loop .inv .2 ∙ digit-last (at .loop .rest) (to .i) (omega arith))
 
 pub digit-at-spec : {M : Type 1} → statement M
 digit-at-spec =

@@ -1,43 +1,36 @@
+-- `keys::end_of` meets its contract. Assumes nothing.
+use Rattle.keys.proofs.Pieces.{end-text, end-path}
 use borrow.Author.Needs.{needs}
 use Rattle.keys.proofs.end_of.Statement.{statement}
 use Rattle.keys.proofs.end_of.Tie as tie
-use Rattle.keys.proofs.end_of.Reads as reads
-use Rattle.keys.proofs.end_of.Lts as lts
-use Rattle.draft.proofs.source.word.Reads as word-reads
-use Rattle.keys.proofs.at_end.Reads as at-end-reads
-use Rattle.keys.proofs.node_of.Reads as node-of-reads
 
--- src/lib.rt:249:17
 add-i : tie.Need-add-i
 add-i c = search needs
 
--- src/lib.rt:252:17
 word-requires : tie.Need-word-requires
 word-requires c κs = search needs
 
--- src/lib.rt:253:37
 add-word : tie.Need-add-word
 add-word c = search needs
 
--- src/lib.rt:253:19
 word-requires-2 : tie.Need-word-requires-2
 word-requires-2 c κs = search needs
 
--- src/lib.rt:250:9
 returns : tie.Need-returns
-returns c = ?
+returns c =
+    let to = c .before .before .before .before .before .before .args in
+    end-text (to .t .texts) (to .a) (to .tab .now) (to .nodes .now) (to .t .paths) (c .before .word .result) (c .word2 .result) (c .before .before .if1 .taken) (c .before .word .ensures) (c .word2 .ensures)
 
--- src/lib.rt:257:19
 node-of-requires : tie.Need-node-of-requires
 node-of-requires c κs = search needs
 
--- src/lib.rt:257:5
 at-end-requires : tie.Need-at-end-requires
 at-end-requires c κs = search needs
 
--- src/lib.rt:244:1
 returns-2 : tie.Need-returns-2
-returns-2 c = ?
+returns-2 c =
+    let to = c .before .before .before .before .before .before .args in
+    end-path (to .t .texts) (to .a) (to .tab .now) (to .nodes .now) (to .t .paths) (c .before .node-of .result) (c .at-end .result) (c .before .before .if1 .left) (c .before .node-of .ensures) (c .at-end .ensures)
 
 pub end-of-spec : {M : Type 1} → statement M
 end-of-spec =

@@ -1,31 +1,27 @@
+-- `keys::length_of` meets its contract. Assumes nothing.
+use Rattle.keys.proofs.Pieces.{length-text, length-path}
 use borrow.Author.Needs.{needs}
 use Rattle.keys.proofs.length_of.Statement.{statement}
 use Rattle.keys.proofs.length_of.Tie as tie
-use Rattle.keys.proofs.length_of.Reads as reads
-use Rattle.keys.proofs.length_of.Lts as lts
-use Rattle.keys.proofs.long_of.Reads as long-of-reads
-use Rattle.keys.proofs.node_of.Reads as node-of-reads
-use Rattle.keys.proofs.text_of.Reads as text-of-reads
 
--- src/lib.rt:238:16
 text-of-requires : tie.Need-text-of-requires
 text-of-requires c κs = search needs
 
--- src/lib.rt:238:9
 returns : tie.Need-returns
-returns c = ?
+returns c =
+    let to = c .before .before .before .before .before .args in
+    length-text (to .t .texts) (to .a) (to .tab .now) (to .strings .now) (c .text-of .result .now) (to .t .paths) (to .t .lengths) (c .before .if1 .taken) (c .text-of .ensures)
 
--- src/lib.rt:240:29
 node-of-requires : tie.Need-node-of-requires
 node-of-requires c κs = search needs
 
--- src/lib.rt:240:5
 long-of-requires : tie.Need-long-of-requires
 long-of-requires c κs = search needs
 
--- src/lib.rt:233:1
 returns-2 : tie.Need-returns-2
-returns-2 c = ?
+returns-2 c =
+    let to = c .before .before .before .before .before .before .args in
+    length-path (to .t .texts) (to .a) (to .tab .now) (to .strings .now) (to .t .paths) (to .t .lengths) (c .before .node-of .result) (c .long-of .result) (c .before .before .if1 .left) (c .before .node-of .ensures) (c .long-of .ensures)
 
 pub length-of-spec : {M : Type 1} → statement M
 length-of-spec =

@@ -1,45 +1,50 @@
+-- `keys::put_text` meets its contract. The invariant: the first i bytes are written. Assumes nothing.
+use borrow.Author.Needs.{needs}
+use native.Mathlib.Omega.{arith}
+use Prim.Native.Nat.{_≤_, _-_}
+use mathlib.Core.Path.{_≡_, refl, sym, ap, _∙_}
+use mathlib.Core.List.{_++_}
+use lib.ListN.{length, take, drop, length-set}
+use lib.Seq.{take-all}
+use Rattle.keys.proofs.Copying.{copy-more, copy-end}
 use Rattle.keys.proofs.put_text.Statement.{statement}
 use Rattle.keys.proofs.put_text.Tie as tie
-use Rattle.keys.proofs.put_text.Reads as reads
-use Rattle.keys.proofs.put_text.Lts as lts
 
 abbrev Inv-loop : tie.InvT-loop
-Inv-loop text out₀ i₀ out i = ?
+Inv-loop text out₀ i₀ out i = (i ≤ length text) × (length out ≡ length out₀) × (out ≡ take i text ++ drop i out₀)
 
 abbrev μ-loop : tie.MeasureT-loop
-μ-loop text out₀ i₀ out i = ?
+μ-loop text out₀ i₀ out i = length text - i
 
--- src/lib.rt:317:5
 loop-holds : tie.Need-loop-holds Inv-loop μ-loop
-loop-holds c = ?
+loop-holds c = (omega arith, refl, refl)
 
--- src/lib.rt:318:18
 shared-slice-read-out : tie.Need-shared-slice-read-out Inv-loop μ-loop
-shared-slice-read-out c = ?
+shared-slice-read-out c = search needs
 
--- src/lib.rt:318:9
 slice-write-out : tie.Need-slice-write-out Inv-loop μ-loop
-slice-write-out c = ?
+slice-write-out c = search needs
 
--- src/lib.rt:319:9
 add-i : tie.Need-add-i Inv-loop μ-loop
-add-i c = ?
+add-i c = search needs
 
--- src/lib.rt:317:5
 loop-less : tie.Need-loop-less Inv-loop μ-loop
-loop-less c = ?
+loop-less c = search needs
 
--- src/lib.rt:317:5
 loop-again : tie.Need-loop-again Inv-loop μ-loop
-loop-again c = ?
+loop-again c =
+    let at = c .before .before in
+    let to = at .before .args in
+    (omega arith, simp length-set (at .loop .inv .1), copy-more (at .loop .i) (to .text .now) (to .out .now) (at .loop .out) (omega arith) (omega arith) (at .loop .inv .2))
 
--- src/lib.rt:312:1
 same-length : tie.Need-same-length Inv-loop μ-loop
-same-length c = ?
+same-length c = search needs
 
--- src/lib.rt:312:1
 returns : tie.Need-returns Inv-loop μ-loop
-returns c = ?
+returns c =
+    let at = c .before in
+    let to = at .before .args in
+    copy-end (at .loop .i) (to .text .now) (to .out .now) (at .loop .out) (omega arith) (at .loop .inv .2)
 
 pub put-text-spec : {M : Type 1} → statement M
 put-text-spec =

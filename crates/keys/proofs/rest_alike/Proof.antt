@@ -1,19 +1,16 @@
+-- `keys::rest_alike` meets its contract. Assumes nothing.
+use borrow.Author.Tests.{eq-eqb, ne-eqb}
 use Rattle.keys.proofs.rest_alike.Statement.{statement}
 use Rattle.keys.proofs.rest_alike.Tie as tie
-use Rattle.keys.proofs.rest_alike.Reads as reads
-use Rattle.keys.proofs.rest_alike.Lts as lts
 
--- src/lib.rt:164:9
 returns : tie.Need-returns
-returns c = ?
+returns c = rw (ne-eqb _ _ (c .if1 .taken))
 
--- src/lib.rt:167:9
 returns-2 : tie.Need-returns-2
-returns-2 c = ?
+returns-2 c = rw (eq-eqb _ _ (c .before .before .if1 .left), ne-eqb _ _ (c .if2 .taken))
 
--- src/lib.rt:160:1
 returns-3 : tie.Need-returns-3
-returns-3 c = ?
+returns-3 c = rw (eq-eqb _ _ (c .before .before .before .before .if1 .left), eq-eqb _ _ (c .before .before .if2 .left))
 
 pub rest-alike-spec : {M : Type 1} → statement M
 rest-alike-spec = tie.close (tie.spec returns returns-2 returns-3)

@@ -1,58 +1,57 @@
+-- `keys::skip` meets its contract. The invariant: `rest` bytes back from x is where `count` bytes back from the start is. Assumes nothing.
+use borrow.Author.Needs.{needs}
+use native.Mathlib.Omega.{arith}
+use Prim.Native.Nat.{_+_, _-_}
+use mathlib.Core.Path.{_≡_, refl, sym, ap, _∙_}
+use Rattle.keys.specs.Keys.{back}
+use Rattle.keys.proofs.Reading.{back-in, back-up}
 use Rattle.keys.proofs.skip.Statement.{statement}
 use Rattle.keys.proofs.skip.Tie as tie
-use Rattle.keys.proofs.skip.Reads as reads
-use Rattle.keys.proofs.skip.Lts as lts
-use Rattle.keys.proofs.at_end.Reads as at-end-reads
 
 abbrev Inv-loop : tie.InvT-loop
-Inv-loop nodes count x₀ rest₀ x rest = ?
+Inv-loop nodes count x₀ rest₀ x rest = back count nodes x₀ ≡ back rest nodes x
 
 abbrev μ-loop : tie.MeasureT-loop
-μ-loop nodes count x₀ rest₀ x rest = ?
+μ-loop nodes count x₀ rest₀ x rest = rest
 
--- src/lib.rt:147:5
 loop-holds : tie.Need-loop-holds Inv-loop μ-loop
-loop-holds c = ?
+loop-holds c = refl
 
--- src/lib.rt:147:12
 cast-if1 : tie.Need-cast-if1 Inv-loop μ-loop
-cast-if1 c = ?
+cast-if1 c = search needs
 
--- src/lib.rt:148:17
 cast-rest : tie.Need-cast-rest Inv-loop μ-loop
-cast-rest c = ?
+cast-rest c = search needs
 
--- src/lib.rt:148:17
 add-rest : tie.Need-add-rest Inv-loop μ-loop
-add-rest c = ?
+add-rest c = search needs
 
--- src/lib.rt:148:9
 sub-rest : tie.Need-sub-rest Inv-loop μ-loop
-sub-rest c = ?
+sub-rest c = search needs
 
--- src/lib.rt:149:9
 at-end-requires : tie.Need-at-end-requires Inv-loop μ-loop
-at-end-requires c κs = ?
+at-end-requires c κs = search needs
 
--- src/lib.rt:147:5
 loop-less : tie.Need-loop-less Inv-loop μ-loop
-loop-less c = ?
+loop-less c = search needs
 
--- src/lib.rt:147:5
 loop-again : tie.Need-loop-again Inv-loop μ-loop
-loop-again c = ?
+loop-again c =
+    let at = c .before .before .before .before in
+    let to = at .before .before .args in
+    at .loop .inv ∙ back-up (to .nodes .now) (at .loop .rest) (at .loop .rest - (at .loop .x .left + 1)) (at .loop .x) (omega arith) ∙ ap (back (at .loop .rest - (at .loop .x .left + 1)) (to .nodes .now)) (sym (c .at-end .ensures))
 
--- src/lib.rt:154:24
 cast-t9 : tie.Need-cast-t9 Inv-loop μ-loop
-cast-t9 c = ?
+cast-t9 c = search needs
 
--- src/lib.rt:154:15
 sub-t10 : tie.Need-sub-t10 Inv-loop μ-loop
-sub-t10 c = ?
+sub-t10 c = search needs
 
--- src/lib.rt:142:1
 returns : tie.Need-returns Inv-loop μ-loop
-returns c = ?
+returns c =
+    let at = c .before .before .before in
+    let to = at .before .before .args in
+    sym (at .loop .inv ∙ back-in (to .nodes .now) (at .loop .rest) (at .loop .x) (omega arith))
 
 pub skip-spec : {M : Type 1} → statement M
 skip-spec =

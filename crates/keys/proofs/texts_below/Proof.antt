@@ -1,46 +1,38 @@
+-- `keys::texts_below` meets its contract. Assumes nothing.
+use Rattle.texts.specs.Text.{before}
 use borrow.Author.Needs.{needs}
 use Rattle.keys.proofs.texts_below.Statement.{statement}
 use Rattle.keys.proofs.texts_below.Tie as tie
-use Rattle.keys.proofs.texts_below.Reads as reads
-use Rattle.keys.proofs.texts_below.Lts as lts
-use Rattle.keys.proofs.text_of.Reads as text-of-reads
-use Rattle.texts.proofs.compare.Reads as compare-reads
 
--- src/lib.rt:264:32
 text-of-requires : tie.Need-text-of-requires
 text-of-requires c κs = search needs
 
--- src/lib.rt:264:58
 text-of-requires-2 : tie.Need-text-of-requires-2
 text-of-requires-2 c κs = search needs
 
--- src/lib.rt:264:9
 compare-requires : tie.Need-compare-requires
 compare-requires c κs = search needs
 
--- src/lib.rt:266:24
 enum-told : tie.Need-enum-told
 enum-told c = search needs
 
--- src/lib.rt:267:25
 enum-told-2 : tie.Need-enum-told-2
 enum-told-2 c = search needs
 
--- src/lib.rt:268:27
 enum-told-3 : tie.Need-enum-told-3
 enum-told-3 c = search needs
 
--- src/lib.rt:261:1
 returns : tie.Need-returns
-returns c = ?
+unfolding before
+returns c = rw (← c .before .before .before .before .text-of .ensures, ← c .before .before .before .text-of2 .ensures, ← c .before .before .compare .ensures, c .enum-told .given .1)
 
--- src/lib.rt:261:1
 returns-2 : tie.Need-returns-2
-returns-2 c = ?
+unfolding before
+returns-2 c = rw (← c .before .before .before .before .text-of .ensures, ← c .before .before .before .text-of2 .ensures, ← c .before .before .compare .ensures, c .enum-told2 .given .1)
 
--- src/lib.rt:261:1
 returns-3 : tie.Need-returns-3
-returns-3 c = ?
+unfolding before
+returns-3 c = rw (← c .before .before .before .before .text-of .ensures, ← c .before .before .before .text-of2 .ensures, ← c .before .before .compare .ensures, c .enum-told3 .given .1)
 
 pub texts-below-spec : {M : Type 1} → statement M
 texts-below-spec =
