@@ -5,4 +5,3 @@ pub mod Reading
 pub mod Pieces
 pub mod Uses
 pub mod Lengths
-

@@ -47,7 +47,7 @@ module _ (nodes strings : List ℕ) where
           rw n (name-read at len above h)
       by false e = refl
 
--- ---- two cursors, each before as many bytes
+  -- ---- two cursors, each before as many bytes
 
   module _ (n : ℕ) (c d : Cursor) (later : Bool) where
     pub none-decided : n ≡ 0 → decided (readBack n nodes strings c) (readBack n nodes strings d) later ≡ later
@@ -66,7 +66,7 @@ module _ (nodes strings : List ℕ) where
   pub byte-decided : (left n : ℕ) (c d : Cursor) (later : Bool) → n ≡ left + 1
       → decided (readBack n nodes strings c) (readBack n nodes strings d) later
       ≡ decided (readBack left nodes strings (stepBack nodes c)) (readBack left nodes strings (stepBack nodes d))
-        (cond (ltb (lastByte strings c) (lastByte strings d)) true (cond (ltb (lastByte strings d) (lastByte strings c)) false later))
+      (cond (ltb (lastByte strings c) (lastByte strings d)) true (cond (ltb (lastByte strings d) (lastByte strings c)) false later))
   byte-decided left n c d later e =
       rw (read-one nodes strings left n c e, read-one nodes strings left n d e)
       (decided-last (readBack left nodes strings (stepBack nodes c)) (readBack left nodes strings (stepBack nodes d)) (lastByte strings c) (lastByte strings d) later
@@ -81,8 +81,10 @@ module _ (nodes strings : List ℕ) (texts paths lengths : ℕ) (tab : List ℕ)
     where
       x : ℕ
       x = nodeOf texts paths tab a
+
       text : List ℕ
       text = textIn strings (getD tab (a + a) 0) (getD tab (a + a + 1) 0)
+
       by : (b : Bool) → length (cond b text (readBack (longOf lengths tab x) nodes strings (atEnd nodes x))) ≡ cond b (length text) (longOf lengths tab x)
       by true = refl
       by false = read-length nodes strings (longOf lengths tab x) (atEnd nodes x)
@@ -94,12 +96,16 @@ module _ (nodes strings : List ℕ) (texts paths lengths : ℕ) (tab : List ℕ)
     where
       x : ℕ
       x = nodeOf texts paths tab a
+
       at : ℕ
       at = getD tab (a + a) 0
+
       len : ℕ
       len = getD tab (a + a + 1) 0
+
       text : List ℕ
       text = textIn strings at len
+
       by : (b : Bool) → readBack (cond b (length text) (longOf lengths tab x)) nodes strings (cond b (record { named = true; at = at; left = len; above = 0 }) (atEnd nodes x)) ≡ cond b text (readBack (longOf lengths tab x) nodes strings (atEnd nodes x))
       by true = text-read nodes strings at len 0
       by false = refl
@@ -138,7 +144,7 @@ module _ (nodes strings : List ℕ) (texts paths lengths : ℕ) (tab : List ℕ)
         let ls : length s ≡ m = read-length nodes strings m (endOf nodes texts paths tab a) in
         let lt : length t ≡ n = read-length nodes strings n (endOf nodes texts paths tab b) in
         let e : readBack m nodes strings (back (n - m) nodes (endOf nodes texts paths tab b)) ≡ take (length s) t =
-              sym (read-front nodes strings (n - m) m n (endOf nodes texts paths tab b) (omega arith)) ∙ ap (λ (j : ℕ). take j t) (sym ls) in
+        sym (read-front nodes strings (n - m) m n (endOf nodes texts paths tab b) (omega arith)) ∙ ap (λ (j : ℕ). take j t) (sym ls) in
         rw e (sym (before-shorter s t (omega arith)) ∙ rw (first, second))
 
     pub below-longer : n ≤ m
@@ -150,5 +156,20 @@ module _ (nodes strings : List ℕ) (texts paths lengths : ℕ) (tab : List ℕ)
         let ls : length s ≡ m = read-length nodes strings m (endOf nodes texts paths tab a) in
         let lt : length t ≡ n = read-length nodes strings n (endOf nodes texts paths tab b) in
         let e : readBack n nodes strings (back (m - n) nodes (endOf nodes texts paths tab a)) ≡ take (length t) s =
-              sym (read-front nodes strings (m - n) n m (endOf nodes texts paths tab a) (omega arith)) ∙ ap (λ (j : ℕ). take j s) (sym lt) in
+        sym (read-front nodes strings (m - n) n m (endOf nodes texts paths tab a) (omega arith)) ∙ ap (λ (j : ℕ). take j s) (sym lt) in
         rw e (sym (before-longer s t (omega arith)) ∙ rw (first, second))
+
+-- ---- the text that was read out of the work words
+
+module _ (nodes strings : List ℕ) (texts paths lengths at : ℕ) (w : List ℕ) where
+  pub text-written : (text : List ℕ) (a : ℕ) → a < texts
+      → text ≡ textIn strings (getD (take (length w - at) (drop at w)) (a + a) 0) (getD (take (length w - at) (drop at w)) (a + a + 1) 0)
+      → keyOf nodes strings texts paths lengths (drop at w) a ≡ text
+  text-written text a h e = sym (e ∙ rw (tail-part at w, text-key nodes strings texts paths lengths (drop at w) a h))
+
+  pub path-written : (a x n : ℕ) (c : Cursor) → texts ≤ a → x ≡ nodeOf texts paths (take (length w - at) (drop at w)) a → c ≡ atEnd nodes x
+      → n ≡ longOf lengths (take (length w - at) (drop at w)) x
+      → (keyOf nodes strings texts paths lengths (drop at w) a ≡ readBack n nodes strings c) × (length (keyOf nodes strings texts paths lengths (drop at w) a) ≡ n)
+  path-written a x n c h e q l =
+      let p = path-key nodes strings texts paths lengths (drop at w) a x n c h (rw tail-part at e) q (rw tail-part at l) in
+      (p, ap length p ∙ read-length nodes strings n c)

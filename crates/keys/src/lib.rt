@@ -81,9 +81,19 @@ fn at_end(nodes: &[u32], x: u32) -> Cursor
     let left = piece_length(nodes, x);
     if no_name(offset, node_word(nodes, x, 4)) {
         let place = node_word(nodes, x, 1);
-        return Cursor { named: false, at: place, left, above };
+        return Cursor {
+            named: false,
+            at: place,
+            left,
+            above,
+        };
     }
-    Cursor { named: true, at: offset, left, above }
+    Cursor {
+        named: true,
+        at: offset,
+        left,
+        above,
+    }
 }
 
 // Byte `i` of the strings: 0 past the end.
@@ -346,7 +356,13 @@ pub fn put_key(nodes: &[u32], strings: &[u8], w: &[u32], t: Tables, a: u32, out:
         return;
     }
     let x = node_of(tab, t, a);
-    put_read(nodes, strings, at_end(nodes, x), long_of(tab, t.lengths, x), out);
+    put_read(
+        nodes,
+        strings,
+        at_end(nodes, x),
+        long_of(tab, t.lengths, x),
+        out,
+    );
 }
 
 // The length of the canonical path of node `x`, by at most so many steps up to the root.

@@ -1,42 +1,40 @@
+-- `keys::below` meets its contract. Assumes nothing.
+use mathlib.Core.Path.{_∙_}
+use lib.ListN.{drop}
+use Rattle.keys.proofs.Uses.{tail-part, text-key}
 use borrow.Author.Needs.{needs}
 use Rattle.keys.proofs.below.Statement.{statement}
 use Rattle.keys.proofs.below.Tie as tie
-use Rattle.keys.proofs.below.Reads as reads
-use Rattle.keys.proofs.below.Lts as lts
-use Rattle.keys.proofs.ends_below.Reads as ends-below-reads
-use Rattle.keys.proofs.texts_below.Reads as texts-below-reads
 
--- src/lib.rt:293:15
 mul-tab : tie.Need-mul-tab
 mul-tab c = search needs
 
--- src/lib.rt:293:15
 sub-tab : tie.Need-sub-tab
 sub-tab c = search needs
 
--- src/lib.rt:293:15
 part-tab-start : tie.Need-part-tab-start
 part-tab-start c = search needs
 
--- src/lib.rt:293:15
 part-tab-end : tie.Need-part-tab-end
 part-tab-end c = search needs
 
--- src/lib.rt:296:13
 texts-below-requires : tie.Need-texts-below-requires
 texts-below-requires c κs = search needs
 
--- src/lib.rt:296:13
 returns : tie.Need-returns
-returns c = ?
+returns c =
+    let to = c .before .before .before .before .before .before .before .before .before .args in
+    let tab = drop (to .t .at) (to .w .now) in
+    c .texts-below .ensures
+    ∙ rw (tail-part (to .t .at) (to .w .now), text-key (to .nodes .now) (to .strings .now) (to .t .texts) (to .t .paths) (to .t .lengths) tab (to .a) (c .before .before .before .if1 .taken), text-key (to .nodes .now) (to .strings .now) (to .t .texts) (to .t .paths) (to .t .lengths) tab (to .b) (c .before .if2 .taken))
 
--- src/lib.rt:299:5
 ends-below-requires : tie.Need-ends-below-requires
 ends-below-requires c κs = search needs
 
--- src/lib.rt:288:1
 returns-2 : tie.Need-returns-2
-returns-2 c = ?
+returns-2 c =
+    let to = c .before .before .before .before .before .before .before .args in
+    c .ends-below .ensures ∙ rw (tail-part (to .t .at) (to .w .now))
 
 pub below-spec : {M : Type 1} → statement M
 below-spec =

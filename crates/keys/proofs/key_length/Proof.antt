@@ -1,33 +1,30 @@
+-- `keys::key_length` meets its contract. Assumes nothing.
+use mathlib.Core.Path.{sym, _∙_}
+use lib.ListN.{drop}
+use Rattle.keys.proofs.Uses.{tail-part, key-length}
 use borrow.Author.Needs.{needs}
 use Rattle.keys.proofs.key_length.Statement.{statement}
 use Rattle.keys.proofs.key_length.Tie as tie
-use Rattle.keys.proofs.key_length.Reads as reads
-use Rattle.keys.proofs.key_length.Lts as lts
-use Rattle.keys.proofs.length_of.Reads as length-of-reads
 
--- src/lib.rt:308:24
 mul-length-of : tie.Need-mul-length-of
 mul-length-of c = search needs
 
--- src/lib.rt:308:24
 sub-length-of : tie.Need-sub-length-of
 sub-length-of c = search needs
 
--- src/lib.rt:308:24
 part-length-of-start : tie.Need-part-length-of-start
 part-length-of-start c = search needs
 
--- src/lib.rt:308:24
 part-length-of-end : tie.Need-part-length-of-end
 part-length-of-end c = search needs
 
--- src/lib.rt:308:5
 length-of-requires : tie.Need-length-of-requires
 length-of-requires c κs = search needs
 
--- src/lib.rt:303:1
 returns : tie.Need-returns
-returns c = ?
+returns c =
+    let to = c .before .before .before .before .args in
+    λ nodes. c .length-of .ensures ∙ rw (tail-part (to .t .at) (to .w .now)) (sym (key-length nodes (to .strings .now) (to .t .texts) (to .t .paths) (to .t .lengths) (drop (to .t .at) (to .w .now)) (to .a)))
 
 pub key-length-spec : {M : Type 1} → statement M
 key-length-spec =

@@ -1,70 +1,74 @@
+-- `keys::put_key` meets its contract. Assumes nothing.
+use mathlib.Core.Path.{_≡_, sym, ap, _∙_}
+use native.Mathlib.Omega.{arith}
+use mathlib.Core.List.{List}
+use lib.ListN.{length, getD, take, drop}
+use Rattle.image.specs.Sections.{textIn}
+use Rattle.keys.specs.Keys.{readBack, keyIn}
+use Rattle.keys.proofs.Uses.{tail-part, text-written, path-written}
 use borrow.Author.Needs.{needs}
 use Rattle.keys.proofs.put_key.Statement.{statement}
 use Rattle.keys.proofs.put_key.Tie as tie
-use Rattle.keys.proofs.put_key.Reads as reads
-use Rattle.keys.proofs.put_key.Lts as lts
-use Rattle.keys.proofs.at_end.Reads as at-end-reads
-use Rattle.keys.proofs.long_of.Reads as long-of-reads
-use Rattle.keys.proofs.node_of.Reads as node-of-reads
-use Rattle.keys.proofs.put_read.Reads as put-read-reads
-use Rattle.keys.proofs.put_text.Reads as put-text-reads
-use Rattle.keys.proofs.text_of.Reads as text-of-reads
 
--- src/lib.rt:343:15
 mul-tab : tie.Need-mul-tab
 mul-tab c = search needs
 
--- src/lib.rt:343:15
 sub-tab : tie.Need-sub-tab
 sub-tab c = search needs
 
--- src/lib.rt:343:15
 part-tab-start : tie.Need-part-tab-start
 part-tab-start c = search needs
 
--- src/lib.rt:343:15
 part-tab-end : tie.Need-part-tab-end
 part-tab-end c = search needs
 
--- src/lib.rt:345:18
 text-of-requires : tie.Need-text-of-requires
 text-of-requires c κs = search needs
 
--- src/lib.rt:345:9
 put-text-requires : tie.Need-put-text-requires
-put-text-requires c κs = ?
+put-text-requires c κs =
+    let to = c .before .before .before .before .before .before .before .before .before .args in
+    let key = text-written (to .nodes .now) (to .strings .now) (to .t .texts) (to .t .paths) (to .t .lengths) (to .t .at) (to .w .now) (c .before .text-of .result .now) (to .a) (c .before .before .if1 .taken) (c .before .text-of .ensures) in
+    omega (arith, ap length key, c .before .before .before .before .before .before .before .before .before .pre .1)
 
--- src/lib.rt:346:9
 same-length : tie.Need-same-length
 same-length c = search needs
 
--- src/lib.rt:346:9
 returns : tie.Need-returns
-returns c = ?
+returns c =
+    let to = c .before .before .before .before .before .before .before .before .before .before .before .before .args in
+    let key = text-written (to .nodes .now) (to .strings .now) (to .t .texts) (to .t .paths) (to .t .lengths) (to .t .at) (to .w .now) (c .before .before .before .before .text-of .result .now) (to .a) (c .before .before .before .before .before .if1 .taken) (c .before .before .before .before .text-of .ensures) in
+    c .before .before .put-text .ensures ∙ rw (← key)
 
--- src/lib.rt:348:9
 node-of-requires : tie.Need-node-of-requires
 node-of-requires c κs = search needs
 
--- src/lib.rt:349:30
 at-end-requires : tie.Need-at-end-requires
 at-end-requires c κs = search needs
 
--- src/lib.rt:349:48
 long-of-requires : tie.Need-long-of-requires
 long-of-requires c κs = search needs
 
--- src/lib.rt:349:5
 put-read-requires : tie.Need-put-read-requires
-put-read-requires c κs = ?
+put-read-requires c κs =
+    let to = c .before .before .before .before .before .before .before .before .before .before .before .args in
+    let x = c .before .before .before .node-of in
+    let end = c .before .before .at-end in
+    let n = c .before .long-of in
+    let key = path-written (to .nodes .now) (to .strings .now) (to .t .texts) (to .t .paths) (to .t .lengths) (to .t .at) (to .w .now) (to .a) (x .result) (n .result) (end .result) (c .before .before .before .before .if1 .left) (x .ensures) (end .ensures) (n .ensures) in
+    omega (arith, key .1, c .before .before .before .before .before .before .before .before .before .before .before .pre .1)
 
--- src/lib.rt:338:1
 same-length-2 : tie.Need-same-length-2
 same-length-2 c = search needs
 
--- src/lib.rt:338:1
 returns-2 : tie.Need-returns-2
-returns-2 c = ?
+returns-2 c =
+    let to = c .before .before .before .before .before .before .before .before .before .before .before .before .before .before .args in
+    let x = c .before .before .before .before .before .before .node-of in
+    let end = c .before .before .before .before .before .at-end in
+    let n = c .before .before .before .before .long-of in
+    let key = path-written (to .nodes .now) (to .strings .now) (to .t .texts) (to .t .paths) (to .t .lengths) (to .t .at) (to .w .now) (to .a) (x .result) (n .result) (end .result) (c .before .before .before .before .before .before .before .if1 .left) (x .ensures) (end .ensures) (n .ensures) in
+    c .before .before .put-read .ensures ∙ rw (key .1, key .0)
 
 pub put-key-spec : {M : Type 1} → statement M
 put-key-spec =
