@@ -1,0 +1,1 @@
+// A stable sort of uses by their keys, in one lent slice.
