@@ -3,15 +3,15 @@ use Prim.Native.Nat.{ℕ, _+_, _-_, suc, _≤_, _<_}
 use mathlib.Core.Path.{_≡_, refl, sym, ap, _∙_}
 use mathlib.Core.List.{List, [], _∷_, _++_, append-assoc, append-nil}
 use mathlib.Core.Bool.{Bool, true, false}
-use native.Mathlib.Nat.{add-zero}
+use native.Mathlib.Nat.{add-zero, zero-add}
 use native.Mathlib.Omega.{arith}
 use native.Mathlib.Numerals.{add-one}
 use borrow.Author.Tests.{ltb-true, ltb-false}
 use lib.Dec.{ltb}
 use lib.ListN.{length, take, drop, set, getD, length-set, length-append, length-take, length-drop, take-append-drop, List·getD-append, drop-of-length-le}
-use lib.Seq.{drop-cons, take-suc-set, take-all, take-add, drop-drop, getD-drop, drop-set-lt, length-take-le, take-at, drop-at, paste, length-paste, getD-take}
+use lib.Seq.{drop-cons, take-suc-set, take-all, take-add, drop-drop, getD-drop, drop-set-lt, length-take-le, take-at, drop-at, paste, paste-suc, length-paste, getD-take}
 use Rattle.sorting.specs.Sorted.{mergeWith, merge, isort, rightFirst, takesRight, Strict, part, Ordered}
-use Rattle.sorting.proofs.Laws.{cases, differ, sort-append, first-left, first-right}
+use Rattle.sorting.proofs.Laws.{cases, differ, merge-nil, sort-append, first-left, first-right}
 use Rattle.sorting.proofs.Ordered.{ordered-isort, merge-ordered}
 
 -- ---- parts
@@ -163,6 +163,15 @@ paste-behind w v n m p h k l =
     ∙ drop-drop (p - (n + m)) (n + m) w
     ∙ ap (λ (r : ℕ). drop r w) (sym q)
 
+-- a copy down from n leaves what is not before n
+pub paste-above : (w : List ℕ) (n i : ℕ) → i < n → n + i < length w → getD (paste w 0 (drop n w) i) (n + i) 0 ≡ getD (drop n w) i 0
+paste-above w n i h k =
+    getD-later (n + i) (n + i) (paste w 0 (drop n w) i) w (paste-behind w (drop n w) 0 i (n + i) (omega arith) (omega (arith, length-drop n w)) (omega arith)) (omega arith)
+    ∙ sym (getD-drop n w i 0)
+
+pub paste-down : (w v : List ℕ) (i : ℕ) → i < length w → i < length v → set (paste w 0 v i) i (getD v i 0) ≡ paste w 0 v (suc i)
+paste-down w v i h k = ap (λ (j : ℕ). set (paste w 0 v i) j (getD v i 0)) (sym (zero-add i)) ∙ paste-suc w 0 v i 0 (omega arith) k
+
 -- ---- a slice whose part from m on was lent and came back as y
 
 abbrev pub lent : ℕ → List ℕ → List ℕ
@@ -184,7 +193,7 @@ lent-behind w m at h k =
     let q : m + (at - m) ≡ at = omega arith in
     ap (drop (at - m)) (lent-part w m (omega arith)) ∙ drop-drop (at - m) m w ∙ ap (λ (r : ℕ). drop r w) q
 
-module _ (L : List ℕ → ℕ → ℕ → Bool) (S : (tables : List ℕ) → Strict (L tables)) (w : List ℕ) (m at : ℕ) (hm : m ≤ at) (hat : at ≤ length w) where
+module _ (L : List ℕ → ℕ → ℕ → Bool) (w : List ℕ) (m at : ℕ) (hm : m ≤ at) (hat : at ≤ length w) where
   -- what is known of a part that was lent to be sorted
   pub record Came (n : ℕ) (y : List ℕ) : Type 0 where
     pub room : length (take m w ++ y) ≡ length w
@@ -217,3 +226,102 @@ module _ (L : List ℕ → ℕ → ℕ → Bool) (S : (tables : List ℕ) → St
             ∙ dy
             ∙ tb;
       }
+
+-- ---- two parts that stand in order, put one after the other
+
+pub down-joined : (lt : ℕ → ℕ → Bool) (w x : List ℕ) (m n : ℕ) → Strict lt → 0 < m → m < n → n + m ≤ length w → Ordered lt (part n (n + m) w)
+    → lt (getD w m 0) (getD w (n + m - 1) 0) ≡ false → x ≡ paste w 0 (drop n w) m → take n x ≡ merge lt (part n (n + m) w) (part m n w)
+down-joined lt w x m n S hm hn hw o f e =
+    let p : n + m - n ≡ m = omega arith in
+    let lp : length (part n (n + m) w) ≡ n + m - n = length-part n (n + m) w (omega arith) hw in
+    let a : take m (drop n w) ≡ part n (n + m) w = ap (λ (k : ℕ). take k (drop n w)) (sym p) in
+    let x1 : x ≡ part n (n + m) w ++ drop m w = e ∙ rw (zero-add m, a) in
+    let q : n + (m - 1) ≡ n + m - 1 = omega arith in
+    let last : getD (part n (n + m) w) (m - 1) 0 ≡ getD w (n + m - 1) 0 = getD-part n (n + m) (m - 1) w (omega arith) ∙ ap (λ (k : ℕ). getD w k 0) q in
+    let first : getD (part m n w) 0 0 ≡ getD w m 0 = getD-part m n 0 w (omega arith) ∙ ap (λ (k : ℕ). getD w k 0) (add-zero m) in
+    let g : lt (getD (part m n w) 0 0) (getD (part n (n + m) w) (m - 1) 0) ≡ false = rw (first, last) f in
+    let done : merge lt (part n (n + m) w) (part m n w) ≡ part n (n + m) w ++ part m n w = merge-ordered lt S (part n (n + m) w) (part m n w) (m - 1) (omega arith) o g in
+    let t1 : take m x ≡ part n (n + m) w = ap (take m) x1 ∙ take-at (part n (n + m) w) (drop m w) m (lp ∙ p) in
+    let d1 : drop m x ≡ drop m w = ap (drop m) x1 ∙ drop-at (part n (n + m) w) (drop m w) m (lp ∙ p) in
+    sym (take-parts m n x (omega arith)) ∙ rw (t1, d1) (sym done)
+
+-- ---- the three steps of a sort: the part from m on is sorted up to n; the first m words are copied to n and on, and sorted there; the two are merged
+
+pub record Halves (lt : ℕ → ℕ → Bool) (w : List ℕ) (m n at : ℕ) (u : List ℕ) : Type 0 where
+  pub room : length u ≡ length w
+  pub left : part n (n + m) u ≡ isort lt (take m w)
+  pub right : part m n u ≡ isort lt (part m n w)
+  pub behind : drop at u ≡ drop at w
+
+-- the first m words are copied to n and on
+pub record Copied (w : List ℕ) (m n at : ℕ) (x : List ℕ) : Type 0 where
+  pub room : length x ≡ length w
+  pub left : part n (n + m) x ≡ take m w
+  pub right : part m n x ≡ part m n w
+  pub behind : drop at x ≡ drop at w
+
+pub copied : (w x : List ℕ) (m n at : ℕ) → m ≤ n → n + m ≤ at → at ≤ length w → x ≡ paste w n w m → Copied w m n at x
+copied w x m n at hm hn hat e =
+    let lx : length x ≡ length w = ap length e ∙ length-paste w n w m (omega arith) (omega arith) in
+    let ln : length (take n w) ≡ n = length-take-le n w (omega arith) in
+    let e2 : x ≡ take n w ++ (take m w ++ drop (n + m) w) = e ∙ append-assoc (take n w) (take m w) (drop (n + m) w) in
+    let p : n + m - n ≡ m = omega arith in
+    let tx : take n x ≡ take n w = ap (take n) e2 ∙ take-at (take n w) (take m w ++ drop (n + m) w) n ln in
+    let dx : drop n x ≡ take m w ++ drop (n + m) w = ap (drop n) e2 ∙ drop-at (take n w) (take m w ++ drop (n + m) w) n ln in
+    record {
+      room = lx;
+      left = ap (λ (k : ℕ). take k (drop n x)) p ∙ ap (take m) dx ∙ take-at (take m w) (drop (n + m) w) m (length-take-le m w (omega arith));
+      right = sym (part-take m n x hm (omega arith)) ∙ ap (drop m) tx ∙ part-take m n w hm (omega arith);
+      behind = ap (drop at) e ∙ paste-behind w w n m at (omega arith) (omega arith) hn;
+    }
+
+module _ (L : List ℕ → ℕ → ℕ → Bool) (w : List ℕ) (m n at : ℕ) (hm : m ≤ n) (hn : n + m ≤ at) (hat : at ≤ length w) where
+  -- y is what came back of the first call, x the list after the copy, z what came back of the second
+  pub halves : (y x z : List ℕ) → length y ≡ length (lent m w) → take (n - m) y ≡ isort (L (drop (at - m) (lent m w))) (take (n - m) (lent m w))
+      → drop (at - m) y ≡ drop (at - m) (lent m w) → x ≡ paste (back m w y) n (back m w y) m → length z ≡ length (lent n x)
+      → take m z ≡ isort (L (drop (at - n) (lent n x))) (take m (lent n x)) → drop (at - n) z ≡ drop (at - n) (lent n x) → Halves (L (drop at w)) w m n at (back n x z)
+  halves y x z ly ey dy ex lz ez dz =
+      let A = came L w m at (omega arith) hat (n - m) y ly ey dy in
+      let v : List ℕ = take m w ++ y in
+      let C = copied v x m n at hm hn (omega arith) (ex ∙ ap (λ (l : List ℕ). paste l n l m) (A .whole)) in
+      let lx : length x ≡ length w = C .room ∙ A .room in
+      let B = came L x n at (omega arith) (omega arith) m z lz ez dz in
+      let u : List ℕ = take n x ++ z in
+      let q : m + (n - m) ≡ n = omega arith in
+      let tab : drop at x ≡ drop at w = C .behind ∙ A .behind in
+      rw (B .whole)
+      (record {
+        room = B .room ∙ lx;
+        left = B .sorted ∙ ap (λ (d : List ℕ). isort (L d) (part n (n + m) x)) tab ∙ ap (isort (L (drop at w))) (C .left ∙ A .first);
+        right = sym (part-take m n u hm (omega (arith, B .room)))
+            ∙ ap (drop m) (B .first)
+            ∙ part-take m n x hm (omega arith)
+            ∙ C .right
+            ∙ (rw q at (A .sorted));
+        behind = B .behind ∙ tab;
+      })
+
+module _ (L : List ℕ → ℕ → ℕ → Bool) (S : (d : List ℕ) → Strict (L d)) (w : List ℕ) (m n at : ℕ) (u : List ℕ) (H : Halves (L (drop at w)) w m n at u) where
+  pub halves-ordered : Ordered (L (drop at u)) (part n (n + m) u)
+  halves-ordered = rw (H .behind, H .left) (ordered-isort (L (drop at w)) (S (drop at w)) (take m w))
+
+  -- the merge of the two halves is the sort of the whole
+  pub halves-sorted : m ≤ n → merge (L (drop at u)) (part n (n + m) u) (part m n u) ≡ isort (L (drop at w)) (take n w)
+  halves-sorted hm =
+      rw (H .behind, H .left, H .right) (sym (sort-append (L (drop at w)) (S (drop at w)) (take m w) (part m n w)) ∙ ap (isort (L (drop at w))) (take-parts m n w hm))
+
+-- ---- a merge of the first m words with those up to n, after the first m were copied to n and on
+
+module _ (L : List ℕ → ℕ → ℕ → Bool) (w x : List ℕ) (m n at : ℕ) (C : Copied w m n at x) where
+  pub copied-ordered : Ordered (L (drop at w)) (take m w) → Ordered (L (drop at x)) (part n (n + m) x)
+  copied-ordered o = rw (C .behind, C .left) o
+
+  pub copied-merged : merge (L (drop at x)) (part n (n + m) x) (part m n x) ≡ merge (L (drop at w)) (take m w) (part m n w)
+  copied-merged = rw (C .behind, C .left, C .right)
+
+pub merged-none : (lt : ℕ → ℕ → Bool) (w : List ℕ) (m n : ℕ) → m ≡ 0 → take n w ≡ merge lt (take m w) (part m n w)
+unfolding merge
+merged-none lt w m n e = let p : n - 0 ≡ n = omega arith in rw (e, p)
+
+pub merged-all : (lt : ℕ → ℕ → Bool) (w : List ℕ) (m n : ℕ) → m ≡ n → take n w ≡ merge lt (take m w) (part m n w)
+merged-all lt w m n e = rw (part-none m n w (omega arith), merge-nil) (ap (λ (k : ℕ). take k w) (sym e))
