@@ -107,3 +107,71 @@ fn settle(w: &mut [u32], count: usize, list: usize)
         i += 1;
     }
 }
+
+// Measures the paths of the nodes that a list has: each length goes into two words at the node's place of a table.
+fn measure(nodes: &[u32], w: &mut [u32], list: usize, found: usize, table: usize, count: usize)
+    requires { ⌜ (list + found ≤ table) × (table + count + count ≤ length (now w)) × (count ≤ 4294967295) ⌝ }
+    requires { ⌜ ((k : ℕ) → k < found → getD (now w) (list + k) 0 < count) ⌝ }
+    ensures { λ _. ⌜ Measured (now (w .entry)) list found table count (lengthFrom count (now (nodes .entry))) (now (w .exit)) found ⌝ }
+{
+    let mut i = 0;
+    while i < found {
+        let node = source::word(w, list + i);
+        let len = keys::path_length(nodes, node, count);
+        let at = table + node as usize + node as usize;
+        w[at] = (len % 4294967296) as u32;
+        w[at + 1] = (len / 4294967296) as u32;
+        i += 1;
+    }
+}
+
+// Whether the texts of the first n words rise.
+fn rises(nodes: &[u32], strings: &[u8], w: &[u32], t: Tables, n: usize) -> bool
+    requires { ⌜ (n ≤ length (now w)) × Placed t (length (now w)) ⌝ }
+    ensures { λ r. ⌜ r ≡ allOf n (rising (λ i. keyIn (now (nodes .entry)) (now (strings .entry)) t (now (w .entry)) (getD (now (w .entry)) i 0))) ⌝ }
+{
+    let mut i = 1;
+    while i < n {
+        let last = source::word(w, i - 1);
+        if !keys::below(nodes, strings, w, t, last, source::word(w, i)) {
+            return false;
+        }
+        i += 1;
+    }
+    true
+}
+
+// Sorts the list of `found` nodes by their paths, which are measured; or says that two have one path.
+fn sort_list(nodes: &[u32], strings: &[u8], w: &mut [u32], t: Tables, found: usize) -> bool
+{
+    count_up(w, found);
+    sorting::sort(nodes, strings, w, t, found);
+    if !rises(nodes, strings, w, t, found) {
+        return false;
+    }
+    let list = t.at + t.paths;
+    gather(w, found, list);
+    settle(w, found, list);
+    true
+}
+
+// What the containers' paths come to: how many they are, in text order in the list, or rule 22.
+pub enum Indexed {
+    Paths(usize),
+    Refused(u32),
+}
+
+pub fn sort_paths(nodes: &[u32], strings: &[u8], w: &mut [u32], t: Tables, order: usize, count: usize) -> Indexed
+{
+    if !all_placed(nodes, count) {
+        return Indexed::Refused(DRAFT_PATHS);
+    }
+    let list = t.at + t.paths;
+    let found = list_containers(nodes, w, order, count, list);
+    measure(nodes, w, list, found, t.at + t.lengths, count);
+    if sort_list(nodes, strings, w, t, found) {
+        Indexed::Paths(found)
+    } else {
+        Indexed::Refused(DRAFT_PATHS)
+    }
+}
