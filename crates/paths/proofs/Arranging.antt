@@ -6,10 +6,12 @@ use mathlib.Core.Bool.{Bool, true, false}
 use native.Mathlib.Omega.{arith}
 use lib.ListN.{length, getD, take, drop, length-take}
 use lib.Seq.{sets, sets-eq, getD-take, getD-drop, drop-drop, take-at, ext-getD, length-sets}
-use Rattle.laws.specs.Counted.{joinOf}
-use Rattle.tree.proofs.Members.{length-join}
+use Rattle.laws.specs.Counted.{joinOf, allOf}
+use Rattle.texts.specs.Text.{before, rising}
+use Rattle.tree.proofs.Members.{length-join, all-of, all-so}
+use Rattle.paths.specs.Arranged.{names}
 use Rattle.paths.proofs.Filling.{sets-past, sets-before, sets-at, sets-drop}
-use Rattle.paths.proofs.Sorting.{join-at, names, names-length}
+use Rattle.paths.proofs.Sorting.{join-at}
 
 -- lists that agree from a place on
 pub same-later : (at i : ℕ) (v w : List ℕ) → at ≤ i → drop at v ≡ drop at w → getD v i 0 ≡ getD w i 0
@@ -22,6 +24,21 @@ drop-later a b v w h e =
     let sum : a + (b - a) ≡ b = omega arith in
     let there : (l : List ℕ) → drop b l ≡ drop (b - a) (drop a l) = λ l. sym (drop-drop (b - a) a l ∙ ap (λ (k : ℕ). drop k l) sum) in
     there v ∙ ap (drop (b - a)) e ∙ sym (there w)
+
+-- ---- texts that rise
+
+pub all-less : (m n : ℕ) (t : ℕ → Bool) → m ≤ n → allOf n t ≡ true → allOf m t ≡ true
+all-less m n t h e = all-so m t (λ i k. all-of n t e i (omega arith))
+
+-- of place i and the one before it, by their names x and y
+pub rises-at : (key : ℕ → List ℕ) (w : List ℕ) (i x y : ℕ) (b : Bool) → 1 ≤ i → x ≡ getD w (i - 1) 0 → y ≡ getD w i 0 → b ≡ before (key x) (key y)
+    → rising (λ j. key (getD w j 0)) i ≡ b
+rises-at key w zero x y b h p q e = absurd (omega arith)
+rises-at key w (suc i) x y b h p q e =
+    let less : suc i - 1 ≡ i = omega arith in
+    sym (e ∙ rw (p, q, less) refl)
+
+-- ---- from step to step
 
 module _ (w₀ : List ℕ) (found at list : ℕ) (room : found + found ≤ at) (after : at ≤ list) (fits : list + found ≤ length w₀) where
   -- the first words are numbered

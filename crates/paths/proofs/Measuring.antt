@@ -5,29 +5,22 @@ use mathlib.Core.List.{List, [], _∷_}
 use native.Mathlib.Omega.{arith}
 use native.Mathlib.Decide.{ℕ-discrete, decLt}
 use lib.ListN.{length, getD, set, take, drop, length-set}
+use Rattle.paths.specs.Arranged.{twoWords, Measured}
 use lib.Seq.{getD-set-same, getD-set-other, take-set-le, drop-set-lt, getD-take}
-
--- the two words at node x's place
-abbrev pub twoWords : List ℕ → ℕ → ℕ → ℕ
-twoWords w table x = getD w (table + x + x) 0 + 2 ^ 32 * getD w (table + x + x + 1) 0
 
 -- the first `found` words of the list at `list` name nodes below count; `size` is what is measured
 module _ (w₀ : List ℕ) (list found table count : ℕ) (size : ℕ → ℕ) where
   abbrev node : ℕ → ℕ
   node k = getD w₀ (list + k) 0
 
-  pub record Measured (w : List ℕ) (i : ℕ) : Type 0 where
-    pub within : i ≤ found
-    pub long : length w ≡ length w₀
-    pub low : take table w ≡ take table w₀
-    pub high : drop (table + count + count) w ≡ drop (table + count + count) w₀
-    pub sizes : (k : ℕ) → k < i → twoWords w table (getD w₀ (list + k) 0) ≡ size (getD w₀ (list + k) 0)
+  abbrev Now : List ℕ → ℕ → Type 0
+  Now w i = Measured w₀ list found table count size w i
 
-  pub measure-start : Measured w₀ 0
+  pub measure-start : Now w₀ 0
   measure-start = record { within = omega arith; long = refl; low = refl; high = refl; sizes = λ k h. absurd (omega arith) }
 
   module _ (before : list + found ≤ table) (room : table + count + count ≤ length w₀) (inside : (k : ℕ) → k < found → getD w₀ (list + k) 0 < count)
-      (w : List ℕ) (i : ℕ) (m : Measured w i) (h : i < found) where
+      (w : List ℕ) (i : ℕ) (m : Now w i) (h : i < found) where
     -- the word that the list has
     pub measure-node : getD w (list + i) 0 ≡ getD w₀ (list + i) 0
     measure-node =
@@ -78,7 +71,7 @@ module _ (w₀ : List ℕ) (list found table count : ℕ) (size : ℕ → ℕ) w
             earlier (yes z) = absurd (d (ap (λ (j : ℕ). getD w₀ (list + j) 0) z ∙ sym is-node))
             earlier (no z) = omega arith
 
-        pub measure-next : Measured (set (set w (table + x + x) lo) (table + x + x + 1) hi) (i + 1)
+        pub measure-next : Now (set (set w (table + x + x) lo) (table + x + x + 1) hi) (i + 1)
         unfolding w′
         measure-next =
             record {
@@ -92,7 +85,7 @@ module _ (w₀ : List ℕ) (list found table count : ℕ) (size : ℕ → ℕ) w
               sizes = λ k q. size-at k q (ℕ-discrete (getD w₀ (list + k) 0) x);
             }
 
-  pub measure-end : (w : List ℕ) (i : ℕ) → Measured w i → found ≤ i → Measured w found
+  pub measure-end : (w : List ℕ) (i : ℕ) → Now w i → found ≤ i → Now w found
   measure-end w i m h =
       let e : i ≡ found = omega (arith, m .within) in
-      subst (λ (k : ℕ). Measured w k) e m
+      subst (λ (k : ℕ). Now w k) e m

@@ -20,6 +20,7 @@ use Rattle.tree.proofs.Members.{All, all-join, length-join}
 use Rattle.sorting.specs.Sorted.{insert, isort, byKey, Rises, Unlike, Twice}
 use Rattle.sorting.proofs.Keyed.{rises-unlike, level-twice, isort-sortBy}
 use Rattle.paths.specs.Listed.{tagAt, containersIn, containers, Renumbers}
+use Rattle.paths.specs.Arranged.{names}
 use Rattle.paths.proofs.Rule.{twice, once}
 
 -- ---- the list in words
@@ -107,9 +108,6 @@ join-at (suc n) g i h = go (decLt i n) (join-at n g i)
     go (no l) r =
         let e : i ≡ n = omega arith in
         ap (λ (k : ℕ). getD (before-last ++ (g n ∷ [])) k 0) (e ∙ sym (length-join n g)) ∙ getD-append-seam before-last (g n) [] 0 ∙ ap g (sym e)
-
-unfoldable pub names : ℕ → List ℕ
-names n = joinOf n (λ i. i ∷ [])
 
 names-at : (n i : ℕ) → i < n → getD (names n) i 0 ≡ i
 unfolding names

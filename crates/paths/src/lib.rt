@@ -1,17 +1,23 @@
 // The paths of a draft's containers (rule 22): listed in the image's order, measured, and sorted by text.
 ghost use mathlib.Core.Path.{_≡_};
-ghost use mathlib.Core.List.{_∷_, []};
-ghost use Prim.Native.Nat.{_+_, _*_, _≤_};
+ghost use mathlib.Core.List.{List, _∷_, []};
+ghost use Prim.Native.Nat.{ℕ, _+_, _*_, _≤_, _<_};
 ghost use lib.ListN.{length, getD};
 ghost use lib.Seq.{sets};
 ghost use Rattle.laws.specs.Counted.{allOf, joinOf};
 ghost use Rattle.image.specs.Header.{nodeWords};
-ghost use Rattle.image.specs.Sections.{Sections};
+ghost use Rattle.image.specs.Sections.{Sections, nodeCount};
 ghost use Rattle.draft.specs.Draft.{placed};
+ghost use Rattle.texts.specs.Text.{rising};
+ghost use Rattle.keys.specs.Keys.{keyIn, lengthFrom, Placed};
 ghost use Rattle.paths.specs.Listed.{containersIn, placedIn};
+ghost use Rattle.paths.specs.Arranged.{Measured, Arranged, Rooted, Indexes};
+ghost use Rattle.encoder.specs.Ready.{OldsAt};
 use draft::source;
 use image::NONE;
 use image::NodeRecord;
+use image::refusal::DRAFT_PATHS;
+use keys::Tables;
 
 // Whether node `i` is the root, no container, or a container that has a name or a place.
 fn is_placed(node: NodeRecord, i: usize) -> bool
@@ -141,37 +147,9 @@ fn rises(nodes: &[u32], strings: &[u8], w: &[u32], t: Tables, n: usize) -> bool
     true
 }
 
-// Sorts the list of `found` nodes by their paths, which are measured; or says that two have one path.
-fn sort_list(nodes: &[u32], strings: &[u8], w: &mut [u32], t: Tables, found: usize) -> bool
-{
-    count_up(w, found);
-    sorting::sort(nodes, strings, w, t, found);
-    if !rises(nodes, strings, w, t, found) {
-        return false;
-    }
-    let list = t.at + t.paths;
-    gather(w, found, list);
-    settle(w, found, list);
-    true
-}
-
 // What the containers' paths come to: how many they are, in text order in the list, or rule 22.
 pub enum Indexed {
     Paths(usize),
     Refused(u32),
 }
 
-pub fn sort_paths(nodes: &[u32], strings: &[u8], w: &mut [u32], t: Tables, order: usize, count: usize) -> Indexed
-{
-    if !all_placed(nodes, count) {
-        return Indexed::Refused(DRAFT_PATHS);
-    }
-    let list = t.at + t.paths;
-    let found = list_containers(nodes, w, order, count, list);
-    measure(nodes, w, list, found, t.at + t.lengths, count);
-    if sort_list(nodes, strings, w, t, found) {
-        Indexed::Paths(found)
-    } else {
-        Indexed::Refused(DRAFT_PATHS)
-    }
-}
