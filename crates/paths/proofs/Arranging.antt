@@ -2,14 +2,17 @@
 use Prim.Native.Nat.{ℕ, zero, suc, _+_, _-_, _≤_, _<_}
 use mathlib.Core.Path.{_≡_, refl, sym, ap, _∙_}
 use mathlib.Core.List.{List, [], _∷_}
-use mathlib.Core.Bool.{Bool, true, false}
+use mathlib.Core.Bool.{Bool, true, false, false≢true}
 use native.Mathlib.Omega.{arith}
 use lib.ListN.{length, getD, take, drop, length-take}
 use lib.Seq.{sets, sets-eq, getD-take, getD-drop, drop-drop, take-at, ext-getD, length-sets}
 use Rattle.laws.specs.Counted.{joinOf, allOf}
 use Rattle.texts.specs.Text.{before, rising}
-use Rattle.tree.proofs.Members.{length-join, all-of, all-so}
-use Rattle.paths.specs.Arranged.{names}
+use Rattle.tree.proofs.Members.{length-join, all-of, all-so, all-ext}
+use Rattle.sorting.specs.Sorted.{isort, byKey}
+use Rattle.keys.specs.declared.Tables.{Tables}
+use Rattle.keys.specs.Keys.{keyOf, keyIn}
+use Rattle.paths.specs.Arranged.{names, sortedNames, Arranged}
 use Rattle.paths.proofs.Filling.{sets-past, sets-before, sets-at, sets-drop}
 use Rattle.paths.proofs.Sorting.{join-at}
 
@@ -87,3 +90,54 @@ module _ (w₀ : List ℕ) (found at list : ℕ) (room : found + found ≤ at) (
           (omega (arith, long, length-join found (λ j. getD w₂ (list + getD w₂ j 0) 0)))
           ∙ join-at found (λ j. getD w₂ (list + getD w₂ j 0) 0) i h ∙ same-later at (list + getD w₂ i 0) w₂ w₀ (omega arith) behind
           ∙ ap (λ (x : ℕ). getD w₀ (list + x) 0) (sorted-at i h)
+
+-- ---- the whole sort
+
+module _ (nodes strings : List ℕ) (t : Tables) (w₀ w₁ w₂ : List ℕ) (found : ℕ) (room : found + found ≤ t .at)
+    (fits : t .at + t .paths + found ≤ length w₀) (numbered : w₁ ≡ sets w₀ 0 (joinOf found (λ i. i ∷ [])))
+    (front : take found w₂ ≡ isort (byKey (keyIn nodes strings t w₁)) (take found w₁)) (behind : drop (t .at) w₂ ≡ drop (t .at) w₁)
+    (long : length w₂ ≡ length w₀) where
+  abbrev key : ℕ → List ℕ
+  key = keyIn nodes strings t w₀
+
+  abbrev list : ℕ
+  list = t .at + t .paths
+
+  behind₁ : drop (t .at) w₁ ≡ drop (t .at) w₀
+  behind₁ = numbered-behind w₀ found (t .at) list room (omega arith) fits w₁ numbered
+
+  front₂ : take found w₂ ≡ sortedNames key found
+  front₂ =
+      front ∙ ap (λ (tab : List ℕ). isort (byKey (keyOf nodes strings (t .texts) (t .paths) (t .lengths) tab)) (take found w₁)) behind₁
+      ∙ ap (isort (byKey key)) (numbered-front w₀ found (t .at) list room (omega arith) fits w₁ numbered)
+
+  rising₂ : (i : ℕ) → i < found → rising (λ j. keyIn nodes strings t w₂ (getD w₂ j 0)) i ≡ rising (λ j. key (getD (sortedNames key found) j 0)) i
+  rising₂ zero h = refl
+  rising₂ (suc i) h =
+      rw (
+        behind ∙ behind₁,
+        sorted-at w₀ found (t .at) list room (omega arith) fits w₂ (sortedNames key found) front₂ (behind ∙ behind₁) long i (omega arith),
+        sorted-at w₀ found (t .at) list room (omega arith) fits w₂ (sortedNames key found) front₂ (behind ∙ behind₁) long (suc i) h,
+      ) refl
+
+  module _ (r : Bool) (tested : r ≡ allOf found (rising (λ i. keyIn nodes strings t w₂ (getD w₂ i 0)))) where
+    answer : r ≡ allOf found (rising (λ i. key (getD (sortedNames key found) i 0)))
+    answer = tested ∙ all-ext found _ _ rising₂
+
+    pub arranged-not : r ≡ false → Arranged key w₀ list found w₂ false
+    arranged-not e =
+        record {
+          answer = sym e ∙ answer;
+          nodes = λ z. absurd (false≢true z);
+          behind = drop-later (t .at) (list + found) w₂ w₀ (omega arith) (behind ∙ behind₁);
+        }
+
+    pub arranged : r ≡ true → (w₃ w₄ : List ℕ) → w₃ ≡ sets w₂ found (joinOf found (λ i. getD w₂ (list + getD w₂ i 0) 0 ∷ []))
+        → w₄ ≡ sets w₃ list (joinOf found (λ i. getD w₃ (found + i) 0 ∷ [])) → Arranged key w₀ list found w₄ true
+    arranged e w₃ w₄ gathered settled =
+        record {
+          answer = sym e ∙ answer;
+          nodes =
+              λ z i h. settled-at w₀ found (t .at) list room (omega arith) fits w₂ (sortedNames key found) front₂ (behind ∙ behind₁) long w₃ w₄ gathered settled i h;
+          behind = settled-behind w₀ found (t .at) list room (omega arith) fits w₂ (sortedNames key found) front₂ (behind ∙ behind₁) long w₃ w₄ gathered settled;
+        }

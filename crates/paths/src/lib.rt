@@ -147,9 +147,24 @@ fn rises(nodes: &[u32], strings: &[u8], w: &[u32], t: Tables, n: usize) -> bool
     true
 }
 
+// Sorts the list of `found` nodes by their paths, which are measured; or says that two have one path.
+fn sort_list(nodes: &[u32], strings: &[u8], w: &mut [u32], t: Tables, found: usize) -> bool
+    requires { ⌜ (found + found ≤ t .at) × (t .at + t .paths + found ≤ length (now w)) × (t .at + t .lengths ≤ length (now w)) × (found ≤ 4294967295) ⌝ }
+    ensures { λ r. ⌜ Arranged (keyIn (now (nodes .entry)) (now (strings .entry)) t (now (w .entry))) (now (w .entry)) (t .at + t .paths) found (now (w .exit)) r ⌝ }
+{
+    count_up(w, found);
+    sorting::sort(nodes, strings, w, t, found);
+    if !rises(nodes, strings, w, t, found) {
+        return false;
+    }
+    let list = t.at + t.paths;
+    gather(w, found, list);
+    settle(w, found, list);
+    true
+}
+
 // What the containers' paths come to: how many they are, in text order in the list, or rule 22.
 pub enum Indexed {
     Paths(usize),
     Refused(u32),
 }
-

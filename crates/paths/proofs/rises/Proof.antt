@@ -50,13 +50,12 @@ loop-less : tie.Need-loop-less Inv-loop μ-loop
 loop-less c = search needs
 
 loop-again : tie.Need-loop-again Inv-loop μ-loop
-loop-again c =
-    (
-      search needs,
-      all-next _ _ (c .before .before .before .before .before .loop .inv .1)
+loop-again c = (
+  search needs,
+  all-next _ _ (c .before .before .before .before .before .loop .inv .1)
       (rises-at (keyIn (c .before .before .before .before .before .before .before .before .before .args .nodes .now) (c .before .before .before .before .before .before .before .before .before .args .strings .now) (c .before .before .before .before .before .before .before .before .before .args .t) (c .before .before .before .before .before .before .before .before .before .args .w .now)) (c .before .before .before .before .before .before .before .before .before .args .w .now) _ _ _ _ (c .before .before .before .before .before .loop .inv .0) (c .before .before .before .word .ensures) (c .before .before .word2 .ensures) (c .before .below .ensures)
       ∙ not-false _ (c .if1 .left)),
-    )
+)
 
 returns-2 : tie.Need-returns-2 Inv-loop μ-loop
 returns-2 c = sym (all-less _ _ _ (search needs) (c .before .loop .inv .1))
