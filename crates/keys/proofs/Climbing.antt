@@ -2,25 +2,23 @@
 use Prim.Native.Nat.{ℕ, zero, suc, _+_, _-_, _*_, _/_, _%_, _≤_, _<_}
 use mathlib.Core.Path.{_≡_, refl, sym, ap, _∙_}
 use mathlib.Core.List.{List, [], _∷_, _++_}
-use mathlib.Core.Bool.{Bool, true, false, cond, not, _||_, _&&_, true≢false}
+use mathlib.Core.Bool.{Bool, true, false, cond, not, _&&_, true≢false}
 use native.Mathlib.Omega.{arith}
 use native.Mathlib.Nat.{le-refl}
-use native.Mathlib.Numerals.{add-one}
 use native.Mathlib.Decide.{ℕ-discrete, decLt}
-use lib.Dec.{eqb, leb}
-use lib.ListN.{length, getD, take, drop, length-append, length-take, length-drop, List·getD-eq-default}
+use lib.Dec.{leb}
+use lib.ListN.{length, getD, drop, length-append, length-take, length-drop, List·getD-eq-default}
 use lib.Seq.{take-length, getD-take, getD-drop}
 use borrow.Author.Tests.{eqb-true, leb-true}
 use Rattle.texts.specs.Decimal.{decimal}
 use Rattle.texts.specs.Dots.{dot}
 use Rattle.image.specs.Header.{nodeWords}
-use Rattle.image.specs.Sections.{Sections, nodeCount, nodeWord, parentOf, placeOf, f, partAt, absent, present, goodIn, optionalIn, goodOptional, isContainer}
+use Rattle.image.specs.Sections.{Sections, nodeCount, nodeWord, parentOf, f, partAt, absent, present, goodIn, optionalIn, goodOptional, isContainer}
 use Rattle.image.proofs.Tests.{both-true}
 use Rattle.tree.specs.Reach.{climb, Climbs}
 use Rattle.index.specs.Paths.{noName, pieceOf, piece, joined, pathFrom, canonicalPath}
-use Rattle.index.proofs.Paths.{path-step, path-top, path-below, path-root}
-use Rattle.keys.specs.declared.Cursor.{Cursor}
-use Rattle.keys.specs.Keys.{wordOf, pieceLength, atEnd, pieceByte, lastByte, stepBack, readBack, nodeOf, longOf, keyOf, joinedLength, lengthFrom}
+use Rattle.index.proofs.Paths.{path-step, path-top, path-below}
+use Rattle.keys.specs.Keys.{wordOf, pieceLength, atEnd, pieceByte, readBack, nodeOf, longOf, keyOf, joinedLength, lengthFrom}
 use Rattle.keys.proofs.Lengths.{length-root, length-step}
 use Rattle.keys.proofs.Reading.{withLeft, step-up, dot-up, read-one, piece-read}
 use Rattle.keys.proofs.Uses.{path-key}
