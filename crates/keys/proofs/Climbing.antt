@@ -80,6 +80,11 @@ container-inside s e whole y c = rw e (by (decLt (y * nodeWords + 2) (length (s 
         let o : getD (s .nodes) (y * nodeWords + 2) 0 ≡ 1 = eqb-true (getD (s .nodes) (y * nodeWords + 2) 0) 1 (rw e at c) in
         absurd (omega arith)
 
+-- what holds of the nodes that are containers holds of every number that reads as one
+pub every-container : (s : Sections) → s .stride ≡ nodeWords → length (s .nodes) % nodeWords ≡ 0 → (P : ℕ → Type 0)
+    → ((y : ℕ) → y < nodeCount s → isContainer s y ≡ true → P y) → (y : ℕ) → isContainer s y ≡ true → P y
+every-container s e whole P all y c = all y (container-inside s e whole y c) c
+
 -- a draft's sections; every container's name is good
 module _ (s : Sections) (nodes strings : List ℕ) (n : s .nodes ≡ nodes) (t : s .strings ≡ strings) (w : s .stride ≡ nodeWords)
     (names : (y : ℕ) → isContainer s y ≡ true → goodOptional s (f s y 0) (f s y 1) ≡ true) where
