@@ -1,5 +1,5 @@
 -- Two texts of one length compared from their ends, and what that says of their order. Assumes nothing.
-use Prim.Native.Nat.{ℕ, zero, suc, _+_, _-_, _≤_, _<_}
+use Prim.Native.Nat.{ℕ, _≤_, _<_}
 use mathlib.Core.Path.{_≡_, refl, sym, ap, _∙_}
 use mathlib.Core.List.{List, [], _∷_, _++_, append-nil}
 use mathlib.Core.Bool.{Bool, true, false, cond}
@@ -8,7 +8,6 @@ use lib.Dec.{ltb}
 use lib.ListN.{length, take, drop, take-append-drop}
 use lib.Seq.{drop-cons, length-take-le}
 use borrow.Author.Tests.{le-ltb}
-use Rattle.texts.specs.declared.Order.{Order}
 use Rattle.texts.specs.Text.{byHead, orderOf, isLess, before}
 use Rattle.keys.specs.Keys.{decided}
 

@@ -1,6 +1,6 @@
 -- The length of a path, one step up at a time. Assumes nothing.
-use Prim.Native.Nat.{ℕ, zero, suc, _+_, _-_, _≤_, _<_}
-use mathlib.Core.Path.{_≡_, refl, sym, ap, _∙_}
+use Prim.Native.Nat.{ℕ, zero, suc, _+_, _-_, _<_}
+use mathlib.Core.Path.{_≡_, refl, _∙_}
 use mathlib.Core.List.{List}
 use native.Mathlib.Omega.{arith}
 use borrow.Author.Tests.{eq-eqb, ne-eqb}
@@ -23,9 +23,9 @@ module _ (nodes : List ℕ) where
   length-root (suc n) x e = rw (eq-eqb x 0 e)
 
   module _ (n x : ℕ) (some : 0 < n) (away : x ≡ 0 → ⊥) where
-    one : lengthFrom n nodes x ≡ joinedLength (wordOf nodes x 0) (lengthFrom (n - 1) nodes (wordOf nodes x 0)) (pieceLength nodes x)
+    pub length-step : lengthFrom n nodes x ≡ joinedLength (wordOf nodes x 0) (lengthFrom (n - 1) nodes (wordOf nodes x 0)) (pieceLength nodes x)
     unfolding lengthFrom
-    one = by n some
+    length-step = by n some
       where
         by : (k : ℕ) → 0 < k → lengthFrom k nodes x ≡ joinedLength (wordOf nodes x 0) (lengthFrom (k - 1) nodes (wordOf nodes x 0)) (pieceLength nodes x)
         by zero h = absurd (omega arith)
@@ -35,8 +35,8 @@ module _ (nodes : List ℕ) where
 
     -- below the root
     pub length-top : wordOf nodes x 0 ≡ 0 → lengthFrom n nodes x ≡ pieceLength nodes x
-    length-top e = one ∙ rw e
+    length-top e = length-step ∙ rw e
 
     -- further down
     pub length-below : (wordOf nodes x 0 ≡ 0 → ⊥) → lengthFrom n nodes x ≡ lengthFrom (n - 1) nodes (wordOf nodes x 0) + (1 + pieceLength nodes x)
-    length-below d = one ∙ joined-below (wordOf nodes x 0) (lengthFrom (n - 1) nodes (wordOf nodes x 0)) (pieceLength nodes x) d
+    length-below d = length-step ∙ joined-below (wordOf nodes x 0) (lengthFrom (n - 1) nodes (wordOf nodes x 0)) (pieceLength nodes x) d

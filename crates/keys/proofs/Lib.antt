@@ -5,3 +5,4 @@ pub mod Reading
 pub mod Pieces
 pub mod Uses
 pub mod Lengths
+pub mod Climbing

@@ -3,14 +3,13 @@
 use Prim.Native.Nat.{ℕ, zero, suc, _+_, _-_, _≤_, _<_}
 use mathlib.Core.Path.{_≡_, refl, sym, ap, _∙_}
 use mathlib.Core.List.{List, [], _∷_, _++_, append-assoc, append-nil}
-use mathlib.Core.Bool.{Bool, true, false, cond}
 use native.Mathlib.Omega.{arith}
 use native.Mathlib.Nat.{le-refl}
 use native.Mathlib.Numerals.{add-one}
-use lib.Dec.{eqb}
 use lib.ListN.{length, getD, take, drop, set, length-append}
 use lib.Seq.{take-all, take-suc, take-append-le, drop-cons, drop-set-lt, getD-set-same, lt-length-set}
 use borrow.Author.Tests.{eq-eqb, ne-eqb}
+use Rattle.texts.specs.Dots.{dot}
 use Rattle.keys.specs.declared.Cursor.{Cursor}
 use Rattle.keys.specs.Keys.{atEnd, pieceByte, lastByte, stepBack, readBack, back}
 
@@ -29,6 +28,10 @@ step-in nodes c n e =
 pub step-up : (nodes : List ℕ) (c : Cursor) → c .left ≡ 0 → stepBack nodes c ≡ atEnd nodes (c .above)
 unfolding stepBack
 step-up nodes c e = rw (eq-eqb (c .left) 0 e)
+
+pub dot-up : (strings : List ℕ) (c : Cursor) → c .left ≡ 0 → lastByte strings c ≡ dot
+unfolding lastByte
+dot-up strings c e = rw (eq-eqb (c .left) 0 e)
 
 -- the byte before it is one of the piece
 pub byte-in : (strings : List ℕ) (c : Cursor) (n : ℕ) → c .left ≡ suc n → lastByte strings c ≡ pieceByte strings c n

@@ -28,7 +28,7 @@ pieceLength nodes x = cond (unnamed nodes x) (length (decimal (wordOf nodes x 1)
 
 -- ---- reading backward
 
--- before the end of node x's piece: a name's offset, or a place, with the length, and the node above
+-- at the end of node x's piece: a name's offset, or a place, with the length, and the node above
 unfoldable pub atEnd : List ℕ → ℕ → Cursor
 atEnd nodes x =
     record {
@@ -69,7 +69,7 @@ decided [] ys later = later
 decided (x ∷ xs) [] later = later
 decided (x ∷ xs) (y ∷ ys) later = let r = decided xs ys later in cond (ltb x y) true (cond (ltb y x) false r)
 
--- what is left is one text: both cursors stand before pieces below one node
+-- what is left is one text: both cursors stand at the beginning of pieces below one node
 abbrev pub alike : Cursor → Cursor → Bool
 alike c d = eqb (c .left) 0 && eqb (d .left) 0 && eqb (c .above) (d .above)
 

@@ -1,7 +1,6 @@
 -- `keys::ends_below` meets its contract. Assumes nothing.
 use native.Mathlib.Omega.{arith}
-use mathlib.Core.Path.{_≡_, refl, sym, ap, _∙_}
-use Rattle.keys.specs.Keys.{readBack, back, decided}
+use mathlib.Core.Path.{_∙_}
 use Rattle.keys.proofs.Uses.{below-shorter, below-longer}
 use borrow.Author.Needs.{needs}
 use Rattle.keys.proofs.ends_below.Statement.{statement}

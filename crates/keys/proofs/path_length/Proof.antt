@@ -1,9 +1,9 @@
 -- `keys::path_length` meets its contract. The invariant: the sum so far and the length of what is left above are the whole. Assumes nothing.
 use borrow.Author.Needs.{needs}
 use native.Mathlib.Omega.{arith}
-use mathlib.Core.Path.{_≡_, refl, sym, ap, _∙_}
+use mathlib.Core.Path.{_≡_, sym, _∙_}
 use Prim.Native.Nat.{_+_, _-_, _*_, _≤_}
-use Rattle.keys.specs.Keys.{wordOf, pieceLength, lengthFrom}
+use Rattle.keys.specs.Keys.{lengthFrom}
 use Rattle.keys.proofs.Lengths.{length-none, length-root, length-top, length-below}
 use Rattle.keys.proofs.path_length.Statement.{statement}
 use Rattle.keys.proofs.path_length.Tie as tie

@@ -1,11 +1,8 @@
 -- `keys::put_key` meets its contract. Assumes nothing.
-use mathlib.Core.Path.{_≡_, sym, ap, _∙_}
+use mathlib.Core.Path.{ap, _∙_}
 use native.Mathlib.Omega.{arith}
-use mathlib.Core.List.{List}
-use lib.ListN.{length, getD, take, drop}
-use Rattle.image.specs.Sections.{textIn}
-use Rattle.keys.specs.Keys.{readBack, keyIn}
-use Rattle.keys.proofs.Uses.{tail-part, text-written, path-written}
+use lib.ListN.{length}
+use Rattle.keys.proofs.Uses.{text-written, path-written}
 use borrow.Author.Needs.{needs}
 use Rattle.keys.proofs.put_key.Statement.{statement}
 use Rattle.keys.proofs.put_key.Tie as tie

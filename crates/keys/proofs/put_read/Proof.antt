@@ -1,11 +1,11 @@
 -- `keys::put_read` meets its contract. The invariant: the bytes from `left` on are written, and those before x are left. Assumes nothing.
 use borrow.Author.Needs.{needs}
 use native.Mathlib.Omega.{arith}
-use mathlib.Core.Path.{_≡_, refl, sym, ap, _∙_}
+use mathlib.Core.Path.{_≡_, refl, sym, _∙_}
 use Prim.Native.Nat.{_≤_, _-_}
 use mathlib.Core.List.{_++_}
 use lib.ListN.{length, drop, length-set}
-use Rattle.keys.specs.Keys.{readBack, stepBack}
+use Rattle.keys.specs.Keys.{readBack}
 use Rattle.keys.proofs.Reading.{read-put, read-none}
 use Rattle.keys.proofs.put_read.Statement.{statement}
 use Rattle.keys.proofs.put_read.Tie as tie

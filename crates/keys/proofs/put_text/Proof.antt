@@ -2,10 +2,9 @@
 use borrow.Author.Needs.{needs}
 use native.Mathlib.Omega.{arith}
 use Prim.Native.Nat.{_≤_, _-_}
-use mathlib.Core.Path.{_≡_, refl, sym, ap, _∙_}
+use mathlib.Core.Path.{_≡_, refl}
 use mathlib.Core.List.{_++_}
 use lib.ListN.{length, take, drop, length-set}
-use lib.Seq.{take-all}
 use Rattle.keys.proofs.Copying.{copy-more, copy-end}
 use Rattle.keys.proofs.put_text.Statement.{statement}
 use Rattle.keys.proofs.put_text.Tie as tie

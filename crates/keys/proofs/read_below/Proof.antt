@@ -2,7 +2,7 @@
 use borrow.Author.Needs.{needs}
 use native.Mathlib.Omega.{arith}
 use Prim.Native.Nat.{_-_}
-use mathlib.Core.Path.{_≡_, refl, sym, ap, _∙_}
+use mathlib.Core.Path.{_≡_, refl, sym, _∙_}
 use Rattle.keys.specs.Keys.{readBack, decided}
 use Rattle.keys.proofs.Uses.{none-decided, rest-decided, byte-decided}
 use Rattle.keys.proofs.read_below.Statement.{statement}
