@@ -4,3 +4,4 @@ pub mod Listing
 pub mod Sorting
 pub mod Measuring
 pub mod Arranging
+pub mod Indexing

@@ -123,7 +123,7 @@ first-some k (suc n) i g all h e = go (decLt i n) (λ l. first-some k n i g all 
         same-number = omega arith
 
 -- a test that fails somewhere
-all-not : (n : ℕ) (g : ℕ → Bool) → allOf n g ≡ false → (i : ℕ) × ((i < n) × (g i ≡ false))
+pub all-not : (n : ℕ) (g : ℕ → Bool) → allOf n g ≡ false → (i : ℕ) × ((i < n) × (g i ≡ false))
 unfolding allOf
 all-not zero g e = absurd (false≢true (sym e))
 all-not (suc n) g e = go (allOf n g) refl (g n) refl e (all-not n g)

@@ -1,6 +1,6 @@
 -- The list of containers measured and sorted by path, as the code leaves it in the work words; what the caller knows and learns.
 -- Assumes nothing.
-use Prim.Native.Nat.{ℕ, _+_, _*_, _^_, _≤_, _<_}
+use Prim.Native.Nat.{ℕ, _+_, _*_, _^_, _%_, _≤_, _<_}
 use mathlib.Core.Path.{_≡_}
 use mathlib.Core.List.{List, [], _∷_}
 use mathlib.Core.Bool.{Bool, true, cond}
@@ -56,8 +56,9 @@ pub record Arranged (key : ℕ → List ℕ) (w₀ : List ℕ) (list found : ℕ
 
 -- ---- the containers of a draft
 
--- what rules 19 to 21 have shown: each node is numbered once, parent steps lead to the root, names are good
+-- what rules 19 to 21 have shown: entries are whole, each node is numbered once, parent steps lead to the root, names are good
 pub record Rooted (s : Sections) (order : List ℕ) : Type 0 where
+  pub whole : length (s .nodes) % nodeWords ≡ 0
   pub numbers : Renumbers (nodeCount s) order
   pub climbs : (x : ℕ) → x < nodeCount s → Climbs s (nodeCount s) x
   pub named : (x : ℕ) → x < nodeCount s → isContainer s x ≡ true → goodOptional s (f s x 0) (f s x 1) ≡ true
