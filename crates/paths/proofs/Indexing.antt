@@ -233,15 +233,15 @@ module _ (s : Sections) (olds nodes strings : List ℕ) (t : Tables) (w₀ : Lis
               answer = rw (passes, as-many) refl;
               boxes =
                   λ _ k h.
-                      let e : t .at + (t .paths + k) ≡ list + k = omega arith in
-                      tab-word w₃ (t .paths + k) ∙ ap (λ (i : ℕ). getD w₃ i 0) e ∙ list-order k (omega (arith, as-many));
+                  let e : t .at + (t .paths + k) ≡ list + k = omega arith in
+                  tab-word w₃ (t .paths + k) ∙ ap (λ (i : ℕ). getD w₃ i 0) e ∙ list-order k (omega (arith, as-many));
               lengths =
                   λ _ k h.
-                      let q : k < found = omega (arith, as-many) in
-                      long-in w₃ (oldOf olds (getD (byPath s olds) k 0)) ∙ kept-long (oldOf olds (getD (byPath s olds) k 0))
-                      ∙ ap (twoWords w₂ table) (sym (box-order k q))
-                      ∙ long-box (getD (sortedNames key (length boxes)) k 0) (omega (arith, place-below k q, found-all))
-                      ∙ ap (λ (x : ℕ). length (canonicalPath s x)) (box-order k q);
+                  let q : k < found = omega (arith, as-many) in
+                  long-in w₃ (oldOf olds (getD (byPath s olds) k 0)) ∙ kept-long (oldOf olds (getD (byPath s olds) k 0))
+                  ∙ ap (twoWords w₂ table) (sym (box-order k q))
+                  ∙ long-box (getD (sortedNames key (length boxes)) k 0) (omega (arith, place-below k q, found-all))
+                  ∙ ap (λ (x : ℕ). length (canonicalPath s x)) (box-order k q);
               behind = behind-tables;
             }
 

@@ -169,3 +169,29 @@ pub enum Indexed {
     Refused(u32),
 }
 
+// Lists the containers among the nodes, whose numbers in the image's order stand from `order` on, by their paths.
+pub fn sort_paths(
+    nodes: &[u32],
+    strings: &[u8],
+    w: &mut [u32],
+    t: Tables,
+    order: usize,
+    count: usize,
+) -> Indexed
+    requires { ⌜ (count + count ≤ t .at) × (t .paths + count ≤ t .lengths) × (t .at + t .lengths + count + count ≤ order) × (order + count ≤ length (now w)) ⌝ }
+    requires { ⌜ (t .texts ≡ 0) × (count * 10 ≤ length (now nodes)) × (count ≤ 4294967295) ⌝ }
+    requires { ⌜ ((j : ℕ) → j < count → getD (now w) (order + j) 0 < count) ⌝ }
+    ensures { λ r. ⌜ ((s : Sections) (olds : List ℕ) → s .nodes ≡ now (nodes .entry) → s .strings ≡ now (strings .entry) → s .stride ≡ nodeWords → nodeCount s ≡ count → Rooted s olds → OldsAt olds (now (w .entry)) count order → Indexes s olds t (now (w .entry)) (now (w .exit)) r) ⌝ }
+{
+    if !all_placed(nodes, count) {
+        return Indexed::Refused(DRAFT_PATHS);
+    }
+    let list = t.at + t.paths;
+    let found = list_containers(nodes, w, order, count, list);
+    measure(nodes, w, list, found, t.at + t.lengths, count);
+    if sort_list(nodes, strings, w, t, found) {
+        Indexed::Paths(found)
+    } else {
+        Indexed::Refused(DRAFT_PATHS)
+    }
+}
