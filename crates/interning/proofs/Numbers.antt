@@ -1,0 +1,128 @@
+-- The uses in number order, and what their sort by texts says of each place. Assumes nothing.
+use Prim.Native.Nat.{ℕ, zero, suc, _+_, _-_, _≤_, _<_}
+use mathlib.Core.Path.{_≡_, refl, sym, ap, _∙_}
+use mathlib.Core.Logic.{_⊎_, inl, inr, ⊎-elim}
+use mathlib.Core.List.{List, [], _∷_, _++_}
+use mathlib.Core.Bool.{Bool, true, false}
+use native.Mathlib.Nat.{add-zero}
+use native.Mathlib.Omega.{arith}
+use borrow.Author.Tests.{ltb-true, ltb-false}
+use lib.Dec.{ltb}
+use lib.ListN.{length, getD}
+use Rattle.texts.specs.Text.{before}
+use Rattle.texts.proofs.Text.{before-trans, trichotomy}
+use Rattle.sorting.specs.Sorted.{byKey, insert, isort, merge, Rises}
+use Rattle.sorting.proofs.Laws.{cases, differ, key-strict, sort-append}
+use Rattle.sorting.proofs.Listed.{All, Pairs, In, here, there, all-map, all-at, all-insert, all-isort, pairs-at, in-at, in-isort, length-isort}
+use Rattle.sorting.proofs.Ordered.{isort-rises}
+use Rattle.interning.specs.Uses.{upFrom, RisesFrom}
+
+-- ---- the numbers from k on
+
+pub upFrom-length : (k n : ℕ) → length (upFrom k n) ≡ n
+unfolding upFrom
+upFrom-length k zero = refl
+upFrom-length k (suc n) = ap suc (upFrom-length (suc k) n)
+
+pub upFrom-at : (k n i : ℕ) → i < n → getD (upFrom k n) i 0 ≡ k + i
+unfolding upFrom
+upFrom-at k zero i h = absurd (omega arith)
+upFrom-at k (suc n) zero h = sym (add-zero k)
+upFrom-at k (suc n) (suc i) h = upFrom-at (suc k) n i (omega arith) ∙ omega arith
+
+pub upFrom-append : (k a b : ℕ) → upFrom k (a + b) ≡ upFrom k a ++ upFrom (k + a) b
+unfolding upFrom
+upFrom-append k zero b = let e : 0 + b ≡ b = omega arith in rw (e, add-zero k)
+upFrom-append k (suc a) b =
+    let e : suc a + b ≡ suc (a + b) = omega arith in
+    let f : k + suc a ≡ suc k + a = omega arith in
+    rw (e, f) (ap (λ (l : List ℕ). k ∷ l) (upFrom-append (suc k) a b))
+
+upFrom-above : (k n : ℕ) {j : ℕ} → j < k → All (λ y. j < y) (upFrom k n)
+unfolding upFrom
+upFrom-above k zero h = tt
+upFrom-above k (suc n) h = (h, upFrom-above (suc k) n (omega arith))
+
+upFrom-below : (k n : ℕ) {j : ℕ} → k + n ≤ j → All (λ y. y < j) (upFrom k n)
+unfolding upFrom
+upFrom-below k zero h = tt
+upFrom-below k (suc n) h = (omega arith, upFrom-below (suc k) n (omega arith))
+
+upFrom-pairs : (k n : ℕ) → Pairs _<_ (upFrom k n)
+unfolding upFrom
+upFrom-pairs k zero = tt
+upFrom-pairs k (suc n) = (upFrom-above (suc k) n (omega arith), upFrom-pairs (suc k) n)
+
+upFrom-in : (k n j : ℕ) → k ≤ j → j < k + n → In j (upFrom k n)
+unfolding upFrom
+upFrom-in k zero j h l = absurd (omega arith)
+upFrom-in k (suc n) j h l =
+    cases (ltb k j)
+    (λ e. there (upFrom-in (suc k) n j (ltb-true k j e) (omega arith)))
+    (λ e. let q : j ≡ k = omega (arith, ltb-false k j e) in rw q here)
+
+-- ---- the sorted uses, of which those from p on rise
+
+pub arranged : (key : ℕ → List ℕ) (p n : ℕ) → p ≤ n → RisesFrom (byKey key) p n
+    → merge (byKey key) (isort (byKey key) (upFrom 0 p)) (upFrom p (n - p)) ≡ isort (byKey key) (upFrom 0 n)
+arranged key p n h r =
+    let e : p + (n - p) ≡ n = omega arith in
+    let f : 0 + p ≡ p = omega arith in
+    ap (merge (byKey key) (isort (byKey key) (upFrom 0 p))) (sym (isort-rises (byKey key) (key-strict key) (upFrom p (n - p)) up))
+    ∙ sym (sort-append (byKey key) (key-strict key) (upFrom 0 p) (upFrom p (n - p)))
+    ∙ ap (λ (q : ℕ). isort (byKey key) (upFrom 0 p ++ upFrom q (n - p))) (sym f)
+    ∙ ap (isort (byKey key)) (sym (upFrom-append 0 p (n - p)))
+    ∙ ap (λ (q : ℕ). isort (byKey key) (upFrom 0 q)) e
+  where
+    up : Rises (byKey key) (upFrom p (n - p))
+    up i g =
+        let l = upFrom-length p (n - p) in
+        let q : p + suc i ≡ suc (p + i) = omega arith in
+        rw (upFrom-at p (n - p) i (omega arith), upFrom-at p (n - p) (suc i) (omega arith), q) (r (p + i) (omega arith) (omega arith))
+
+-- ---- what a sort of the uses 0 to n - 1 says
+
+-- a's text comes before b's, or they are one and a is used before b
+abbrev pub Before : (ℕ → List ℕ) → ℕ → ℕ → Type 0
+Before key a b = (before (key a) (key b) ≡ true) ⊎ ((key a ≡ key b) × (a < b))
+
+module _ (key : ℕ → List ℕ) where
+  before-on : (a b c : ℕ) → Before key a b → Before key b c → Before key a c
+  before-on a b c (inl p) (inl q) = inl (before-trans (key a) (key b) (key c) p q)
+  before-on a b c (inl p) (inr q) = inl (rw (q .0) at p)
+  before-on a b c (inr p) (inl q) = inl (rw (← p .0) at q)
+  before-on a b c (inr p) (inr q) = inr (p .0 ∙ q .0, omega arith)
+
+  -- b's text does not come before that of a, which is used earlier
+  before-of : (a b : ℕ) → byKey key b a ≡ false → a < b → Before key a b
+  before-of a b e h = ⊎-elim inl (λ f. ⊎-elim (λ g. inr (g, h)) (λ g. differ (sym g ∙ e)) f) (trichotomy (key a) (key b))
+
+  pairs-insert : (x : ℕ) (l : List ℕ) → All (λ y. x < y) l → Pairs (Before key) l → Pairs (Before key) (insert (byKey key) x l)
+  unfolding insert
+  pairs-insert x [] a s = (tt, tt)
+  pairs-insert x (y ∷ ys) a s =
+      cases (byKey key y x)
+      (λ e. rw e (all-insert (byKey key) (Before key y) x ys (inl e) (s .0), pairs-insert x ys (a .1) (s .1)))
+      (λ e. let b = before-of x y e (a .0) in rw e ((b, all-map (λ z. before-on x y z b) ys (s .0)), s))
+
+  pairs-isort : (l : List ℕ) → Pairs _<_ l → Pairs (Before key) (isort (byKey key) l)
+  unfolding isort
+  pairs-isort [] s = tt
+  pairs-isort (x ∷ xs) s = pairs-insert x (isort (byKey key) xs) (all-isort (byKey key) (λ y. x < y) xs (s .0)) (pairs-isort xs (s .1))
+
+pub record Order (key : ℕ → List ℕ) (n : ℕ) (o : List ℕ) : Type 0 where
+  pub count : length o ≡ n
+  pub below : (i : ℕ) → i < n → getD o i 0 < n
+  pub up : (i j : ℕ) → i < j → j < n → Before key (getD o i 0) (getD o j 0)
+  pub each : (k : ℕ) → k < n → (i : ℕ) × (i < n) × (getD o i 0 ≡ k)
+
+pub order-isort : (key : ℕ → List ℕ) (n : ℕ) → Order key n (isort (byKey key) (upFrom 0 n))
+order-isort key n =
+    let o : List ℕ = isort (byKey key) (upFrom 0 n) in
+    let c : length o ≡ n = length-isort (byKey key) (upFrom 0 n) ∙ upFrom-length 0 n in
+    record {
+      count = c;
+      below = λ i h. all-at (λ y. y < n) o (all-isort (byKey key) (λ y. y < n) (upFrom 0 n) (upFrom-below 0 n (omega arith))) i (omega arith);
+      up = λ i j h k. pairs-at (Before key) o (pairs-isort key (upFrom 0 n) (upFrom-pairs 0 n)) i j h (omega arith);
+      each = λ k h. let m = in-at k o (in-isort (byKey key) k (upFrom 0 n) (upFrom-in 0 n k (omega arith) (omega arith))) in (m .0, omega (arith, m .1), m .2);
+    }
