@@ -23,6 +23,10 @@ pub record Emitting (key : ℕ → List ℕ) (n : ℕ) (o x : List ℕ) (k end :
   pub room : length x ≡ length o
   pub written : x ≡ joined (storedOf key k) ++ drop end o
 
+-- what fits from `end` on fits the part that is lent
+pub fits-lent : (x : List ℕ) (end l : ℕ) → end + l ≤ length x → l ≤ length (lent end x)
+fits-lent x end l h = rw (lent-part x end (omega arith)) (omega (arith, length-drop end x))
+
 pub emit-none : (key : ℕ → List ℕ) (n : ℕ) (o : List ℕ) → Emitting key n o o 0 0
 unfolding storedOf joinOf distinct flatMap
 emit-none key n o = record { bound = omega arith; sum = refl; room = refl; written = refl }
@@ -51,12 +55,12 @@ module _ (key : ℕ → List ℕ) (n : ℕ) (o : List ℕ) (ho : length (joined 
       let t1 : take end x ≡ J = ap (take end) (E .written) ∙ take-at J (drop end o) end (sym (E .sum)) in
       let d1 : drop end x ≡ drop end o = ap (drop end) (E .written) ∙ drop-at J (drop end o) end (sym (E .sum)) in
       let y1 : y ≡ key k ++ drop (end + length (key k)) o = q
-          ∙ ap (λ (l : List ℕ). key k ++ drop (length (key k)) l) (lent-part x end (omega arith) ∙ d1)
-          ∙ ap (λ (l : List ℕ). key k ++ l) (drop-drop (length (key k)) end o) in
+      ∙ ap (λ (l : List ℕ). key k ++ drop (length (key k)) l) (lent-part x end (omega arith) ∙ d1)
+      ∙ ap (λ (l : List ℕ). key k ++ l) (drop-drop (length (key k)) end o) in
       let z : back end x y ≡ (J ++ key k) ++ drop (end + length (key k)) o = lent-back x y end (omega arith)
-          ∙ rw (t1, y1) (sym (append-assoc J (key k) (drop (end + length (key k)) o))) in
+      ∙ rw (t1, y1) (sym (append-assoc J (key k) (drop (end + length (key k)) o))) in
       let lz : length (back end x y) ≡ length o = ap length z
-          ∙ omega (arith, length-append (J ++ key k) (drop (end + length (key k)) o), length-append J (key k), length-drop (end + length (key k)) o) in
+      ∙ omega (arith, length-append (J ++ key k) (drop (end + length (key k)) o), length-append J (key k), length-drop (end + length (key k)) o) in
       cases (holds (storedOf key k) (key k))
       (λ f.
       let none : length (key k) ≡ 0 = omega (arith, offset-before key n k h f, E .sum) in

@@ -139,8 +139,7 @@ module _ (key : ℕ → List ℕ) where
       (cases (holds (storedOf key (k + d)) (key (k + d)))
       (λ f. rw (stored-old (k + d) f) h)
       (λ f.
-      rw (stored-new (k + d) f)
-      (
+      rw (stored-new (k + d) f) (
         holds-old (storedOf key (k + d)) (key (k + d) ∷ []) t (h .0),
         offset-old (storedOf key (k + d)) (key (k + d) ∷ []) t (h .0) ∙ h .1,
       )))

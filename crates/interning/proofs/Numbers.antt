@@ -13,11 +13,11 @@ use lib.ListN.{length, getD, take, drop, set, length-set}
 use lib.Seq.{take-suc-set, take-take, take-at, drop-at, drop-set-lt, length-take-le}
 use Rattle.texts.specs.Text.{before}
 use Rattle.texts.proofs.Text.{before-trans, trichotomy}
-use Rattle.sorting.specs.Sorted.{byKey, insert, isort, merge, part, Rises}
+use Rattle.sorting.specs.Sorted.{byKey, insert, isort, merge, part, Ordered, Rises}
 use Rattle.sorting.proofs.Laws.{cases, differ, key-strict, sort-append}
 use Rattle.sorting.proofs.Listed.{All, Pairs, In, here, there, all-map, all-at, all-insert, all-isort, pairs-at, in-at, in-isort, length-isort}
-use Rattle.sorting.proofs.Ordered.{isort-rises}
-use Rattle.sorting.proofs.InPlace.{part-take}
+use Rattle.sorting.proofs.Ordered.{ordered-isort, isort-rises}
+use Rattle.sorting.proofs.InPlace.{part-take, drop-later}
 use Rattle.interning.specs.Uses.{upFrom, RisesFrom}
 
 -- ---- the numbers from k on
@@ -178,3 +178,30 @@ number-done from to w x i hw N h =
       written = sym (part-take from to x (omega arith) (omega arith)) ∙ ap (drop from) t ∙ drop-at (take from w) (upFrom from (to - from)) from l;
       behind = N .behind;
     }
+
+-- ---- the first p uses are numbered (x) and sorted (y), the others numbered (z), and the two parts merged; K gives the texts by the tables from `at` on
+
+pub record Parts (K : List ℕ → ℕ → List ℕ) (w z : List ℕ) (p n at : ℕ) : Type 0 where
+  pub low : take p z ≡ isort (byKey (K (drop at w))) (upFrom 0 p)
+  pub high : part p n z ≡ upFrom p (n - p)
+  pub behind : drop at z ≡ drop at w
+
+module _ (K : List ℕ → ℕ → List ℕ) (w z : List ℕ) (p n at : ℕ) where
+  pub parts : (x y : List ℕ) → p ≤ n → n ≤ at → part 0 p x ≡ upFrom 0 (p - 0) → drop p x ≡ drop p w → take p y ≡ isort (byKey (K (drop at x))) (take p x)
+      → drop at y ≡ drop at x → take p z ≡ take p y → part p n z ≡ upFrom p (n - p) → drop n z ≡ drop n y → Parts K w z p n at
+  parts x y hp hn nx bx sy by lz nz bz =
+      let e : p - 0 ≡ p = omega arith in
+      let tx : drop at x ≡ drop at w = drop-later p at x w bx (omega arith) in
+      let first : take p x ≡ upFrom 0 p = ap (λ (k : ℕ). take k x) (sym e) ∙ nx ∙ ap (upFrom 0) e in
+      record {
+        low = lz ∙ sy ∙ ap (isort (byKey (K (drop at x)))) first ∙ ap (λ (d : List ℕ). isort (byKey (K d)) (upFrom 0 p)) tx;
+        high = nz;
+        behind = drop-later n at z y bz hn ∙ by ∙ tx;
+      }
+
+  pub parts-ordered : Parts K w z p n at → Ordered (byKey (K (drop at z))) (take p z)
+  parts-ordered P = rw (P .behind, P .low) (ordered-isort (byKey (K (drop at w))) (key-strict (K (drop at w))) (upFrom 0 p))
+
+  pub parts-merged : Parts K w z p n at → p ≤ n → RisesFrom (byKey (K (drop at w))) p n
+      → merge (byKey (K (drop at z))) (take p z) (part p n z) ≡ isort (byKey (K (drop at w))) (upFrom 0 n)
+  parts-merged P hp r = rw (P .behind, P .low, P .high) (arranged (K (drop at w)) p n hp r)

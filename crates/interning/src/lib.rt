@@ -68,7 +68,7 @@ fn mark(nodes: &[u32], strings: &[u8], w: &mut [u32], t: Tables, n: usize)
     let mut i = 0;
     while i < n {
         let first = head_of(nodes, strings, w, t, n, i);
-        let at = n + w[i] as usize;
+        let at = n + source::word(w, i) as usize;
         w[at] = first;
         i += 1;
     }
@@ -85,7 +85,7 @@ fn assign(nodes: &[u32], strings: &[u8], w: &mut [u32], t: Tables, n: usize) -> 
     let mut total = 0usize;
     let mut k = 0;
     while k < n {
-        let first = w[n + k];
+        let first = source::word(w, n + k);
         if first as usize == k {
             let len = keys::key_length(strings, w, t, first);
             if 4294967295 - total < len {
@@ -94,7 +94,7 @@ fn assign(nodes: &[u32], strings: &[u8], w: &mut [u32], t: Tables, n: usize) -> 
             w[n + k] = total as u32;
             total += len;
         } else {
-            w[n + k] = w[n + first as usize];
+            w[n + k] = source::word(w, n + first as usize);
         }
         k += 1;
     }
@@ -124,7 +124,7 @@ pub fn emit(nodes: &[u32], strings: &[u8], w: &[u32], t: Tables, n: usize, out: 
     let mut end = 0usize;
     let mut k = 0;
     while k < n {
-        if w[n + k] as usize == end {
+        if source::word(w, n + k) as usize == end {
             let len = keys::key_length(strings, w, t, k as u32);
             keys::put_key(nodes, strings, w, t, k as u32, &mut out[end..]);
             end += len;

@@ -14,6 +14,7 @@ use Rattle.interning.proofs.mark.Statement.{statement}
 use Rattle.interning.proofs.mark.Tie as tie
 use Rattle.interning.proofs.mark.Reads as reads
 use Rattle.interning.proofs.mark.Lts as lts
+use Rattle.draft.proofs.source.word.Reads as word-reads
 use Rattle.interning.proofs.head_of.Reads as head-of-reads
 
 abbrev Inv-loop : tie.InvT-loop
@@ -35,10 +36,12 @@ order : (c : tie.At-loop Inv-loop μ-loop) → let to = c .before .before .befor
 order c = let to = c .before .before .before .before in rw (to .pre .1) (order-isort (key c) (to .args .n))
 
 -- where the next first use goes
-there : (c : tie.At-loop Inv-loop μ-loop) → let to = c .before .before .before .before in c .loop .i < to .args .n → to .args .n + getD (c .loop .w) (c .loop .i) 0 < to .args .n + to .args .n
-there c h =
-    let to = c .before .before .before .before in
-    mark-at (key c) (to .args .n) (to .args .w .now) (omega arith) (order c) (c .loop .w) (c .loop .i) (c .loop .inv) h
+there : (c : tie.After-word Inv-loop μ-loop) → let to = c .before .before .before .before .before .before .before .before .before in to .args .n + c .word .result < to .args .n + to .args .n
+there c =
+    let at = c .before .before .before .before .before in
+    let to = at .before .before .before .before in
+    rw (c .word .ensures)
+    (mark-at (key at) (to .args .n) (to .args .w .now) (omega arith) (order at) (at .loop .w) (at .loop .i) (at .loop .inv) (c .before .before .before .before .loop-test .taken))
 
 loop-holds : tie.Need-loop-holds Inv-loop μ-loop
 loop-holds c =
@@ -48,23 +51,20 @@ loop-holds c =
 head-of-requires : tie.Need-head-of-requires Inv-loop μ-loop
 head-of-requires c κs = search needs
 
-mul-at : tie.Need-mul-at Inv-loop μ-loop
-mul-at c = search needs
-
-slice-read-at : tie.Need-slice-read-at Inv-loop μ-loop
-slice-read-at c = search needs
+word-requires : tie.Need-word-requires Inv-loop μ-loop
+word-requires c κs = search needs
 
 cast-at : tie.Need-cast-at Inv-loop μ-loop
 cast-at c = search needs
 
 add-at : tie.Need-add-at Inv-loop μ-loop
-add-at c = let at = c .before .before .before .before in let e = there at (c .before .before .before .loop-test .taken) in omega arith
+add-at c = search needs
 
 mul-w : tie.Need-mul-w Inv-loop μ-loop
-mul-w c = let at = c .before .before .before .before in let e = there at (c .before .before .before .loop-test .taken) in omega arith
+mul-w c = let e = there c in omega arith
 
 slice-write-w : tie.Need-slice-write-w Inv-loop μ-loop
-slice-write-w c = let at = c .before .before .before .before in let e = there at (c .before .before .before .loop-test .taken) in omega arith
+slice-write-w c = let e = there c in omega arith
 
 add-i : tie.Need-add-i Inv-loop μ-loop
 add-i c = search needs
@@ -74,12 +74,13 @@ loop-less c = search needs
 
 loop-again : tie.Need-loop-again Inv-loop μ-loop
 loop-again c =
-    let at = c .before .before .before .before in
+    let at = c .before .before .before .before .before in
     let to = at .before .before .before .before in
     let t = to .args .t in
-    let e = c .before .head-of .ensures
-        ∙ ap (λ (d : List ℕ). headOf (byKey (keyOf (to .args .nodes .now) (to .args .strings .now) (t .texts) (t .paths) (t .lengths) d)) (at .loop .w) (to .args .n) (at .loop .i)) (behind at) in
-    mark-step (key at) (to .args .n) (to .args .w .now) (omega arith) (order at) (at .loop .w) (at .loop .i) (c .before .head-of .result) (at .loop .inv) (c .before .before .before .loop-test .taken) e
+    let e = c .before .before .head-of .ensures
+    ∙ ap (λ (d : List ℕ). headOf (byKey (keyOf (to .args .nodes .now) (to .args .strings .now) (t .texts) (t .paths) (t .lengths) d)) (at .loop .w) (to .args .n) (at .loop .i)) (behind at) in
+    rw (c .word .ensures)
+    (mark-step (key at) (to .args .n) (to .args .w .now) (omega arith) (order at) (at .loop .w) (at .loop .i) (c .before .before .head-of .result) (at .loop .inv) (c .before .before .before .before .loop-test .taken) e)
 
 same-length : tie.Need-same-length Inv-loop μ-loop
 same-length c = search needs
@@ -98,8 +99,7 @@ mark-spec =
     μ-loop
     loop-holds
     head-of-requires
-    mul-at
-    slice-read-at
+    word-requires
     cast-at
     add-at
     mul-w
