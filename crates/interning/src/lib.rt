@@ -52,10 +52,11 @@ fn head_of(nodes: &[u32], strings: &[u8], w: &[u32], t: Tables, n: usize, i: usi
         return use_here;
     }
     let use_before = source::word(w, i - 1);
+    let first = source::word(w, n + use_before as usize);
     if keys::below(nodes, strings, w, t, use_before, use_here) {
         return use_here;
     }
-    source::word(w, n + use_before as usize)
+    first
 }
 
 // The order is in the first n words: each use's first use goes into the n words after them.

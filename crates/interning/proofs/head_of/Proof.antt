@@ -22,14 +22,6 @@ sub-word c = search needs
 word-requires-2 : tie.Need-word-requires-2
 word-requires-2 c κs = search needs
 
-below-requires : tie.Need-below-requires
-below-requires c κs = search needs
-
-returns-2 : tie.Need-returns-2
-unfolding headOf
-returns-2 c =
-    rw (ne-eqb _ _ (c .before .before .before .if1 .left), ← c .before .before .word2 .ensures, ← c .before .before .before .before .word .ensures, sym (c .before .below .ensures) ∙ c .if2 .taken) refl
-
 cast-word : tie.Need-cast-word
 cast-word c = search needs
 
@@ -39,10 +31,18 @@ add-word c = search needs
 word-requires-3 : tie.Need-word-requires-3
 word-requires-3 c κs = search needs
 
+below-requires : tie.Need-below-requires
+below-requires c κs = search needs
+
+returns-2 : tie.Need-returns-2
+unfolding headOf
+returns-2 c =
+    rw (ne-eqb _ _ (c .before .before .before .before .if1 .left), ← c .before .before .before .word2 .ensures, ← c .before .before .before .before .before .word .ensures, sym (c .before .below .ensures) ∙ c .if2 .taken) refl
+
 returns-3 : tie.Need-returns-3
 unfolding headOf
 returns-3 c =
-    rw (ne-eqb _ _ (c .before .before .before .before .if1 .left), ← c .before .before .before .word2 .ensures, ← c .before .before .before .before .before .word .ensures, sym (c .before .before .below .ensures) ∙ c .before .if2 .left) (c .word3 .ensures)
+    rw (ne-eqb _ _ (c .before .before .before .before .if1 .left), ← c .before .before .before .word2 .ensures, ← c .before .before .before .before .before .word .ensures, sym (c .before .below .ensures) ∙ c .if2 .left) (c .before .before .word3 .ensures)
 
 pub head-of-spec : {M : Type 1} → statement M
 head-of-spec =
@@ -52,9 +52,9 @@ head-of-spec =
     returns
     sub-word
     word-requires-2
-    below-requires
-    returns-2
     cast-word
     add-word
     word-requires-3
+    below-requires
+    returns-2
     returns-3)
