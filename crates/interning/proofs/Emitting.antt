@@ -23,6 +23,10 @@ pub record Emitting (key : ℕ → List ℕ) (n : ℕ) (o x : List ℕ) (k end :
   pub room : length x ≡ length o
   pub written : x ≡ joined (storedOf key k) ++ drop end o
 
+-- what fits from `end` on fits the part that is lent
+pub fits-lent : (x : List ℕ) (end l : ℕ) → end + l ≤ length x → l ≤ length (lent end x)
+fits-lent x end l h = rw (lent-part x end (omega arith)) (omega (arith, length-drop end x))
+
 pub emit-none : (key : ℕ → List ℕ) (n : ℕ) (o : List ℕ) → Emitting key n o o 0 0
 unfolding storedOf joinOf distinct flatMap
 emit-none key n o = record { bound = omega arith; sum = refl; room = refl; written = refl }

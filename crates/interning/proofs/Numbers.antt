@@ -2,19 +2,22 @@
 use Prim.Native.Nat.{ℕ, zero, suc, _+_, _-_, _≤_, _<_}
 use mathlib.Core.Path.{_≡_, refl, sym, ap, _∙_}
 use mathlib.Core.Logic.{_⊎_, inl, inr, ⊎-elim}
-use mathlib.Core.List.{List, [], _∷_, _++_}
+use mathlib.Core.List.{List, [], _∷_, _++_, append-nil, append-assoc}
 use mathlib.Core.Bool.{Bool, true, false}
 use native.Mathlib.Nat.{add-zero}
 use native.Mathlib.Omega.{arith}
+use native.Mathlib.Numerals.{add-one}
 use borrow.Author.Tests.{ltb-true, ltb-false}
 use lib.Dec.{ltb}
-use lib.ListN.{length, getD}
+use lib.ListN.{length, getD, take, drop, set, length-set}
+use lib.Seq.{take-suc-set, take-take, take-at, drop-at, drop-set-lt, length-take-le}
 use Rattle.texts.specs.Text.{before}
 use Rattle.texts.proofs.Text.{before-trans, trichotomy}
-use Rattle.sorting.specs.Sorted.{byKey, insert, isort, merge, Rises}
+use Rattle.sorting.specs.Sorted.{byKey, insert, isort, merge, part, Ordered, Rises}
 use Rattle.sorting.proofs.Laws.{cases, differ, key-strict, sort-append}
 use Rattle.sorting.proofs.Listed.{All, Pairs, In, here, there, all-map, all-at, all-insert, all-isort, pairs-at, in-at, in-isort, length-isort}
-use Rattle.sorting.proofs.Ordered.{isort-rises}
+use Rattle.sorting.proofs.Ordered.{ordered-isort, isort-rises}
+use Rattle.sorting.proofs.InPlace.{part-take, drop-later}
 use Rattle.interning.specs.Uses.{upFrom, RisesFrom}
 
 -- ---- the numbers from k on
@@ -126,3 +129,79 @@ order-isort key n =
       up = λ i j h k. pairs-at (Before key) o (pairs-isort key (upFrom 0 n) (upFrom-pairs 0 n)) i j h (omega arith);
       each = λ k h. let m = in-at k o (in-isort (byKey key) k (upFrom 0 n) (upFrom-in 0 n k (omega arith) (omega arith))) in (m .0, omega (arith, m .1), m .2);
     }
+
+-- ---- writing the numbers from `from` up to `to`: i is the next, w the list where the pass began
+
+pub record Numbering (from to : ℕ) (w x : List ℕ) (i : ℕ) : Type 0 where
+  pub begun : from ≤ i
+  pub bound : i ≤ to
+  pub room : length x ≡ length w
+  pub low : take i x ≡ take from w ++ upFrom from (i - from)
+  pub behind : drop to x ≡ drop to w
+
+pub number-none : (from to : ℕ) (w : List ℕ) → from ≤ to → Numbering from to w w from
+unfolding upFrom
+number-none from to w h =
+    let e : from - from ≡ 0 = omega arith in
+    record { begun = omega arith; bound = h; room = refl; low = rw e (sym (append-nil (take from w))); behind = refl }
+
+pub number-step : (from to : ℕ) (w x : List ℕ) (i : ℕ) → to ≤ length w → Numbering from to w x i → i < to → Numbering from to w (set x i i) (i + 1)
+unfolding upFrom
+number-step from to w x i hw N h =
+    let e : i + 1 - from ≡ (i - from) + 1 = omega arith in
+    let f : from + (i - from) ≡ i = omega arith in
+    record {
+      begun = omega arith;
+      bound = omega arith;
+      room = length-set x i i ∙ N .room;
+      low = ap (λ (k : ℕ). take k (set x i i)) (add-one i)
+          ∙ take-suc-set x i i (omega arith)
+          ∙ ap (λ (l : List ℕ). l ++ (i ∷ [])) (N .low)
+          ∙ append-assoc (take from w) (upFrom from (i - from)) (i ∷ [])
+          ∙ ap (λ (l : List ℕ). take from w ++ l) (ap (λ (k : ℕ). upFrom from (i - from) ++ (k ∷ [])) (sym f) ∙ sym (upFrom-append from (i - from) 1))
+          ∙ ap (λ (k : ℕ). take from w ++ upFrom from k) (sym e);
+      behind = drop-set-lt to x i i h ∙ N .behind;
+    }
+
+pub record Numbered (from to : ℕ) (w x : List ℕ) : Type 0 where
+  pub low : take from x ≡ take from w
+  pub written : part from to x ≡ upFrom from (to - from)
+  pub behind : drop to x ≡ drop to w
+
+pub number-done : (from to : ℕ) (w x : List ℕ) (i : ℕ) → to ≤ length w → Numbering from to w x i → to ≤ i → Numbered from to w x
+number-done from to w x i hw N h =
+    let e : i ≡ to = omega arith in
+    let l : length (take from w) ≡ from = length-take-le from w (omega arith) in
+    let t : take to x ≡ take from w ++ upFrom from (to - from) = ap (λ (k : ℕ). take k x) (sym e) ∙ N .low ∙ ap (λ (k : ℕ). take from w ++ upFrom from (k - from)) e in
+    record {
+      low = sym (take-take from to x (omega arith)) ∙ ap (take from) t ∙ take-at (take from w) (upFrom from (to - from)) from l;
+      written = sym (part-take from to x (omega arith) (omega arith)) ∙ ap (drop from) t ∙ drop-at (take from w) (upFrom from (to - from)) from l;
+      behind = N .behind;
+    }
+
+-- ---- the first p uses are numbered (x) and sorted (y), the others numbered (z), and the two parts merged; K gives the texts by the tables from `at` on
+
+pub record Parts (K : List ℕ → ℕ → List ℕ) (w z : List ℕ) (p n at : ℕ) : Type 0 where
+  pub low : take p z ≡ isort (byKey (K (drop at w))) (upFrom 0 p)
+  pub high : part p n z ≡ upFrom p (n - p)
+  pub behind : drop at z ≡ drop at w
+
+module _ (K : List ℕ → ℕ → List ℕ) (w z : List ℕ) (p n at : ℕ) where
+  pub parts : (x y : List ℕ) → p ≤ n → n ≤ at → part 0 p x ≡ upFrom 0 (p - 0) → drop p x ≡ drop p w → take p y ≡ isort (byKey (K (drop at x))) (take p x)
+      → drop at y ≡ drop at x → take p z ≡ take p y → part p n z ≡ upFrom p (n - p) → drop n z ≡ drop n y → Parts K w z p n at
+  parts x y hp hn nx bx sy by lz nz bz =
+      let e : p - 0 ≡ p = omega arith in
+      let tx : drop at x ≡ drop at w = drop-later p at x w bx (omega arith) in
+      let first : take p x ≡ upFrom 0 p = ap (λ (k : ℕ). take k x) (sym e) ∙ nx ∙ ap (upFrom 0) e in
+      record {
+        low = lz ∙ sy ∙ ap (isort (byKey (K (drop at x)))) first ∙ ap (λ (d : List ℕ). isort (byKey (K d)) (upFrom 0 p)) tx;
+        high = nz;
+        behind = drop-later n at z y bz hn ∙ by ∙ tx;
+      }
+
+  pub parts-ordered : Parts K w z p n at → Ordered (byKey (K (drop at z))) (take p z)
+  parts-ordered P = rw (P .behind, P .low) (ordered-isort (byKey (K (drop at w))) (key-strict (K (drop at w))) (upFrom 0 p))
+
+  pub parts-merged : Parts K w z p n at → p ≤ n → RisesFrom (byKey (K (drop at w))) p n
+      → merge (byKey (K (drop at z))) (take p z) (part p n z) ≡ isort (byKey (K (drop at w))) (upFrom 0 n)
+  parts-merged P hp r = rw (P .behind, P .low, P .high) (arranged (K (drop at w)) p n hp r)
