@@ -45,6 +45,12 @@ sum-below k (suc n) g h =
 
 -- ---- joined parts
 
+-- whose parts are the same
+pub join-same : {X : Type 0} (n : ℕ) (a b : ℕ → List X) → ((j : ℕ) → j < n → a j ≡ b j) → joinOf n a ≡ joinOf n b
+unfolding joinOf
+join-same zero a b e = refl
+join-same (suc n) a b e = λ t. join-same n a b (λ j h. e j (omega arith)) t ++ e n (omega arith) t
+
 pub join-length : {X : Type 0} (n : ℕ) (g : ℕ → List X) → length (joinOf n g) ≡ sumOf n (λ j. length (g j))
 unfolding joinOf sumOf
 join-length zero g = refl

@@ -14,7 +14,7 @@ use Rattle.laws.specs.Refusal.{unless, _▸_, firstOf}
 use Rattle.laws.proofs.First.{first-all, passed}
 use Rattle.words.specs.Words.{wordIn}
 use Rattle.image.specs.declared.NodeRecord.{NodeRecord}
-use Rattle.records.specs.Fields.{Kind, kinds, kindOf, Unknown}
+use Rattle.records.specs.Fields.{kinds, kindOf}
 use Rattle.records.proofs.ByKind.{past-kinds}
 use Rattle.node_section.specs.Encoded.{textCount, listTextsIn, textsBy}
 use Rattle.node_section.proofs.Made.{count-small}

@@ -1,20 +1,19 @@
 -- The words of the record that is written are those of the written section, kind by kind. Assumes nothing.
-use Prim.Native.Nat.{ℕ, zero, suc, _+_, _*_, _≤_, _<_}
+use Prim.Native.Nat.{ℕ, _+_, _*_, _<_}
 use mathlib.Core.Path.{_≡_, refl, sym, ap, _∙_, subst}
-use mathlib.Core.Bool.{Bool, true, false, cond, _&&_, true≢false}
+use mathlib.Core.Bool.{true, cond, true≢false}
 use mathlib.Core.List.{List, [], _∷_, _++_, append-nil}
 use native.Mathlib.Omega.{arith}
 use native.Mathlib.Decide.{ℕ-discrete}
 use lib.ListN.{length, getD, replicate, length-append}
-use lib.Dec.{eqb}
 use borrow.Author.Tests.{eq-eqb, ne-eqb}
 use Rattle.laws.specs.Counted.{joinOf, sumOf}
 use Rattle.laws.specs.Lists.{flatMap}
 use Rattle.laws.proofs.First.{both}
-use Rattle.words.specs.Words.{NONE, isNone, wordAt, wordIn}
+use Rattle.words.specs.Words.{NONE, wordAt, wordIn}
 use Rattle.words.proofs.Words.{word-in}
 use Rattle.image.specs.Entries.{nodeIn}
-use Rattle.image.specs.Sections.{Sections, nodeCount, parentOf, placeOf, tagOf, f, textAt, absent, goodText, goodOptional, inside, isContainer}
+use Rattle.image.specs.Sections.{Sections, nodeCount, parentOf, placeOf, tagOf, f, textAt, absent, goodText, goodOptional, inside}
 use Rattle.image.proofs.Tests.{both-true}
 use Rattle.image.proofs.Parts.{good, part-length, optional-present, optional-half}
 use Rattle.records.specs.Fields.{Kind, Container, Choice, Command, Divert, Glue, Operator, Tag, BoolValue, IntValue, FloatValue, StringValue, ListValue, TargetValue, PointerValue, Assignment, Reference, Void, Unknown, fields}
@@ -52,7 +51,7 @@ module _ (s : Sections) (a l : ℕ) where
   pub text-length : goodText s a l ≡ true → l ≡ length (textAt s a l)
   text-length h = sym (part-length (s .strings) a l (good (s .strings) a l h .inside))
 
-  optional-length : Optional s a l → l ≡ cond (absent a l) NONE (length (textAt s a l))
+  pub optional-length : Optional s a l → l ≡ cond (absent a l) NONE (length (textAt s a l))
   optional-length (gone p q) = rw (eq-eqb a NONE p, eq-eqb l NONE q) q
   optional-length (there d h) = rw (ne-eqb a NONE d) (text-length h)
 
@@ -61,7 +60,7 @@ module _ (s : Sections) (a l : ℕ) where
   optional-count (gone p q) = rw (eq-eqb a NONE p, eq-eqb l NONE q) refl
   optional-count (there d h) = rw (ne-eqb a NONE d) refl
 
-  optional-offset : (kept : List (List ℕ)) (w : List ℕ) (at : ℕ) → Optional s a l → OffsetsAt kept (textIf s a l) w at
+  pub optional-offset : (kept : List (List ℕ)) (w : List ℕ) (at : ℕ) → Optional s a l → OffsetsAt kept (textIf s a l) w at
       → optionalOffset w at a ≡ cond (absent a l) NONE (offsetOf kept (textAt s a l))
   optional-offset kept w at (gone p q) o = rw (eq-eqb a NONE p, eq-eqb l NONE q) refl
   optional-offset kept w at (there d h) o =
@@ -173,11 +172,11 @@ module _ (s : Sections) (at len : ℕ) (q : ListPassed s at len) where
   abbrev origin : ℕ → List (List ℕ)
   origin j = textAt s (listOriginWord s at j 0) (listOriginWord s at j 1) ∷ []
 
-  items-word : wordIn (s .payload) at ≡ listItems s at
+  pub items-word : wordIn (s .payload) at ≡ listItems s at
   unfolding listWord
   items-word = let z : at ≡ at + 0 = omega arith in word-in (s .payload) at (omega arith) ∙ ap (wordAt (s .payload)) z
 
-  origins-word : wordIn (s .payload) (at + 4) ≡ listOrigins s at
+  pub origins-word : wordIn (s .payload) (at + 4) ≡ listOrigins s at
   unfolding listWord
   origins-word = word-in (s .payload) (at + 4) (omega arith)
 
@@ -187,7 +186,7 @@ module _ (s : Sections) (at len : ℕ) (q : ListPassed s at len) where
       let z : at + 8 + j * 20 ≡ at + (8 + j * 20 + 0 * 4) = omega arith in
       word-in (s .payload) (at + 8 + j * 20) (omega arith) ∙ ap (wordAt (s .payload)) z
 
-  item-length : (j : ℕ) → j < listItems s at → length (item j) ≡ textCount (wordIn (s .payload) (at + 8 + j * 20)) + 1
+  pub item-length : (j : ℕ) → j < listItems s at → length (item j) ≡ textCount (wordIn (s .payload) (at + 8 + j * 20)) + 1
   item-length j h =
       length-append (textIf s (listItemWord s at j 0) (listItemWord s at j 1)) _
       ∙ ap (λ (n : ℕ). n + 1)

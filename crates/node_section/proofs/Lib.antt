@@ -2,3 +2,4 @@ pub mod ByTag
 pub mod Made
 pub mod Counting
 pub mod Fielded
+pub mod Going

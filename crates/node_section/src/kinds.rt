@@ -47,7 +47,7 @@ pub fn text_count(offset: u32) -> usize
 }
 
 // The offset that is written for an optional text: the word at `at`, NONE where it is absent.
-fn optional_offset(work: &[u32], at: usize, offset: u32) -> u32
+pub fn optional_offset(work: &[u32], at: usize, offset: u32) -> u32
     ensures { λ r. ⌜ r ≡ optionalOffset (now (work .entry)) at offset ⌝ }
 {
     if offset == NONE {

@@ -1,23 +1,16 @@
 -- The draft whose words the section writers are lent, and the numbers that the work words hold. Assumes nothing.
-use Prim.Native.Nat.{ℕ, zero, suc, _<_}
-use mathlib.Core.Path.{_≡_, refl, ap}
-use mathlib.Core.List.{List, _++_}
+use Prim.Native.Nat.{ℕ, _<_}
+use mathlib.Core.Path.{_≡_, ap}
+use mathlib.Core.List.{List}
 use mathlib.Core.Bool.{cond}
-use native.Mathlib.Omega.{arith}
 use borrow.Author.Tests.{eq-eqb}
-use Rattle.laws.specs.Counted.{joinOf}
 use Rattle.words.specs.Words.{NONE, isNone}
 use Rattle.image.specs.Sections.{Sections}
 use Rattle.image.specs.Header.{nodeWords}
 use Rattle.draft.specs.Numbering.{newOf}
 use Rattle.encoder.specs.Ready.{NewsAt}
+pub use Rattle.encoder.proofs.Joined.{join-same}
 use Rattle.sections.specs.Held.{newIn}
-
--- joined lists whose parts are the same
-pub join-same : {X : Type 0} (n : ℕ) (a b : ℕ → List X) → ((j : ℕ) → j < n → a j ≡ b j) → joinOf n a ≡ joinOf n b
-unfolding joinOf
-join-same zero a b e = refl
-join-same (suc n) a b e = λ t. join-same n a b (λ j h. e j (omega arith)) t ++ e n (omega arith) t
 
 -- sections with some of their lists by name
 abbrev pub retold : Sections → List ℕ → List ℕ → List ℕ → List ℕ → Sections

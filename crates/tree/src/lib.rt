@@ -201,7 +201,7 @@ pub fn clear(work: &mut [u32], n: usize)
 }
 
 // Whether none of the first n words is 0.
-fn all_marked(work: &[u32], n: usize) -> bool
+pub fn all_marked(work: &[u32], n: usize) -> bool
     requires { ⌜ n ≤ length (now work) ⌝ }
     ensures { λ r. ⌜ r ≡ allOf n (marked (now (work .entry))) ⌝ }
 {

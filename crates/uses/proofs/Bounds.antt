@@ -5,7 +5,7 @@ use mathlib.Core.Path.{_≡_, refl, sym, ap, _∙_, subst}
 use mathlib.Core.List.{List, [], _∷_, _++_}
 use mathlib.Core.Bool.{Bool, true, false, cond}
 use native.Mathlib.Omega.{arith}
-use native.Mathlib.Nat.{not-suc-le-zero, suc-mul}
+use native.Mathlib.Nat.{not-suc-le-zero, suc-mul, mul-one}
 use native.Mathlib.Decide.{decLt}
 use lib.ListN.{length, getD, length-append}
 use lib.Dec.{eqb}
@@ -18,14 +18,14 @@ use Rattle.records.specs.Records.{namedOf, payloadOf, containerOf, listItems, l
 use Rattle.records.proofs.ByKind.{past-kinds}
 use Rattle.records.proofs.Passed.{payload-range, used-up}
 use Rattle.tree.specs.Tree.{namedText}
-use Rattle.tree.proofs.Members.{sum-add}
+use Rattle.tree.proofs.Members.{sum-add, sum-ext}
 use Rattle.index.specs.Definitions.{definitionText, itemsOf, itemTextOf}
 use Rattle.draft.specs.Draft.{tablesRule}
 use Rattle.draft.specs.Numbering.{oldOf}
 use Rattle.draft.proofs.Rules.{Tables, tables, items-all}
 use Rattle.draft.proofs.Reached.{Numbered}
 use Rattle.encoder.specs.Strings.{textIf, listTexts, fieldTexts, nodeTexts, namedTexts, definitionTexts}
-use Rattle.encoder.proofs.Joined.{all-get}
+use Rattle.encoder.proofs.Joined.{all-get, sum-const, join-length}
 use Rattle.encoder.specs.Ready.{nodeUses, namedUses, definitionUses, textUses}
 use Rattle.uses.specs.Uses.{usesMost, Olds}
 use Rattle.uses.proofs.Sums.{sum-ordered}
@@ -38,9 +38,7 @@ join-most zero c g h = omega arith
 join-most (suc n) c g h = omega (arith, length-append (joinOf n g) (g n), join-most n c g h, h n, suc-mul n c)
 
 join-exact : (n : ℕ) (g : ℕ → List (List ℕ)) (c : ℕ → ℕ) → ((j : ℕ) → length (g j) ≡ c j) → length (joinOf n g) ≡ sumOf n c
-unfolding joinOf sumOf
-join-exact zero g c h = refl
-join-exact (suc n) g c h = omega (arith, length-append (joinOf n g) (g n), join-exact n g c h, h n)
+join-exact n g c h = join-length n g ∙ sum-ext n (λ j. length (g j)) c (λ j k. h j)
 
 -- two a part, and what p adds
 join-two : (n : ℕ) (g : ℕ → List (List ℕ)) (c p : ℕ → ℕ) → ((j : ℕ) → j < n → length (g j) + c j ≤ 2 + p j)
@@ -50,9 +48,7 @@ join-two zero g c p h = omega arith
 join-two (suc n) g c p h = omega (arith, length-append (joinOf n g) (g n), join-two n g c p (λ j k. h j (omega arith)), h n (omega arith))
 
 ones : (n : ℕ) → sumOf n (λ j. 1) ≡ n
-unfolding sumOf
-ones zero = refl
-ones (suc n) = omega (arith, ones n)
+ones n = omega (arith, sum-const n 1, mul-one n)
 
 -- ---- of a node
 

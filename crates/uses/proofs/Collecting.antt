@@ -1,5 +1,5 @@
 -- The three runs of uses, of nodes, named entries and definitions, are all the uses of a draft. Assumes nothing.
-use Prim.Native.Nat.{ℕ, zero, suc, _+_, _-_, _*_, _/_, _≤_}
+use Prim.Native.Nat.{ℕ, _+_, _-_, _*_, _/_, _≤_}
 use mathlib.Core.Path.{_≡_, refl, sym, ap, _∙_}
 use mathlib.Core.List.{List, [], _∷_, _++_}
 use native.Mathlib.Omega.{arith}
@@ -12,10 +12,10 @@ use Rattle.records.specs.Records.{namedOf, listWord}
 use Rattle.draft.specs.Source.{draftOf}
 use Rattle.draft.specs.Numbering.{oldOf}
 use Rattle.encoder.specs.Ready.{textUses}
+use Rattle.encoder.proofs.Joined.{join-same}
 use Rattle.uses.specs.Uses.{listItemPairs, listOriginPairs, listPairs, fieldPairs, nodePairs, namedPairs, definitionPairs, allNodePairs, allNamedPairs, allDefinitionPairs, useWords, wordsFrom, Room, Put, nodesOnly, namedOnly, definitionsOnly, Olds, Readable, Collectable, Collected}
 use Rattle.uses.proofs.Pairs.{pairs-length, uses-pairs}
 use Rattle.uses.proofs.Puts.{put-long, put-both, order-kept}
-use Rattle.uses.proofs.Reading.{join-same}
 
 flat-same : (g h : Field → List ℕ) → ((x : Field) → g x ≡ h x) → (xs : List Field) → flatMap g xs ≡ flatMap h xs
 unfolding flatMap
@@ -60,9 +60,9 @@ module _ (nodes kids entries definitions items bytes strings : List ℕ) where
       ≡ allNodePairs (nodesOnly nodes bytes) order ++ allNamedPairs (namedOnly nodes entries) order ++ allDefinitionPairs (definitionsOnly definitions items)
   unfolding useWords allNodePairs allNamedPairs allDefinitionPairs
   uses-are order =
-      let a = join-same (length nodes / 10) (λ j. nodePairs s (oldOf order j)) (λ j. nodePairs (nodesOnly nodes bytes) (oldOf order j)) (λ j. node-same (oldOf order j)) in
-      let b = join-same (length nodes / 10) (λ j. namedPairs s (oldOf order j)) (λ j. namedPairs (namedOnly nodes entries) (oldOf order j)) (λ j. named-same (oldOf order j)) in
-      let c = join-same (length definitions / 4) (definitionPairs s) (definitionPairs (definitionsOnly definitions items)) definition-same in
+      let a = join-same (length nodes / 10) (λ j. nodePairs s (oldOf order j)) (λ j. nodePairs (nodesOnly nodes bytes) (oldOf order j)) (λ j h. node-same (oldOf order j)) in
+      let b = join-same (length nodes / 10) (λ j. namedPairs s (oldOf order j)) (λ j. namedPairs (namedOnly nodes entries) (oldOf order j)) (λ j h. named-same (oldOf order j)) in
+      let c = join-same (length definitions / 4) (definitionPairs s) (definitionPairs (definitionsOnly definitions items)) (λ d h. definition-same d) in
       λ i. a i ++ b i ++ c i
 
 -- ---- the three calls

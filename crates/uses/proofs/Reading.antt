@@ -1,5 +1,5 @@
 -- What the code reads of a draft is what the pairs of its texts are made of. Assumes nothing.
-use Prim.Native.Nat.{ℕ, zero, suc, _+_, _*_, _≤_}
+use Prim.Native.Nat.{ℕ, _+_, _*_, _≤_}
 use mathlib.Core.Path.{_≡_, refl, sym, ap, _∙_}
 use mathlib.Core.List.{List, [], _∷_, _++_}
 use mathlib.Core.Bool.{true, false, cond}
@@ -16,6 +16,7 @@ use Rattle.image.specs.Sections.{Sections, tagOf, f, absent, isContainer, named
 use Rattle.image.proofs.Entries.{IsNode, read-node, definition-entry}
 use Rattle.records.specs.Records.{listWord, listItems, listOrigins, namedOf}
 use Rattle.index.specs.Definitions.{firstItem, itemsOf}
+use Rattle.encoder.proofs.Joined.{join-same}
 use Rattle.uses.proofs.Puts.{Split}
 use Rattle.uses.specs.Uses.{useIf, listItemPairs, listOriginPairs, listPairs, namedPairs, definitionPairs, originPairs, entryPairs, payloadOnly, namedOnly, definitionsOnly, ListInside}
 
@@ -48,11 +49,6 @@ module _ (bytes : List ℕ) (first j : ℕ) where
   unfolding originPairs
   origin-is x y p q = λ i. p i ∷ q i ∷ []
 
-pub join-same : (n : ℕ) (g h : ℕ → List ℕ) → ((j : ℕ) → g j ≡ h j) → joinOf n g ≡ joinOf n h
-unfolding joinOf
-join-same zero g h e = refl
-join-same (suc n) g h e = rw (join-same n g h e, e n) refl
-
 module _ (bytes : List ℕ) (start a b : ℕ) (p : a ≡ wordAt bytes start) (q : b ≡ wordAt bytes (start + 4)) where
   items-are : listItems (payloadOnly bytes) start ≡ a
   unfolding listWord
@@ -80,7 +76,7 @@ module _ (bytes : List ℕ) (start a b : ℕ) (p : a ≡ wordAt bytes start) (q 
       record {
         is =
             (λ i. joinOf (items-are i) items ++ joinOf (origins-are i) origins)
-            ∙ ap (λ (l : List ℕ). joinOf a items ++ l) (join-same b origins (originPairs bytes (start + (8 + a * 20))) origin-same);
+            ∙ ap (λ (l : List ℕ). joinOf a items ++ l) (join-same b origins (originPairs bytes (start + (8 + a * 20))) (λ j h. origin-same j));
       }
 
   pub list-items-inside : ListInside (payloadOnly bytes) start → start + (8 + a * 20) ≤ length bytes
@@ -116,7 +112,7 @@ module _ (nodes entries : List ℕ) (i : ℕ) (r : NodeRecord) (e : r ≡ record
   container-is h =
       let c : isContainer s i ≡ true = eq-eqb (tagOf s i) 1 (sym (node .tag) ∙ h) in
       let n : cond (isContainer s i) (f s i 6) 0 ≡ r .f6 = rw c (sym (node .f6)) in
-      rw (n, ← node .f5) (sym (join-same (r .f6) _ _ (λ j. same-entry entries (r .f5) j)))
+      rw (n, ← node .f5) (sym (join-same (r .f6) _ _ (λ j h. same-entry entries (r .f5) j)))
 
   pub no-container : (r .tag ≡ 1 → ⊥) → namedPairs s i ≡ []
   unfolding namedPairs namedOf joinOf
@@ -132,5 +128,5 @@ module _ (definitions items : List ℕ) (d : ℕ) (r : Definition) (e : r ≡ de
         is =
             rw q
             (ap (λ (l : List ℕ). (definitionWord (definitionsOnly definitions items) d 0 ∷ definitionWord (definitionsOnly definitions items) d 1 ∷ []) ++ l)
-            (sym (join-same (itemsOf (definitionsOnly definitions items) d) _ _ (λ j. same-entry items (firstItem (definitionsOnly definitions items) d) j))));
+            (sym (join-same (itemsOf (definitionsOnly definitions items) d) _ _ (λ j h. same-entry items (firstItem (definitionsOnly definitions items) d) j))));
       }

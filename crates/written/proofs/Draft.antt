@@ -14,13 +14,13 @@ use Rattle.image.specs.Header.{inkRight}
 use Rattle.records.specs.Records.{fieldsRule, parentRule, rootRight, usedUp}
 use Rattle.tree.specs.Tree.{entriesRule, readWalk}
 use Rattle.tree.proofs.Members.{both-true}
+use Rattle.tree.proofs.Numbers.{EachOnce}
 use Rattle.index.specs.Definitions.{goodDefinition, goodItem, itemsRight, itemsOf, itemsUsedUp, definitionText, itemTextOf}
 use Rattle.draft.specs.Draft.{newPath, pathRule, pathsRule, tablesRule, reachRule, shapeRule}
 use Rattle.draft.specs.Numbering.{numbering}
 use Rattle.draft.proofs.Rules.{tables, shape}
 use Rattle.draft.proofs.Reached.{reached, numbered as draft-numbered}
 use Rattle.encoder.specs.Encode.{imageFor, draftRule, encodeRule}
-pub use Rattle.draft.proofs.Reached.{Numbered}
 
 pub record Taken (s : Sections) : Type 0 where
   pub some : zero < nodeCount s
@@ -76,5 +76,5 @@ module _ (ink : ℕ) (s : Sections) (work room : ℕ) (p : encodeRule ink s work
         paths = λ i h. passed _ 21 (both _ _ (first-all _ _ (drafted .3) i h) .1);
       }
 
-  pub numbered : Numbered (nodeCount s) (numbering s)
+  pub numbered : EachOnce (nodeCount s) (numbering s)
   numbered = draft-numbered s (tables s (drafted .0)) (reached s (drafted .1))

@@ -22,11 +22,11 @@ use Rattle.draft.specs.Numbering.{oldOf, newOf}
 use Rattle.encoder.specs.Written.{fieldStart, fieldWords, putFields, moreWords, nodeOut, startIn}
 use Rattle.written.specs.Written.{DraftWords}
 use Rattle.tree.proofs.Members.{both-true, and-true, sum-ext}
-use Rattle.encoder.proofs.Joined.{all-get, sum-below}
+use Rattle.encoder.proofs.Joined.{sum-below}
 use Rattle.written.proofs.Lists.{not-of}
-use Rattle.draft.proofs.Numbers.{place-get, get-place}
+use Rattle.tree.proofs.Numbers.{EachOnce, get-below, place-below, get-of-place, place-of-get}
 use Rattle.written.proofs.Header.{image-length}
-use Rattle.written.proofs.Draft.{Taken, Numbered}
+use Rattle.written.proofs.Draft.{Taken}
 use Rattle.written.proofs.Texts.{Stored}
 use Rattle.encoder.proofs.Blocks.{w, put-length, nodes-length, node-count, node-word}
 
@@ -60,7 +60,7 @@ pub record Given (s : Sections) (order : List ℕ) (kept : List (List ℕ)) : Ty
   pub wide : nodeWords ≤ s .stride
   pub words : DraftWords s
   pub taken : Taken s
-  pub numbered : Numbered (nodeCount s) order
+  pub numbered : EachOnce (nodeCount s) order
   pub stored : Stored s order kept
   pub room : Room (w s order kept)
 
@@ -77,17 +77,17 @@ module _ {s : Sections} {order : List ℕ} {kept : List (List ℕ)} (g : Given s
   few = omega (arith, g .room .nodes, nodes-length s order kept (g .wide), mul-le-mul-left (nodeCount s) (g .wide))
 
   pub old-in : (j : ℕ) → j < nodeCount s → oldOf order j < nodeCount s
-  old-in j h = all-get (λ x. x < nodeCount s) order j (g .numbered .within) (g .taken .some)
+  old-in = get-below (g .numbered)
 
   -- the place of a draft's node in the numbering
   pub old-new : (i : ℕ) → i < nodeCount s → oldOf order (placeIn order i) ≡ i
-  old-new i h = place-get order i (g .numbered .each i h) .0
+  old-new = get-of-place (g .numbered)
 
   pub new-in : (i : ℕ) → i < nodeCount s → placeIn order i < nodeCount s
-  new-in i h = omega (arith, place-get order i (g .numbered .each i h) .1, g .numbered .len)
+  new-in = place-below (g .numbered)
 
   pub new-old : (j : ℕ) → j < nodeCount s → placeIn order (oldOf order j) ≡ j
-  new-old j h = get-place order j (g .numbered .apart) (omega (arith, g .numbered .len))
+  new-old = place-of-get (g .numbered)
 
   pub old-zero : oldOf order 0 ≡ 0
   old-zero = g .numbered .first

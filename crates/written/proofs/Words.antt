@@ -21,8 +21,9 @@ use Rattle.encoder.specs.Strings.{byPath, pathOf}
 use Rattle.encoder.specs.Written.{fieldStart, fieldWords, putFields, moreWords, nodeOut, childrenOut, namedOut, definitionOut, itemOut, indexOut, startIn, writtenWith}
 use Rattle.encoder.proofs.Joined.{sum-below}
 use Rattle.written.proofs.Lists.{all-joined, all-sets, all-below}
-use Rattle.draft.proofs.Numbers.{place-le}
+use Rattle.tree.proofs.Places.{place-le}
 use Rattle.written.proofs.Header.{Whole}
+use Rattle.written.proofs.Draft.{taken, numbered}
 use Rattle.written.proofs.Texts.{stored, offset-inside}
 use Rattle.encoder.proofs.Blocks.{w, nodes-length, child-count, named-whole, definitions-whole, items-whole, index-whole}
 use Rattle.written.proofs.Fields.{Given, counted, few, start-is}

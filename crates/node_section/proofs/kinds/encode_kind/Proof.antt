@@ -1,109 +1,77 @@
+-- `node_section::kinds::encode_kind` meets its contract. Assumes nothing.
 use mathlib.Core.Logic.{inl, inr, ⊎-elim}
 use mathlib.Core.Path.{_∙_}
 use Rattle.node_section.proofs.ByTag.{at-container, at-choice, at-divert, at-text, at-text-range, at-number, at-list, at-target, at-word, at-reference, at-blank}
 use borrow.Author.Needs.{needs}
 use Rattle.node_section.proofs.kinds.encode_kind.Statement.{statement}
 use Rattle.node_section.proofs.kinds.encode_kind.Tie as tie
-use Rattle.node_section.proofs.kinds.encode_kind.Reads as reads
-use Rattle.node_section.proofs.kinds.encode_kind.Lts as lts
-use Rattle.node_section.proofs.kinds.blank.Reads as blank-reads
-use Rattle.node_section.proofs.kinds.choice.Reads as choice-reads
-use Rattle.node_section.proofs.kinds.container.Reads as container-reads
-use Rattle.node_section.proofs.kinds.divert.Reads as divert-reads
-use Rattle.node_section.proofs.kinds.reference.Reads as reference-reads
-use Rattle.node_section.proofs.kinds.text_and.Reads as text-and-reads
-use Rattle.node_section.proofs.kinds.two.Reads as two-reads
-use Rattle.sections.proofs.numbers.new_number.Reads as new-number-reads
 
--- src/kinds.rt:150:14
 container-requires : tie.Need-container-requires
 container-requires c κs = search needs
 
--- src/kinds.rt:151:14
 choice-requires : tie.Need-choice-requires
 choice-requires c κs = search needs
 
--- src/kinds.rt:152:14
 divert-requires : tie.Need-divert-requires
 divert-requires c κs = search needs
 
--- src/kinds.rt:153:19
 text-and-requires : tie.Need-text-and-requires
 text-and-requires c κs = search needs
 
--- src/kinds.rt:156:15
 two-requires : tie.Need-two-requires
 two-requires c κs = search needs
 
--- src/kinds.rt:157:45
 new-number-requires : tie.Need-new-number-requires
 new-number-requires c κs = search needs
 
--- src/kinds.rt:157:15
 text-and-requires-2 : tie.Need-text-and-requires-2
 text-and-requires-2 c κs = search needs
 
--- src/kinds.rt:158:20
 text-and-requires-3 : tie.Need-text-and-requires-3
 text-and-requires-3 c κs = search needs
 
--- src/kinds.rt:159:15
 reference-requires : tie.Need-reference-requires
 reference-requires c κs = search needs
 
--- src/kinds.rt:154:18
 text-and-requires-4 : tie.Need-text-and-requires-4
 text-and-requires-4 c κs = search needs
 
--- src/kinds.rt:155:19
 two-requires-2 : tie.Need-two-requires-2
 two-requires-2 c κs = search needs
 
--- src/kinds.rt:160:14
 blank-requires : tie.Need-blank-requires
 blank-requires c κs = search needs
 
--- src/kinds.rt:138:1
 returns : tie.Need-returns
 returns c = c .container .ensures ∙ at-container _ _ _ _ _ (c .before .match .keys1)
 
--- src/kinds.rt:138:1
 returns-2 : tie.Need-returns-2
 returns-2 c = c .choice .ensures ∙ at-choice _ _ _ _ _ (c .before .match .keys2)
 
--- src/kinds.rt:138:1
 returns-3 : tie.Need-returns-3
 returns-3 c = c .divert .ensures ∙ at-divert _ _ _ _ _ (c .before .match .keys3)
 
--- src/kinds.rt:138:1
 returns-4 : tie.Need-returns-4
 returns-4 c = c .text-and .ensures ∙ at-text _ _ _ _ _ (c .before .match .keys4)
 
--- src/kinds.rt:138:1
 returns-5 : tie.Need-returns-5
 returns-5 c = c .two .ensures ∙ at-list _ _ _ _ _ (c .before .match .keys5)
 
--- src/kinds.rt:138:1
 returns-6 : tie.Need-returns-6
 returns-6 c = c .text-and2 .ensures ∙ at-target _ _ _ _ _ (c .before .before .match .keys6) _ (c .before .new-number .ensures)
 
--- src/kinds.rt:138:1
 returns-7 : tie.Need-returns-7
 returns-7 c = c .text-and3 .ensures ∙ at-word _ _ _ _ _ (c .before .match .keys7)
 
--- src/kinds.rt:138:1
 returns-8 : tie.Need-returns-8
 returns-8 c = c .reference .ensures ∙ at-reference _ _ _ _ _ (c .before .match .keys8)
 
--- src/kinds.rt:138:1
 returns-9 : tie.Need-returns-9
 returns-9 c = c .text-and4 .ensures ∙ at-text-range _ _ _ _ _ (c .before .before .if1 .left) (c .before .if2 .taken)
 
--- src/kinds.rt:138:1
 returns-10 : tie.Need-returns-10
 returns-10 c = c .two2 .ensures ∙ at-number _ _ _ _ _ (c .before .before .if2 .left) (c .before .if3 .taken)
 
--- src/kinds.rt:138:1
 returns-11 : tie.Need-returns-11
 returns-11 c = c .blank .ensures ∙ at-blank _ _ _ _ _ (c .before .before .match .rest) (⊎-elim (λ a. inl (a .taken)) (λ b. inr (b .2 .left)) (c .before .if1 .came))
 

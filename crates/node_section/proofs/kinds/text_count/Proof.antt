@@ -1,14 +1,11 @@
+-- `node_section::kinds::text_count` meets its contract. Assumes nothing.
 use Rattle.laws.proofs.Cases.{cases}
 use Rattle.node_section.proofs.kinds.text_count.Statement.{statement}
 use Rattle.node_section.proofs.kinds.text_count.Tie as tie
-use Rattle.node_section.proofs.kinds.text_count.Reads as reads
-use Rattle.node_section.proofs.kinds.text_count.Lts as lts
 
--- src/kinds.rt:40:1
 returns : tie.Need-returns
 returns c = search cases
 
--- src/kinds.rt:40:1
 returns-2 : tie.Need-returns-2
 returns-2 c = search cases
 

@@ -1,16 +1,12 @@
+-- `node_section::kinds::two` meets its contract. Assumes nothing.
 use Rattle.node_section.proofs.Made.{two-made}
 use borrow.Author.Needs.{needs}
 use Rattle.node_section.proofs.kinds.two.Statement.{statement}
 use Rattle.node_section.proofs.kinds.two.Tie as tie
-use Rattle.node_section.proofs.kinds.two.Reads as reads
-use Rattle.node_section.proofs.kinds.two.Lts as lts
-use Rattle.node_section.proofs.kinds.blank.Reads as blank-reads
 
--- src/kinds.rt:131:9
 blank-requires : tie.Need-blank-requires
 blank-requires c κs = search needs
 
--- src/kinds.rt:127:1
 returns : tie.Need-returns
 returns c = two-made _ _ (c .before .before .args .node) _ (c .blank .ensures) _ _
 

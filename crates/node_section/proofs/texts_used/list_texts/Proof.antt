@@ -1,3 +1,4 @@
+-- `node_section::texts_used::list_texts` meets its contract. Assumes nothing.
 use Prim.Native.Nat.{_-_}
 use native.Mathlib.Omega.{arith}
 use Rattle.node_section.proofs.Counting.{Counting, count-start, count-next, count-end}
@@ -5,10 +6,6 @@ use Rattle.node_section.proofs.Made.{count-small}
 use borrow.Author.Needs.{needs}
 use Rattle.node_section.proofs.texts_used.list_texts.Statement.{statement}
 use Rattle.node_section.proofs.texts_used.list_texts.Tie as tie
-use Rattle.node_section.proofs.texts_used.list_texts.Reads as reads
-use Rattle.node_section.proofs.texts_used.list_texts.Lts as lts
-use Rattle.node_section.proofs.kinds.text_count.Reads as text-count-reads
-use Rattle.words.proofs.get.Reads as get-reads
 
 abbrev Inv-loop : tie.InvT-loop
 Inv-loop payload start at items origins present₀ j₀ present j = Counting payload start items present j

@@ -1,0 +1,5 @@
+pub mod Numbers
+pub mod Kept
+pub mod Marking
+pub mod Assigning
+pub mod Emitting

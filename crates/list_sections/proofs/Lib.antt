@@ -1,0 +1,3 @@
+pub mod Defined
+pub mod Defining
+pub mod Listing

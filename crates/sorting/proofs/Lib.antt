@@ -1,0 +1,5 @@
+pub mod Laws
+pub mod Listed
+pub mod Ordered
+pub mod Keyed
+pub mod InPlace
