@@ -10,6 +10,7 @@ use Rattle.image.specs.Header.{headerLength}
 use Rattle.image.specs.Sections.{Sections, nodeCount, childCount, namedCount, definitionCount, itemCount}
 use Rattle.draft.specs.Numbering.{numbering}
 use Rattle.encoder.specs.Strings.{byPath, storedTexts}
+use Rattle.header.specs.declared.Counts.{Counts}
 use Rattle.fill.specs.declared.size.Entries.{Entries}
 use Rattle.fill.specs.declared.size.Size.{Size}
 use Rattle.fill.specs.declared.size.Size.the-variants.{Bytes, TooLong}
@@ -18,6 +19,20 @@ use Rattle.fill.specs.declared.size.Size.the-variants.{Bytes, TooLong}
 abbrev pub lengthBy : Entries → ℕ
 lengthBy e =
     headerLength + 40 * e .nodes + 4 * e .children + 12 * e .named + 16 * e .definitions + 12 * e .items + 12 * e .index + e .payload + e .strings
+
+-- the entries as words
+abbrev pub countsBy : Entries → Counts
+countsBy e =
+    record {
+      nodes = e .nodes;
+      children = e .children;
+      named = e .named;
+      definitions = e .definitions;
+      items = e .items;
+      index = e .index;
+      payload = e .payload;
+      strings = e .strings;
+    }
 
 -- a number that a word can say, or one more than a word can say
 unfoldable pub capped : ℕ → ℕ
