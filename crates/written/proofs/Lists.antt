@@ -33,11 +33,6 @@ all-get P [] k a z = z
 all-get P (x ∷ xs) zero a z = a .0
 all-get P (x ∷ xs) (suc k) a z = all-get P xs k (a .1) z
 
-pub all-nth : (P : ℕ → Type 0) (xs : List ℕ) (k : ℕ) → k < length xs → All P xs → P (getD xs k 0)
-all-nth P [] k h a = absurd (not-suc-le-zero h)
-all-nth P (x ∷ xs) zero h a = a .0
-all-nth P (x ∷ xs) (suc k) h a = all-nth P xs k (omega arith) (a .1)
-
 all-set : (P : ℕ → Type 0) (xs : List ℕ) (k v : ℕ) → All P xs → P v → All P (set xs k v)
 all-set P [] k v a p = tt
 all-set P (x ∷ xs) zero v a p = (p, a .1)
