@@ -1,3 +1,4 @@
 pub mod Sized
 pub mod Capped
 pub mod Layers
+pub mod Known

@@ -126,7 +126,7 @@ module _ (s : Sections) (nodes payload w : List ℕ) (order offsets : ℕ) (olds
         ap (λ (x : NodeRecord). bytesOf (nodeListWords payload w text x)) same
         ∙ node-written r olds kept w text i (tables r p .fields i (old-below j h)) own
 
-    section-is : bytesOf (joinOf (length nodes / 10) (payloadWords nodes payload w order offsets)) ≡ joinOf (nodeCount r) (λ j. payloadOut r olds kept (oldOf olds j))
+    pub section-is : bytesOf (joinOf (length nodes / 10) (payloadWords nodes payload w order offsets)) ≡ joinOf (nodeCount r) (λ j. payloadOut r olds kept (oldOf olds j))
     section-is =
         bytes-join (length nodes / 10) (payloadWords nodes payload w order offsets)
         ∙ join-same (nodeCount r) (λ j. bytesOf (payloadWords nodes payload w order offsets j)) (λ j. payloadOut r olds kept (oldOf olds j)) part-is

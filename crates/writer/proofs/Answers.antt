@@ -1,5 +1,5 @@
 -- The writer's number, test by test in the order of the code. Assumes nothing.
-use Prim.Native.Nat.{ℕ, zero, suc, _≤_}
+use Prim.Native.Nat.{ℕ, zero, suc, _<_}
 use mathlib.Core.Path.{_≡_, refl, sym, ap, _∙_}
 use mathlib.Core.Bool.{Bool, true, false, _&&_}
 use native.Mathlib.Omega.{arith}
@@ -12,14 +12,21 @@ use Rattle.words.specs.Words.{NONE}
 use Rattle.image.specs.Header.{inkRight, nodeWords}
 use Rattle.image.specs.Sections.{Sections}
 use Rattle.draft.specs.Draft.{tablesRule, writeWords, reachRule, shapeRule, pathsRule}
+use Rattle.draft.specs.Numbering.{numbering}
+use Rattle.encoder.specs.Strings.{uses}
 use Rattle.encoder.specs.Encode.{imageFor, draftRule, encodeRule, untouched}
 use Rattle.fill.specs.Length.{storedBytes, imageLength}
 use Rattle.fill.proofs.Sized.{length-is}
+use Rattle.fill.proofs.Known.{uses-fewer}
 use Rattle.writer.proofs.Numbers.{reach-clears, shape-clears, paths-clear, room-clears, both-clear}
 
--- the rules that are tested while the image is planned
+-- the tests of 23 while the image is planned: a word can count the texts in use, and say how long the stored ones are
+abbrev lengthsRule : Sections → ℕ
+lengthsRule s = unless (leb (length (uses s (numbering s))) NONE) 23 ▸ unless (leb (length (storedBytes s)) NONE) 23
+
+-- the rules that are tested while it is planned
 abbrev planned : Sections → ℕ
-planned s = reachRule s ▸ shapeRule s ▸ pathsRule s ▸ unless (leb (length (storedBytes s)) NONE) 23
+planned s = reachRule s ▸ shapeRule s ▸ pathsRule s ▸ lengthsRule s
 
 -- the image fits the output, and a word can say how long it is
 abbrev pub fits : ℕ → Sections → ℕ → Bool
@@ -45,6 +52,13 @@ alike (suc a) x y d e = refl
 module _ (ink : ℕ) (s : Sections) (work room : ℕ) where
   rows : (x : ℕ) → ((reachRule s ▸ shapeRule s ▸ pathsRule s) ▸ x) ≡ (reachRule s ▸ shapeRule s ▸ pathsRule s ▸ x)
   rows x = onward _ _ _ ∙ ap (λ (r : ℕ). reachRule s ▸ r) (onward _ _ _)
+
+  no-room : NONE < length (imageFor ink s) → unless (fits ink s room) 23 ≡ 23
+  no-room h = fail (fits ink s room) 23 (go (leb (length (imageFor ink s)) room) (lt-leb (length (imageFor ink s)) NONE h))
+    where
+      go : (a : Bool) {b : Bool} → b ≡ false → (a && b) ≡ false
+      go true f = f
+      go false f = refl
 
   -- all tests in one row
   in-row : encodeRule ink s work room
@@ -85,28 +99,25 @@ module _ (ink : ℕ) (s : Sections) (work room : ℕ) where
             ∙ both-clear _ _ (reach-clears s) (both-clear _ _ (shape-clears s) (both-clear _ _ (paths-clear s) (room-clears (fits ink s room))))
 
         module _ (ten : s .stride ≡ nodeWords) where
-          -- an image is longer than its strings
-          too-long : reachRule s ≡ 0 → leb (length (storedBytes s)) NONE ≡ false → fits ink s room ≡ false
-          too-long r e = go (leb (length (imageFor ink s)) room) (lt-leb (length (imageFor ink s)) NONE (omega (arith, leb-false (length (storedBytes s)) NONE e, length-is ink s ten p r)))
-            where
-              go : (a : Bool) {b : Bool} → b ≡ false → (a && b) ≡ false
-              go true f = f
-              go false f = refl
+          -- an image has more bytes than it uses texts, and is longer than its strings
+          too-long : reachRule s ≡ 0 → (b c : Bool) → leb (length (uses s (numbering s))) NONE ≡ b → leb (length (storedBytes s)) NONE ≡ c
+              → ((unless b 23 ▸ unless c 23) ≡ 0 → ⊥) → unless (fits ink s room) 23 ≡ (unless b 23 ▸ unless c 23)
+          unfolding unless _▸_
+          too-long r true true e f d = absurd (d refl)
+          too-long r false c e f d =
+              no-room (omega (arith, leb-false (length (uses s (numbering s))) NONE e, uses-fewer s ten p r, length-is ink s ten p r))
+          too-long r true false e f d = no-room (omega (arith, leb-false (length (storedBytes s)) NONE f, length-is ink s ten p r))
 
           -- the plan's refusal
           pub plan-wrong : (planned s ≡ 0 → ⊥) → encodeRule ink s work room ≡ planned s
           plan-wrong d =
               after-words ∙ sym (rows (unless (fits ink s room) 23))
-              ∙ alike (reachRule s ▸ shapeRule s ▸ pathsRule s) (unless (leb (length (storedBytes s)) NONE) 23) (unless (fits ink s room) 23)
-              (λ e. d (sym (rows _) ∙ e)) (λ e. strings (leb (length (storedBytes s)) NONE) refl (both _ _ e .0))
-              ∙ rows (unless (leb (length (storedBytes s)) NONE) 23)
-            where
-              strings : (b : Bool) → leb (length (storedBytes s)) NONE ≡ b → reachRule s ≡ 0 → (unless b 23 ≡ 0 → ⊥) → unless (fits ink s room) 23 ≡ unless b 23
-              strings true e r n = absurd (n (pass true 23 refl))
-              strings false e r n = fail (fits ink s room) 23 (too-long r e) ∙ sym (fail false 23 refl)
+              ∙ alike (reachRule s ▸ shapeRule s ▸ pathsRule s) (lengthsRule s) (unless (fits ink s room) 23) (λ e. d (sym (rows _) ∙ e))
+              (λ e. too-long (both _ _ e .0) (leb (length (uses s (numbering s))) NONE) (leb (length (storedBytes s)) NONE) refl refl)
+              ∙ rows (lengthsRule s)
 
         -- the plan is made: what is left is the room
         pub room-decides : planned s ≡ 0 → encodeRule ink s work room ≡ unless (fits ink s room) 23
         room-decides e =
             after-words ∙ sym (rows (unless (fits ink s room) 23))
-            ∙ second (reachRule s ▸ shapeRule s ▸ pathsRule s) _ (both _ _ (rows (unless (leb (length (storedBytes s)) NONE) 23) ∙ e) .0)
+            ∙ second (reachRule s ▸ shapeRule s ▸ pathsRule s) _ (both _ _ (rows (lengthsRule s) ∙ e) .0)
