@@ -12,7 +12,8 @@ use Rattle.words.specs.Words.{NONE}
 use Rattle.words.proofs.Words.{length-bytes}
 use Rattle.image.specs.Sections.{Sections, nodeCount, childCount, namedCount, definitionCount, itemCount, nodeWord, definitionWord, tagOf}
 use Rattle.image.specs.Header.{nodeWords}
-use Rattle.image.specs.Entries.{recordOf}
+use Rattle.image.specs.declared.NodeRecord.{NodeRecord}
+use Rattle.image.proofs.Entries.{node-record}
 use Rattle.image.specs.Encoding.{sectionOut}
 use Rattle.records.specs.Fields.{kindOf}
 use Rattle.records.specs.Records.{childrenOf, namedOf, payloadOf}
@@ -212,8 +213,10 @@ module _ (nodes children named definitions items payload strings w : List ℕ) (
 
     -- the texts of the nodes
     one-count : (i : ℕ) → i < nodeCount s → textsAt nodes payload i ≡ length (nodeTexts s i)
-    unfolding textsAt recordOf nodeWord
-    one-count i h = texts-count s i (kindOf (tagOf s i)) (tables s (t .tables) .fields i h)
+    unfolding textsAt
+    one-count i h =
+        ap (λ (r : NodeRecord). textsBy payload r (kindOf (r .tag))) (node-record s nodes i refl refl)
+        ∙ texts-count s i (kindOf (tagOf s i)) (tables s (t .tables) .fields i h)
 
     pub texts-sum : usedBy nodes w (n .order) payload (length nodes / 10) ≡ length (nodeUses s (numbering s))
     texts-sum =
@@ -293,4 +296,4 @@ module _ (nodes children named definitions items payload strings w : List ℕ) (
 
       pub key-offsets : Offsets key (n .offsets) w
       key-offsets a h =
-          t .offsets a (omega (arith, q .all)) ∙ (λ i. offsetOf (stored-are (~ i)) (q .keys a h (~ i)))
+          t .offsets a (omega (arith, q .all)) ∙ sym (λ i. offsetOf (stored-are i) (q .keys a h i))

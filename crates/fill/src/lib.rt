@@ -1,8 +1,8 @@
 // An image written into the output: header, sections, checksum.
 pub mod size; // size.rt: how long an image is
-pub mod tree_sections; // tree_sections.rt: sections 0 to 2
-pub mod list_sections; // list_sections.rt: sections 3 to 5
-pub mod text_sections; // text_sections.rt: sections 6 and 7
+pub mod tree_part; // tree_part.rt: sections 0 to 2
+pub mod list_part; // list_part.rt: sections 3 to 5
+pub mod text_part; // text_part.rt: sections 6 and 7
 
 ghost use mathlib.Core.Path.{_≡_};
 ghost use Prim.Native.Nat.{_≤_};
@@ -13,10 +13,10 @@ ghost use Rattle.encoder.specs.Encode.{imageFor};
 ghost use Rattle.outputs.specs.Output.{over};
 ghost use Rattle.fill.specs.Length.{lengthBy, countsBy, imageLength};
 ghost use Rattle.fill.specs.Given.{Ready, pathsOf};
-use crate::list_sections::put_lists;
+use crate::list_part::put_lists;
 use crate::size::Entries;
-use crate::text_sections::put_texts;
-use crate::tree_sections::put_tree;
+use crate::text_part::put_texts;
+use crate::tree_part::put_tree;
 use header::Counts;
 use header::put_checksum;
 use header::put_header;
