@@ -8,7 +8,7 @@ use lib.ListN.{length, getD, take, length-append, length-map}
 use lib.Seq.{take-suc, take-all}
 use Rattle.laws.specs.Counted.{sumOf, joinOf}
 use Rattle.laws.specs.Lists.{placeIn}
-use Rattle.words.specs.Words.{NONE}
+use Rattle.words.specs.Words.{NONE, bytesOf}
 use Rattle.words.proofs.Words.{length-bytes}
 use Rattle.image.specs.Sections.{Sections, nodeCount, childCount, namedCount, definitionCount, itemCount, nodeWord, definitionWord, tagOf}
 use Rattle.image.specs.Header.{nodeWords}
@@ -22,19 +22,20 @@ use Rattle.tree.specs.Tree.{namedText}
 use Rattle.tree.proofs.Members.{sum-ext}
 use Rattle.tree.proofs.Numbers.{get-below, place-of-get}
 use Rattle.draft.specs.Source.{draftOf}
-use Rattle.draft.specs.Draft.{tablesRule, reachRule}
+use Rattle.draft.specs.Draft.{tablesRule, reachRule, shapeRule}
 use Rattle.draft.specs.Numbering.{numbering, oldOf}
 use Rattle.draft.proofs.Rules.{tables, items-all}
 use Rattle.draft.proofs.Reached.{Numbered}
 use Rattle.encoder.specs.Strings.{nodeTexts, namedTexts, uses, byPath, pathOf, distinct, storedTexts, offsetOf}
-use Rattle.encoder.specs.Written.{payloadOut, writtenWith, written}
-use Rattle.encoder.specs.Ready.{OffsetsAt, nodeUses, namedUses, definitionUses, textUses}
+use Rattle.encoder.specs.Written.{nodeOut, childrenOut, namedOut, definitionOut, itemOut, indexOut, payloadOut, writtenWith, written}
+use Rattle.encoder.specs.Ready.{OldsAt, NewsAt, OffsetsAt, nodeUses, namedUses, definitionUses, textUses}
 use Rattle.encoder.proofs.Joined.{sum-const, join-length, join-same}
 use Rattle.encoder.proofs.Offsets.{offsets-left, offsets-right}
 use Rattle.sections.specs.declared.numbers.Numbers.{Numbers}
 use Rattle.sections.specs.Held.{nodesOnly, OrderFits, NamedFit, childrenBy, namedBy, payloadBy}
 use Rattle.sections.specs.declared.path_index.Paths.{Paths}
-use Rattle.sections.specs.Indexed.{IndexFit}
+use Rattle.sections.specs.Indexed.{IndexFit, PathsAt, LengthsAt}
+use Rattle.outputs.specs.Output.{over}
 use Rattle.uses.proofs.Sums.{sum-ordered}
 use Rattle.uses.proofs.Bounds.{uses-bound}
 use Rattle.node_section.specs.Encoded.{textsBy}
@@ -45,9 +46,9 @@ use Rattle.list_sections.proofs.Defined.{uses-are}
 use Rattle.list_sections.proofs.Paying.{section-is}
 use Rattle.keys.specs.declared.Tables.{Tables}
 use Rattle.keys.specs.Keys.{keyIn}
-use Rattle.interning.specs.Uses.{textsOf, storedOf, Offsets}
+use Rattle.interning.specs.Uses.{textsOf, storedOf, joined, Offsets}
 use Rattle.fill.specs.Length.{storedBytes, imageLength}
-use Rattle.fill.specs.Given.{Told, Indexed, Keyed, treeOut, listsOut, textsOut, definitionsAt}
+use Rattle.fill.specs.Given.{Told, Indexed, Keyed, TreeReady, ListsReady, TextsReady, treeOut, listsOut, textsOut, definitionsAt}
 use Rattle.fill.proofs.Sized.{Sized, sized, once}
 
 ones-length : (n : ℕ) (g : ℕ → List ℕ) → length (joinOf n (λ j. g j ∷ [])) ≡ n
@@ -110,21 +111,18 @@ module _ (s : Sections) (w : List ℕ) (n : Numbers) (t : Told s w n) where
 
   -- the three runs of sections
   pub tree-length : length (treeOut s) ≡ 40 * nodeCount s + 4 * childCount s + 12 * namedCount s
-  unfolding joinOf
   tree-length =
       let m = measured in
       let sec = sectionOut (written s) in
       omega (arith, m .nodes, m .children, m .named, length-append (sec 0 ++ sec 1) (sec 2), length-append (sec 0) (sec 1))
 
   pub lists-length : length (listsOut s) ≡ 16 * definitionCount s + 12 * itemCount s + 12 * length (byPath s order)
-  unfolding joinOf
   lists-length =
       let m = measured in
       let sec = sectionOut (written s) in
       omega (arith, m .definitions, m .items, m .index, length-append (sec 3 ++ sec 4) (sec 5), length-append (sec 3) (sec 4))
 
   pub texts-length : length (textsOut s) ≡ length (s .payload) + length (storedBytes s)
-  unfolding joinOf
   texts-length =
       let m = measured in
       let sec = sectionOut (written s) in
@@ -182,6 +180,10 @@ module _ (s : Sections) (w : List ℕ) (n : Numbers) (t : Told s w n) where
         length-append (nodeUses s order ++ namedUses s order) (definitionUses s),
         length-append (nodeUses s order) (namedUses s order),
       )
+
+  -- there is an offset for each
+  pub texts-end : n .offsets + length (nodeUses s order) + length (namedUses s order) + length (definitionUses s) + length (byPath s order) ≤ length w
+  texts-end = omega (arith, t .offsets-end, uses-length s order, text-uses-length)
 
   -- one a named entry
   pub named-length : length (namedUses s order) ≡ namedCount s
@@ -297,3 +299,109 @@ module _ (nodes children named definitions items payload strings w : List ℕ) (
       pub key-offsets : Offsets key (n .offsets) w
       key-offsets a h =
           t .offsets a (omega (arith, q .all)) ∙ sym (λ i. offsetOf (stored-are i) (q .keys a h i))
+
+-- ---- what a section's writer gives, of a draft of which all is known
+
+module _ (nodes children named definitions items payload strings w : List ℕ) (n : Numbers) (out₀ out : List ℕ) (t : Told (draftOf nodes children named definitions items payload strings) w n) where
+  abbrev d : Sections
+  d = draftOf nodes children named definitions items payload strings
+
+  abbrev sec : ℕ → List ℕ
+  sec = sectionOut (written d)
+
+  pub nodes-put : (text : ℕ)
+      → ((s : Sections) (order : List ℕ) (kept : List (List ℕ)) → s .nodes ≡ nodes → s .stride ≡ nodeWords → s .payload ≡ payload → tablesRule s ≡ 0 → shapeRule s ≡ 0
+      → ((j : ℕ) → j < nodeCount s → placeIn order (oldOf order j) ≡ j) → OldsAt order w (nodeCount s) (n .order) → NewsAt order w (nodeCount s) (n .new)
+      → OffsetsAt kept (nodeUses s order) w (n .offsets)
+      → (out ≡ over (bytesOf (joinOf (nodeCount s) (λ j. nodeOut s order kept (oldOf order j)))) out₀) × (text ≡ n .offsets + length (nodeUses s order)))
+      → (out ≡ over (sec 0) out₀) × (text ≡ n .offsets + length (nodeUses d (numbering d)))
+  unfolding sectionOut written writtenWith
+  nodes-put text e =
+      e d (numbering d) (storedTexts d (numbering d)) refl refl refl (t .tables) (t .shape) (place-back d w n t) (t .olds) (t .news) (node-offsets d w n t)
+
+  pub children-put : ((s : Sections) (order : List ℕ) (kept : List (List ℕ)) → s .nodes ≡ nodes → s .stride ≡ nodeWords → s .children ≡ children → tablesRule s ≡ 0
+      → OldsAt order w (nodeCount s) (n .order) → NewsAt order w (nodeCount s) (n .new)
+      → out ≡ over (bytesOf (joinOf (nodeCount s) (λ j. childrenOut s order kept (oldOf order j)))) out₀)
+      → out ≡ over (sec 1) out₀
+  unfolding sectionOut written writtenWith
+  children-put e = e d (numbering d) (storedTexts d (numbering d)) refl refl refl (t .tables) (t .olds) (t .news)
+
+  pub named-put : (text : ℕ) → text ≡ n .offsets + length (nodeUses d (numbering d))
+      → ((s : Sections) (order : List ℕ) (kept : List (List ℕ)) → s .nodes ≡ nodes → s .stride ≡ nodeWords → s .named ≡ named → tablesRule s ≡ 0
+      → OldsAt order w (nodeCount s) (n .order) → NewsAt order w (nodeCount s) (n .new) → OffsetsAt kept (namedUses s order) w text
+      → out ≡ over (bytesOf (joinOf (nodeCount s) (λ j. namedOut s order kept (oldOf order j)))) out₀)
+      → out ≡ over (sec 2) out₀
+  unfolding sectionOut written writtenWith
+  named-put text q e =
+      e d (numbering d) (storedTexts d (numbering d)) refl refl refl (t .tables) (t .olds) (t .news)
+      (subst (OffsetsAt (storedTexts d (numbering d)) (namedUses d (numbering d)) w) (sym q) (named-offsets d w n t))
+
+  pub definitions-put : (text : ℕ) → text ≡ definitionsAt d n
+      → ((s : Sections) (order : List ℕ) (kept : List (List ℕ)) → s .definitions ≡ definitions → tablesRule s ≡ 0 → OffsetsAt kept (definitionUses s) w text
+      → out ≡ over (bytesOf (joinOf (definitionCount s) (definitionOut s order kept))) out₀)
+      → out ≡ over (sec 3) out₀
+  unfolding sectionOut written writtenWith
+  definitions-put text q e =
+      e d (numbering d) (storedTexts d (numbering d)) refl (t .tables)
+      (subst (OffsetsAt (storedTexts d (numbering d)) (definitionUses d) w) (sym q) (definition-offsets d w n t))
+
+  pub items-put : (text : ℕ) → text ≡ definitionsAt d n
+      → ((s : Sections) (order : List ℕ) (kept : List (List ℕ)) → s .definitions ≡ definitions → s .items ≡ items → tablesRule s ≡ 0 → OffsetsAt kept (definitionUses s) w text
+      → out ≡ over (bytesOf (joinOf (itemCount s) (itemOut s order kept))) out₀)
+      → out ≡ over (sec 4) out₀
+  unfolding sectionOut written writtenWith
+  items-put text q e =
+      e d (numbering d) (storedTexts d (numbering d)) refl refl (t .tables)
+      (subst (OffsetsAt (storedTexts d (numbering d)) (definitionUses d) w) (sym q) (definition-offsets d w n t))
+
+  pub index-put : (p : Paths) (path : ℕ) → Indexed d w p → path ≡ n .offsets + length (textUses d (numbering d))
+      → ((s : Sections) (order : List ℕ) (kept : List (List ℕ)) → p .count ≡ length (byPath s order) → ((j : ℕ) → j < nodeCount s → oldOf order j < nodeCount s)
+      → ((j : ℕ) → j < nodeCount s → placeIn order (oldOf order j) ≡ j) → NewsAt order w (nodeCount s) (n .new) → PathsAt s order w (p .nodes)
+      → LengthsAt s order w (p .lengths) → OffsetsAt kept (map (pathOf s order) (byPath s order)) w path
+      → out ≡ over (bytesOf (joinOf (length (byPath s order)) (λ k. indexOut s order kept (getD (byPath s order) k 0)))) out₀)
+      → out ≡ over (sec 5) out₀
+  unfolding sectionOut written writtenWith
+  index-put p path i q e =
+      e d (numbering d) (storedTexts d (numbering d)) (i .count) (old-inside d w n t) (place-back d w n t) (t .news) (i .boxes) (i .lengths)
+      (subst (OffsetsAt (storedTexts d (numbering d)) (map (pathOf d (numbering d)) (byPath d (numbering d))) w) (sym q) (path-offsets d w n t))
+
+  pub payload-put : ((s : Sections) (olds : List ℕ) (kept : List (List ℕ)) → s .nodes ≡ nodes → s .stride ≡ nodeWords → s .payload ≡ payload → tablesRule s ≡ 0
+      → OldsAt olds w (nodeCount s) (n .order) → OffsetsAt kept (nodeUses s olds) w (n .offsets)
+      → out ≡ over (joinOf (nodeCount s) (λ j. payloadOut s olds kept (oldOf olds j))) out₀)
+      → out ≡ over (sec 6) out₀
+  unfolding sectionOut written writtenWith
+  payload-put e = e d (numbering d) (storedTexts d (numbering d)) refl refl refl (t .tables) (t .olds) (node-offsets d w n t)
+
+  pub strings-put : (k : Tables) → Keyed d w n k → out ≡ over (joined (storedOf (keyIn nodes strings k w) (n .offsets))) out₀ → out ≡ over (sec 7) out₀
+  unfolding sectionOut written writtenWith
+  strings-put k q e = e ∙ ap (λ (kept : List (List ℕ)). over (joined kept) out₀) (stored-are nodes children named definitions items payload strings w n t k q)
+
+-- ---- the room of three runs of sections, by the draft's counts
+
+pub tree-room : (nodes children named payload w : List ℕ) (n : Numbers) (room : ℕ) → TreeReady nodes children named payload w n room
+    → 40 * (length nodes / 10) + 4 * length children + 12 * (length named / 3) ≤ room
+tree-room nodes children named payload w n room r =
+    omega (arith, r .fits, tree-length (draftOf nodes children named (r .definitions) (r .items) payload (r .strings)) w n (r .told))
+
+pub lists-room : (definitions items w : List ℕ) (n : Numbers) (text path : ℕ) (p : Paths) (room : ℕ) → ListsReady definitions items w n text path p room
+    → 16 * (length definitions / 4) + 12 * (length items / 3) + 12 * p .count ≤ room
+lists-room definitions items w n text path p room r =
+    omega (arith, r .fits, r .indexed .count, lists-length (draftOf (r .nodes) (r .children) (r .named) definitions items (r .payload) (r .strings)) w n (r .told))
+
+pub texts-room : (nodes payload strings w : List ℕ) (n : Numbers) (k : Tables) (room : ℕ) (r : TextsReady nodes payload strings w n k room)
+    → length payload + length (storedBytes (draftOf nodes (r .children) (r .named) (r .definitions) (r .items) payload strings)) ≤ room
+texts-room nodes payload strings w n k room r =
+    omega (arith, r .fits, texts-length (draftOf nodes (r .children) (r .named) (r .definitions) (r .items) payload strings) w n (r .told))
+
+-- of whatever draft has this payload and these texts
+pub texts-fit : (nodes payload strings w : List ℕ) (n : Numbers) (k : Tables) (room : ℕ) → TextsReady nodes payload strings w n k room
+    → (children named definitions items : List ℕ) (t : Told (draftOf nodes children named definitions items payload strings) w n)
+    → Keyed (draftOf nodes children named definitions items payload strings) w n k
+    → length payload + length (storedBytes (draftOf nodes children named definitions items payload strings)) ≤ room
+texts-fit nodes payload strings w n k room r children named definitions items t q =
+    let one = stored-are nodes (r .children) (r .named) (r .definitions) (r .items) payload strings w n (r .told) k (r .keyed) in
+    let two = stored-are nodes children named definitions items payload strings w n t k q in
+    let same : length (storedBytes (draftOf nodes children named definitions items payload strings))
+    ≡ length (storedBytes (draftOf nodes (r .children) (r .named) (r .definitions) (r .items) payload strings)) =
+    ap (λ (kept : List (List ℕ)). length (joined kept)) (sym two ∙ one) in
+    omega (arith, texts-room nodes payload strings w n k room r)

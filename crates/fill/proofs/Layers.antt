@@ -1,20 +1,17 @@
 -- Sections written one behind the other, each into the part of the output that is lent from its start; the checksum last. Assumes nothing.
 use Prim.Native.Nat.{ℕ, _+_, _-_, _≤_}
 use mathlib.Core.Path.{_≡_, ap, _∙_}
-use mathlib.Core.List.{List, [], _++_, append-assoc, append-nil}
+use mathlib.Core.List.{List, [], _++_, append-nil}
 use native.Mathlib.Omega.{arith}
-use lib.ListN.{length, take, drop, length-drop, drop-of-length-le}
+use lib.ListN.{length, take, drop, length-append, length-drop, drop-of-length-le}
 use lib.Seq.{take-all}
 use borrow.Rule.Slice.PartMut.{putMid}
-use Rattle.laws.specs.Counted.{joinOf}
 use Rattle.image.specs.Sections.{Sections}
-use Rattle.image.specs.Encoding.{headerWith, bodyOf}
 use Rattle.encoder.specs.Written.{written}
 use Rattle.header.specs.Counted.{CountsOf}
 use Rattle.outputs.specs.Output.{over}
 use Rattle.outputs.proofs.Filled.{filled-front, more-part, front-is}
 use Rattle.fill.specs.Length.{entriesOf, countsBy}
-use Rattle.fill.specs.Given.{treeOut, listsOut, textsOut}
 use Rattle.fill.proofs.Sized.{Sized}
 
 -- a part that was lent from `a` to the end, as it comes back
@@ -33,12 +30,18 @@ over-next out₀ out done next ys a e p h y =
     (more-part 0 done out₀ out f next a (putMid a (length out - a) out ys) (omega arith) h
     (part-back a out ys ∙ ap (λ (z : List ℕ). take a out ++ z) (y ∙ ap (over next) all)))
 
--- ---- header and sections
+-- two and three sections, one behind the other
+pub two-parts : (out₀ out a b ys : List ℕ) (at : ℕ) → length a + length b ≤ length out₀ → out ≡ over a out₀ → at ≡ length a
+    → ys ≡ over b (take (length out - at) (drop at out)) → putMid at (length out - at) out ys ≡ over (a ++ b) out₀
+two-parts out₀ out a b ys at h e p y = over-next out₀ out a b ys at e p (omega arith) y
 
--- three runs of sections are the body
-pub body-runs : (ink : ℕ) (s : Sections) → headerWith ink (written s) 0 ++ treeOut s ++ listsOut s ++ textsOut s ≡ headerWith ink (written s) 0 ++ bodyOf (written s)
-unfolding bodyOf joinOf
-body-runs ink s = simp append-assoc
+pub three-parts : (out₀ out₁ out₂ a b c ys zs : List ℕ) (at₁ at₂ : ℕ) → length a + length b + length c ≤ length out₀ → out₁ ≡ over a out₀
+    → at₁ ≡ length a → ys ≡ over b (take (length out₁ - at₁) (drop at₁ out₁)) → out₂ ≡ putMid at₁ (length out₁ - at₁) out₁ ys
+    → at₂ ≡ length a + length b → zs ≡ over c (take (length out₂ - at₂) (drop at₂ out₂))
+    → putMid at₂ (length out₂ - at₂) out₂ zs ≡ over (a ++ b ++ c) out₀
+three-parts out₀ out₁ out₂ a b c ys zs at₁ at₂ h e p y f q z =
+    let two : out₂ ≡ over (a ++ b) out₀ = f ∙ two-parts out₀ out₁ a b ys at₁ (omega arith) e p y in
+    over-next out₀ out₂ (a ++ b) c zs at₂ two (omega (arith, length-append a b)) (omega arith) z
 
 -- the counts that the header says
 pub counts-right : (s : Sections) → Sized s (written s) → CountsOf (written s) (countsBy (entriesOf s))

@@ -1,9 +1,8 @@
 -- What is known before an image is written, of a draft and of the work words. Assumes nothing.
 use Prim.Native.Nat.{ℕ, _+_, _*_, _≤_, _<_}
 use mathlib.Core.Path.{_≡_}
-use mathlib.Core.List.{List, []}
+use mathlib.Core.List.{List, [], _++_}
 use lib.ListN.{length, getD}
-use Rattle.laws.specs.Counted.{joinOf}
 use Rattle.words.specs.Words.{NONE}
 use Rattle.image.specs.Header.{nodeWords}
 use Rattle.image.specs.Sections.{Sections, nodeCount, childCount, namedCount, definitionCount, itemCount}
@@ -19,8 +18,9 @@ use Rattle.keys.specs.Keys.{keyIn, Placed}
 use Rattle.sections.specs.declared.numbers.Numbers.{Numbers}
 use Rattle.sections.specs.declared.path_index.Paths.{Paths}
 use Rattle.sections.specs.Indexed.{PathsAt, LengthsAt}
+use Rattle.fill.specs.declared.Places.{Places}
 use Rattle.fill.specs.declared.size.Entries.{Entries}
-use Rattle.fill.specs.Length.{storedBytes, entriesOf, imageLength}
+use Rattle.fill.specs.Length.{entriesOf, placesBy, imageLength}
 
 -- rules 19 to 21 are kept, a word can say how long the image is, and the work words hold the numbers of the nodes and the offsets of
 -- the texts in use
@@ -41,7 +41,7 @@ pub record Told (s : Sections) (w : List ℕ) (n : Numbers) : Type 0 where
 
 -- the bytes of the sections
 abbrev pub treeOut : Sections → List ℕ
-treeOut s = joinOf 3 (sectionOut (written s))
+treeOut s = sectionOut (written s) 0 ++ sectionOut (written s) 1 ++ sectionOut (written s) 2
 
 -- of some draft that has these sections, all is known, and they fit
 pub record TreeReady (nodes children named payload w : List ℕ) (n : Numbers) (room : ℕ) : Type 0 where
@@ -58,7 +58,7 @@ definitionsAt s n = n .offsets + length (nodeUses s (numbering s)) + length (nam
 -- ---- definitions, items and index
 
 abbrev pub listsOut : Sections → List ℕ
-listsOut s = joinOf 3 (λ k. sectionOut (written s) (3 + k))
+listsOut s = sectionOut (written s) 3 ++ sectionOut (written s) 4 ++ sectionOut (written s) 5
 
 -- the work words hold the containers in the order of the index, and the lengths of their paths
 pub record Indexed (s : Sections) (w : List ℕ) (p : Paths) : Type 0 where
@@ -87,7 +87,7 @@ pub record ListsReady (definitions items w : List ℕ) (n : Numbers) (text path 
 -- ---- payload and strings
 
 abbrev pub textsOut : Sections → List ℕ
-textsOut s = joinOf 2 (λ k. sectionOut (written s) (6 + k))
+textsOut s = sectionOut (written s) 6 ++ sectionOut (written s) 7
 
 -- the tables give the text of each use
 pub record Keyed (s : Sections) (w : List ℕ) (n : Numbers) (t : Tables) : Type 0 where
@@ -108,12 +108,22 @@ pub record TextsReady (nodes payload strings w : List ℕ) (n : Numbers) (t : Ta
 -- ---- all of it
 
 -- where the paths lie
-abbrev pub pathsOf : Tables → Entries → Paths
-pathsOf t e = record { nodes = t .at + t .paths; lengths = t .at + t .lengths; count = e .index }
+abbrev pub pathsOf : Tables → ℕ → Paths
+pathsOf t count = record { nodes = t .at + t .paths; lengths = t .at + t .lengths; count = count }
 
+-- of the texts and tables: all is known of the draft, its index and the texts in use
 pub record Ready (s : Sections) (w : List ℕ) (n : Numbers) (t : Tables) (e : Entries) : Type 0 where
   pub told : Told s w n
   pub entries : e ≡ entriesOf s
   pub texts : t .texts ≡ length (textUses s (numbering s))
-  pub indexed : Indexed s w (pathsOf t e)
+  pub indexed : Indexed s w (pathsOf t (e .index))
   pub keyed : Keyed s w n t
+
+-- the same for the sections, with the room that they take
+pub record Sectioned (s : Sections) (w : List ℕ) (n : Numbers) (t : Tables) (p : Paths) (q : Places) (room : ℕ) : Type 0 where
+  pub told : Told s w n
+  pub texts : t .texts ≡ length (textUses s (numbering s))
+  pub indexed : Indexed s w p
+  pub keyed : Keyed s w n t
+  pub places : q ≡ placesBy (entriesOf s)
+  pub fits : placesBy (entriesOf s) .end ≤ room

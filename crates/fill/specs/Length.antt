@@ -11,6 +11,7 @@ use Rattle.image.specs.Sections.{Sections, nodeCount, childCount, namedCount, d
 use Rattle.draft.specs.Numbering.{numbering}
 use Rattle.encoder.specs.Strings.{byPath, storedTexts}
 use Rattle.header.specs.declared.Counts.{Counts}
+use Rattle.fill.specs.declared.Places.{Places}
 use Rattle.fill.specs.declared.size.Entries.{Entries}
 use Rattle.fill.specs.declared.size.Size.{Size}
 use Rattle.fill.specs.declared.size.Size.the-variants.{Bytes, TooLong}
@@ -32,6 +33,16 @@ countsBy e =
       index = e .index;
       payload = e .payload;
       strings = e .strings;
+    }
+
+-- where the sections that hold lists begin behind the header, where those that hold texts, and where they end
+abbrev pub placesBy : Entries → Places
+placesBy e =
+    record {
+      lists = 40 * e .nodes + 4 * e .children + 12 * e .named;
+      texts = 40 * e .nodes + 4 * e .children + 12 * e .named + 16 * e .definitions + 12 * e .items + 12 * e .index;
+      end =
+          40 * e .nodes + 4 * e .children + 12 * e .named + 16 * e .definitions + 12 * e .items + 12 * e .index + e .payload + e .strings;
     }
 
 -- a number that a word can say, or one more than a word can say

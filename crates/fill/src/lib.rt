@@ -5,14 +5,16 @@ pub mod list_part; // list_part.rt: sections 3 to 5
 pub mod text_part; // text_part.rt: sections 6 and 7
 
 ghost use mathlib.Core.Path.{_≡_};
-ghost use Prim.Native.Nat.{_≤_};
+ghost use Prim.Native.Nat.{_+_, _≤_};
 ghost use lib.ListN.{length};
 ghost use Rattle.words.specs.Words.{NONE};
 ghost use Rattle.draft.specs.Source.{draftOf};
+ghost use Rattle.image.specs.Encoding.{bodyOf};
+ghost use Rattle.encoder.specs.Written.{written};
 ghost use Rattle.encoder.specs.Encode.{imageFor};
 ghost use Rattle.outputs.specs.Output.{over};
-ghost use Rattle.fill.specs.Length.{lengthBy, countsBy, imageLength};
-ghost use Rattle.fill.specs.Given.{Ready, pathsOf};
+ghost use Rattle.fill.specs.Length.{lengthBy, countsBy, placesBy, imageLength};
+ghost use Rattle.fill.specs.Given.{Ready, Sectioned, pathsOf};
 use crate::list_part::put_lists;
 use crate::size::Entries;
 use crate::text_part::put_texts;
@@ -20,6 +22,7 @@ use crate::tree_part::put_tree;
 use header::Counts;
 use header::put_checksum;
 use header::put_header;
+use image::ImageView;
 use keys::Tables;
 use sections::numbers::Numbers;
 use sections::path_index::Paths;
@@ -39,6 +42,82 @@ fn counts_of(entries: Entries) -> Counts
         payload: entries.payload as u32,
         strings: entries.strings as u32,
     }
+}
+
+// Where the sections that hold lists begin behind the header, where those that hold texts, and where they end.
+struct Places {
+    lists: usize,
+    texts: usize,
+    end: usize,
+}
+
+fn places_of(entries: Entries) -> Places
+    requires { ⌜ lengthBy entries ≤ NONE ⌝ }
+    ensures { λ r. ⌜ r ≡ placesBy entries ⌝ }
+{
+    let lists = 40 * entries.nodes + 4 * entries.children + 12 * entries.named;
+    let texts = lists + 16 * entries.definitions + 12 * entries.items + 12 * entries.index;
+    Places {
+        lists,
+        texts,
+        end: texts + entries.payload + entries.strings,
+    }
+}
+
+// Where the paths lie in the work words.
+fn paths_of(tables: Tables, count: usize) -> Paths
+    requires { ⌜ (tables .at + tables .paths ≤ 9223372036854775807) × (tables .at + tables .lengths ≤ 9223372036854775807) ⌝ }
+    ensures { λ r. ⌜ r ≡ pathsOf tables count ⌝ }
+{
+    Paths {
+        nodes: tables.at + tables.paths,
+        lengths: tables.at + tables.lengths,
+        count,
+    }
+}
+
+// Writes the sections at the start of the output.
+fn put_sections(
+    nodes: &[u32],
+    children: &[u32],
+    named: &[u32],
+    definitions: &[u32],
+    items: &[u32],
+    payload: &[u8],
+    strings: &[u8],
+    work: &[u32],
+    numbers: Numbers,
+    tables: Tables,
+    paths: Paths,
+    places: Places,
+    out: &mut [u8],
+)
+    requires { ⌜ Sectioned (draftOf (now nodes) (now children) (now named) (now definitions) (now items) (now payload) (now strings)) (now work) numbers tables paths places (length (now out)) ⌝ }
+    ensures { λ r. ⌜ now (out .exit) ≡ over (bodyOf (written (draftOf (now (nodes .entry)) (now (children .entry)) (now (named .entry)) (now (definitions .entry)) (now (items .entry)) (now (payload .entry)) (now (strings .entry))))) (now (out .entry)) ⌝ }
+{
+    let at_lists = places.lists;
+    let at_texts = places.texts;
+    let text = put_tree(nodes, children, named, payload, work, numbers, out);
+    let path = numbers.offsets + tables.texts;
+    put_lists(
+        definitions,
+        items,
+        work,
+        numbers,
+        text,
+        path,
+        paths,
+        &mut out[at_lists..],
+    );
+    put_texts(
+        nodes,
+        payload,
+        strings,
+        work,
+        numbers,
+        tables,
+        &mut out[at_texts..],
+    );
 }
 
 // Writes the image of a draft at the start of the output.
@@ -62,17 +141,24 @@ pub fn fill(
     ensures { λ r. ⌜ now (out .exit) ≡ over (imageFor ink (draftOf (now (nodes .entry)) (now (children .entry)) (now (named .entry)) (now (definitions .entry)) (now (items .entry)) (now (payload .entry)) (now (strings .entry)))) (now (out .entry)) ⌝ }
 {
     put_header(ink, counts_of(entries), out);
-    let at_tree = 88;
-    let text = put_tree(nodes, children, named, payload, work, numbers, &mut out[at_tree..]);
-    let at_lists = 88 + 40 * entries.nodes + 4 * entries.children + 12 * entries.named;
-    let paths = Paths {
-        nodes: tables.at + tables.paths,
-        lengths: tables.at + tables.lengths,
-        count: entries.index,
-    };
-    put_lists(definitions, items, work, numbers, text, numbers.offsets + tables.texts, paths, &mut out[at_lists..]);
-    let at_texts = at_lists + 16 * entries.definitions + 12 * entries.items + 12 * entries.index;
-    put_texts(nodes, payload, strings, work, numbers, tables, &mut out[at_texts..]);
-    let end = at_texts + entries.payload + entries.strings;
+    let paths = paths_of(tables, entries.index);
+    let places = places_of(entries);
+    let header = ImageView::HEADER_LENGTH;
+    let end = header + places.end;
+    put_sections(
+        nodes,
+        children,
+        named,
+        definitions,
+        items,
+        payload,
+        strings,
+        work,
+        numbers,
+        tables,
+        paths,
+        places,
+        &mut out[header..],
+    );
     put_checksum(&mut out[..end]);
 }

@@ -26,5 +26,12 @@ pub fn put_texts(
 {
     put_payload(nodes, payload, work, numbers.order, numbers.offsets, out);
     let at_strings = payload.len();
-    emit(nodes, strings, work, tables, numbers.offsets, &mut out[at_strings..]);
+    emit(
+        nodes,
+        strings,
+        work,
+        tables,
+        numbers.offsets,
+        &mut out[at_strings..],
+    );
 }

@@ -1,158 +1,82 @@
+use mathlib.Core.Path.{refl, sym}
+use native.Mathlib.Omega.{arith}
+use lib.Seq.{length-take-le}
+use Rattle.fill.proofs.Runs.{long-enough, end-small, body-end, sectioned, image-put}
 use borrow.Author.Needs.{needs}
 use Rattle.fill.proofs.fill.Statement.{statement}
 use Rattle.fill.proofs.fill.Tie as tie
 use Rattle.fill.proofs.fill.Reads as reads
 use Rattle.fill.proofs.fill.Lts as lts
 use Rattle.fill.proofs.counts_of.Reads as counts-of-reads
-use Rattle.fill.proofs.list_part.put_lists.Reads as put-lists-reads
-use Rattle.fill.proofs.text_part.put_texts.Reads as put-texts-reads
-use Rattle.fill.proofs.tree_part.put_tree.Reads as put-tree-reads
+use Rattle.fill.proofs.paths_of.Reads as paths-of-reads
+use Rattle.fill.proofs.places_of.Reads as places-of-reads
+use Rattle.fill.proofs.put_sections.Reads as put-sections-reads
 use Rattle.header.proofs.put_checksum.Reads as put-checksum-reads
 use Rattle.header.proofs.put_header.Reads as put-header-reads
 
--- src/lib.rt:64:21
+-- src/lib.rt:126:21
 counts-of-requires : tie.Need-counts-of-requires
-counts-of-requires c κs = ?
+counts-of-requires c κs = long-enough _ _ _ _ _ (c .before .before .before .before .before .before .before .before .before .pre .0)
 
--- src/lib.rt:64:5
+-- src/lib.rt:126:5
 put-header-requires : tie.Need-put-header-requires
-put-header-requires c κs = ?
+put-header-requires c κs =
+    let p = c .before .before .before .before .before .before .before .before .before .before .before .pre in (omega (arith, p .1), end-small _ _ _ _ _ (p .0) _ (c .before .counts-of .ensures))
 
--- src/lib.rt:66:73
-sub-put-tree : tie.Need-sub-put-tree
-sub-put-tree c = search needs
+-- src/lib.rt:127:9
+paths-of-requires : tie.Need-paths-of-requires
+paths-of-requires c κs = search needs
 
--- src/lib.rt:66:73
-part-put-tree-start : tie.Need-part-put-tree-start
-part-put-tree-start c = search needs
+-- src/lib.rt:128:9
+places-of-requires : tie.Need-places-of-requires
+places-of-requires c κs = long-enough _ _ _ _ _ (c .before .before .before .before .before .before .before .before .before .before .before .before .before .before .before .pre .0)
 
--- src/lib.rt:66:73
-part-put-tree-end : tie.Need-part-put-tree-end
-part-put-tree-end c = search needs
-
--- src/lib.rt:66:9
-put-tree-requires : tie.Need-put-tree-requires
-put-tree-requires c κs = ?
-
--- src/lib.rt:67:25
-mul-at-lists : tie.Need-mul-at-lists
-mul-at-lists c = ?
-
--- src/lib.rt:67:20
-add-at-lists : tie.Need-add-at-lists
-add-at-lists c = ?
-
--- src/lib.rt:67:46
-mul-at-lists-2 : tie.Need-mul-at-lists-2
-mul-at-lists-2 c = ?
-
--- src/lib.rt:67:20
-add-at-lists-2 : tie.Need-add-at-lists-2
-add-at-lists-2 c = ?
-
--- src/lib.rt:67:69
-mul-at-lists-3 : tie.Need-mul-at-lists-3
-mul-at-lists-3 c = ?
-
--- src/lib.rt:67:20
-add-at-lists-3 : tie.Need-add-at-lists-3
-add-at-lists-3 c = ?
-
--- src/lib.rt:69:16
-add-put-lists : tie.Need-add-put-lists
-add-put-lists c = ?
-
--- src/lib.rt:70:18
-add-put-lists-2 : tie.Need-add-put-lists-2
-add-put-lists-2 c = ?
-
--- src/lib.rt:73:56
-add-put-lists-3 : tie.Need-add-put-lists-3
-add-put-lists-3 c = ?
-
--- src/lib.rt:73:95
-sub-put-lists : tie.Need-sub-put-lists
-sub-put-lists c = ?
-
--- src/lib.rt:73:95
-part-put-lists-start : tie.Need-part-put-lists-start
-part-put-lists-start c = ?
-
--- src/lib.rt:73:95
-part-put-lists-end : tie.Need-part-put-lists-end
-part-put-lists-end c = search needs
-
--- src/lib.rt:73:5
-put-lists-requires : tie.Need-put-lists-requires
-put-lists-requires c κs = ?
-
--- src/lib.rt:74:31
-mul-at-texts : tie.Need-mul-at-texts
-mul-at-texts c = ?
-
--- src/lib.rt:74:20
-add-at-texts : tie.Need-add-at-texts
-add-at-texts c = ?
-
--- src/lib.rt:74:58
-mul-at-texts-2 : tie.Need-mul-at-texts-2
-mul-at-texts-2 c = ?
-
--- src/lib.rt:74:20
-add-at-texts-2 : tie.Need-add-at-texts-2
-add-at-texts-2 c = ?
-
--- src/lib.rt:74:79
-mul-at-texts-3 : tie.Need-mul-at-texts-3
-mul-at-texts-3 c = ?
-
--- src/lib.rt:74:20
-add-at-texts-3 : tie.Need-add-at-texts-3
-add-at-texts-3 c = ?
-
--- src/lib.rt:75:63
-sub-put-texts : tie.Need-sub-put-texts
-sub-put-texts c = ?
-
--- src/lib.rt:75:63
-part-put-texts-start : tie.Need-part-put-texts-start
-part-put-texts-start c = ?
-
--- src/lib.rt:75:63
-part-put-texts-end : tie.Need-part-put-texts-end
-part-put-texts-end c = search needs
-
--- src/lib.rt:75:5
-put-texts-requires : tie.Need-put-texts-requires
-put-texts-requires c κs = ?
-
--- src/lib.rt:76:15
+-- src/lib.rt:130:15
 add-end : tie.Need-add-end
-add-end c = ?
+add-end c =
+    let p = c .before .before .before .before .before .before .before .before .before .before .before .before .before .before .before .before .before .pre in omega (arith, p .1, body-end _ _ _ _ _ (p .0) _ (c .before .places-of .ensures))
 
--- src/lib.rt:76:15
-add-end-2 : tie.Need-add-end-2
-add-end-2 c = ?
+-- src/lib.rt:144:9
+sub-put-sections : tie.Need-sub-put-sections
+sub-put-sections c = search needs
 
--- src/lib.rt:77:18
+-- src/lib.rt:144:9
+part-put-sections-start : tie.Need-part-put-sections-start
+part-put-sections-start c = search needs
+
+-- src/lib.rt:144:9
+part-put-sections-end : tie.Need-part-put-sections-end
+part-put-sections-end c = search needs
+
+-- src/lib.rt:131:5
+put-sections-requires : tie.Need-put-sections-requires
+put-sections-requires c κs =
+    let p = c .before .before .before .before .before .before .before .before .before .before .before .before .before .before .before .before .before .before .pre in
+    let places = c .before .before .places-of .ensures in
+    sectioned _ _ _ _ _ (p .0) _ _ _ (c .before .before .before .paths-of .ensures) places (omega (arith, p .1, body-end _ _ _ _ _ (p .0) _ places))
+
+-- src/lib.rt:146:18
 slice-relend-prefix-put-checksum : tie.Need-slice-relend-prefix-put-checksum
-slice-relend-prefix-put-checksum c = ?
+slice-relend-prefix-put-checksum c =
+    let p = c .before .before .before .before .before .before .before .before .before .before .before .before .before .before .before .before .before .before .before .before .before .pre in omega (arith, p .1, body-end _ _ _ _ _ (p .0) _ (c .before .before .before .before .before .places-of .ensures))
 
--- src/lib.rt:77:18
+-- src/lib.rt:146:18
 slice-aggregate-put-checksum : tie.Need-slice-aggregate-put-checksum
-slice-aggregate-put-checksum c = ?
+slice-aggregate-put-checksum c = sym (length-take-le _ _ (slice-relend-prefix-put-checksum (c .before)))
 
--- src/lib.rt:77:5
+-- src/lib.rt:146:5
 put-checksum-requires : tie.Need-put-checksum-requires
-put-checksum-requires c κs = ?
+put-checksum-requires c κs = let e = slice-aggregate-put-checksum c in omega arith
 
--- src/lib.rt:45:1
+-- src/lib.rt:107:1
 same-length : tie.Need-same-length
-same-length c = ?
+same-length c = search needs
 
--- src/lib.rt:45:1
+-- src/lib.rt:107:1
 returns : tie.Need-returns
-returns c = ?
+returns c =
+    let p = c .before .before .before .before .before .before .before .before .before .before .before .before .before .before .before .before .before .before .before .before .before .before .before .before .before .pre in
+    image-put _ _ _ _ _ (p .0) _ _ _ _ _ _ _ _ (c .before .before .before .before .before .before .before .before .before .before .before .before .before .before .before .counts-of .ensures) (c .before .before .before .before .before .before .before .before .before .places-of .ensures) (p .1) (c .before .before .before .before .before .before .before .before .before .before .before .before .before .put-header .ensures) (c .before .before .before .before .before .before .put-sections .ensures) refl (c .before .before .put-checksum .ensures)
 
 pub fill-spec : {M : Type 1} → statement M
 fill-spec =
@@ -160,35 +84,13 @@ fill-spec =
     (tie.spec
     counts-of-requires
     put-header-requires
-    sub-put-tree
-    part-put-tree-start
-    part-put-tree-end
-    put-tree-requires
-    mul-at-lists
-    add-at-lists
-    mul-at-lists-2
-    add-at-lists-2
-    mul-at-lists-3
-    add-at-lists-3
-    add-put-lists
-    add-put-lists-2
-    add-put-lists-3
-    sub-put-lists
-    part-put-lists-start
-    part-put-lists-end
-    put-lists-requires
-    mul-at-texts
-    add-at-texts
-    mul-at-texts-2
-    add-at-texts-2
-    mul-at-texts-3
-    add-at-texts-3
-    sub-put-texts
-    part-put-texts-start
-    part-put-texts-end
-    put-texts-requires
+    paths-of-requires
+    places-of-requires
     add-end
-    add-end-2
+    sub-put-sections
+    part-put-sections-start
+    part-put-sections-end
+    put-sections-requires
     slice-relend-prefix-put-checksum
     slice-aggregate-put-checksum
     put-checksum-requires

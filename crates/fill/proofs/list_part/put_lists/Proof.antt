@@ -1,3 +1,12 @@
+use mathlib.Core.Path.{_≡_, refl}
+use Prim.Native.Nat.{_+_, _*_, _/_, _≤_}
+use native.Mathlib.Omega.{arith}
+use lib.ListN.{length}
+use Rattle.image.specs.Encoding.{sectionOut}
+use Rattle.draft.specs.Source.{draftOf}
+use Rattle.encoder.specs.Written.{written}
+use Rattle.fill.proofs.Known.{lists-room, definitions-texts, items-sum, index-fit, measured, definitions-put, items-put, index-put}
+use Rattle.fill.proofs.Layers.{three-parts}
 use borrow.Author.Needs.{needs}
 use Rattle.fill.proofs.list_part.put_lists.Statement.{statement}
 use Rattle.fill.proofs.list_part.put_lists.Tie as tie
@@ -9,7 +18,10 @@ use Rattle.sections.proofs.path_index.put_index.Reads as put-index-reads
 
 -- src/list_part.rt:29:5
 put-definitions-requires : tie.Need-put-definitions-requires
-put-definitions-requires c κs = ?
+put-definitions-requires c κs =
+    let r = c .before .before .before .before .before .pre in
+    let text = r .at .texts in
+    (omega (arith, definitions-texts _ _ _ _ _ _ _ _ _ (r .told)), omega (arith, lists-room _ _ _ _ _ _ _ _ r))
 
 -- src/list_part.rt:30:20
 mul-at-items : tie.Need-mul-at-items
@@ -17,11 +29,11 @@ mul-at-items c = search needs
 
 -- src/list_part.rt:31:47
 sub-put-items : tie.Need-sub-put-items
-sub-put-items c = ?
+sub-put-items c = let room = lists-room _ _ _ _ _ _ _ _ (c .before .before .before .before .before .before .before .before .pre) in omega arith
 
 -- src/list_part.rt:31:47
 part-put-items-start : tie.Need-part-put-items-start
-part-put-items-start c = ?
+part-put-items-start c = let room = lists-room _ _ _ _ _ _ _ _ (c .before .before .before .before .before .before .before .before .pre) in omega arith
 
 -- src/list_part.rt:31:47
 part-put-items-end : tie.Need-part-put-items-end
@@ -29,7 +41,10 @@ part-put-items-end c = search needs
 
 -- src/list_part.rt:31:5
 put-items-requires : tie.Need-put-items-requires
-put-items-requires c κs = ?
+put-items-requires c κs =
+    let r = c .before .before .before .before .before .before .before .before .before .pre in
+    let text = r .at .texts in
+    (omega (arith, definitions-texts _ _ _ _ _ _ _ _ _ (r .told)), omega (arith, lists-room _ _ _ _ _ _ _ _ r, items-sum _ _ _ _ _ _ _ _ _ (r .told)))
 
 -- src/list_part.rt:32:31
 mul-at-index : tie.Need-mul-at-index
@@ -41,11 +56,11 @@ add-at-index c = search needs
 
 -- src/list_part.rt:38:42
 sub-put-index : tie.Need-sub-put-index
-sub-put-index c = ?
+sub-put-index c = let room = lists-room _ _ _ _ _ _ _ _ (c .before .before .before .before .before .before .before .before .before .before .before .before .pre) in omega arith
 
 -- src/list_part.rt:38:42
 part-put-index-start : tie.Need-part-put-index-start
-part-put-index-start c = ?
+part-put-index-start c = let room = lists-room _ _ _ _ _ _ _ _ (c .before .before .before .before .before .before .before .before .before .before .before .before .pre) in omega arith
 
 -- src/list_part.rt:38:42
 part-put-index-end : tie.Need-part-put-index-end
@@ -53,7 +68,8 @@ part-put-index-end c = search needs
 
 -- src/list_part.rt:38:5
 put-index-requires : tie.Need-put-index-requires
-put-index-requires c κs = ?
+put-index-requires c κs =
+    let r = c .before .before .before .before .before .before .before .before .before .before .before .before .before .pre in (index-fit _ _ _ _ _ _ _ _ _ (r .told) _ _ (r .indexed) (r .at .paths), omega (arith, lists-room _ _ _ _ _ _ _ _ r))
 
 -- src/list_part.rt:16:1
 same-length : tie.Need-same-length
@@ -61,7 +77,18 @@ same-length c = search needs
 
 -- src/list_part.rt:16:1
 returns : tie.Need-returns
-returns c = ?
+returns c = λ nodes children named payload strings t at i.
+    let a = c .before .before .before .before .before .before .before .before .before .before .before .before .before .before .before .before .args in
+    let m = measured _ _ _ t in
+    let v = sectionOut (written (draftOf nodes children named (a .definitions .now) (a .items .now) payload strings)) in
+    let room = lists-room _ _ _ _ _ _ _ _ (c .before .before .before .before .before .before .before .before .before .before .before .before .before .before .before .before .pre) in
+    let fits : length (v 3) + length (v 4) + length (v 5) ≤ length (a .out .now) = omega (arith, m .definitions, m .items, m .index, i .count) in
+    let at-items : length (a .definitions .now) / 4 * 16 ≡ length (v 3) = omega (arith, m .definitions) in
+    let at-index : length (a .definitions .now) / 4 * 16 + length (a .items .now) / 3 * 12 ≡ length (v 3) + length (v 4) = omega (arith, m .definitions, m .items) in
+    let first = definitions-put _ _ _ _ _ _ _ _ _ _ _ t _ (at .texts) (c .before .before .before .before .before .before .before .before .before .before .put-definitions .ensures) in
+    let second = items-put _ _ _ _ _ _ _ _ _ _ _ t _ (at .texts) (c .before .before .before .before .before .before .put-items .ensures) in
+    let third = index-put _ _ _ _ _ _ _ _ _ _ _ t _ _ i (at .paths) (c .before .before .put-index .ensures) in
+    three-parts (a .out .now) _ _ (v 3) (v 4) (v 5) _ _ _ _ fits first at-items second refl at-index third
 
 pub put-lists-spec : {M : Type 1} → statement M
 put-lists-spec =

@@ -1,3 +1,13 @@
+use mathlib.Core.Path.{_≡_, ap}
+use Prim.Native.Nat.{_+_, _≤_}
+use native.Mathlib.Omega.{arith}
+use lib.ListN.{length}
+use Rattle.image.specs.Encoding.{sectionOut}
+use Rattle.draft.specs.Source.{draftOf}
+use Rattle.encoder.specs.Written.{written}
+use Rattle.fill.proofs.Known.{texts-room, texts-fit, payload-fits, payload-room, uses-small, stored-are, key-offsets, measured, payload-put, strings-put}
+use Rattle.interning.specs.Uses.{joined}
+use Rattle.fill.proofs.Layers.{two-parts}
 use borrow.Author.Needs.{needs}
 use Rattle.fill.proofs.text_part.put_texts.Statement.{statement}
 use Rattle.fill.proofs.text_part.put_texts.Tie as tie
@@ -8,15 +18,16 @@ use Rattle.list_sections.proofs.payload.put_payload.Reads as put-payload-reads
 
 -- src/text_part.rt:27:5
 put-payload-requires : tie.Need-put-payload-requires
-put-payload-requires c κs = ?
+put-payload-requires c κs =
+    let r = c .before .before .before .before .before .before .pre in (payload-fits _ _ _ _ _ _ _ _ _ (r .told), omega (arith, texts-room _ _ _ _ _ _ _ r, payload-room _ _ _ _ _ _ _ _ _ (r .told)))
 
 -- src/text_part.rt:29:57
 sub-emit : tie.Need-sub-emit
-sub-emit c = ?
+sub-emit c = let room = texts-room _ _ _ _ _ _ _ (c .before .before .before .before .before .before .before .before .before .pre) in omega arith
 
 -- src/text_part.rt:29:57
 part-emit-start : tie.Need-part-emit-start
-part-emit-start c = ?
+part-emit-start c = let room = texts-room _ _ _ _ _ _ _ (c .before .before .before .before .before .before .before .before .before .pre) in omega arith
 
 -- src/text_part.rt:29:57
 part-emit-end : tie.Need-part-emit-end
@@ -24,7 +35,12 @@ part-emit-end c = search needs
 
 -- src/text_part.rt:29:5
 emit-requires : tie.Need-emit-requires
-emit-requires c κs = ?
+emit-requires c κs =
+    let r = c .before .before .before .before .before .before .before .before .before .before .pre in
+    let kept = stored-are _ _ _ _ _ _ _ _ _ (r .told) _ (r .keyed) in (
+      (r .keyed .behind, r .keyed .placed, omega (arith, uses-small _ _ _ _ _ _ _ _ _ (r .told), r .keyed .all)),
+      (key-offsets _ _ _ _ _ _ _ _ _ (r .told) _ (r .keyed), omega (arith, texts-room _ _ _ _ _ _ _ r, ap (λ k. length (joined k)) kept)),
+    )
 
 -- src/text_part.rt:15:1
 same-length : tie.Need-same-length
@@ -32,7 +48,16 @@ same-length c = search needs
 
 -- src/text_part.rt:15:1
 returns : tie.Need-returns
-returns c = ?
+returns c = λ children named definitions items t k.
+    let a = c .before .before .before .before .before .before .before .before .before .before .before .before .before .args in
+    let m = measured _ _ _ t in
+    let v = sectionOut (written (draftOf (a .nodes .now) children named definitions items (a .payload .now) (a .strings .now))) in
+    let room = texts-fit _ _ _ _ _ _ _ (c .before .before .before .before .before .before .before .before .before .before .before .before .before .pre) _ _ _ _ t k in
+    let fits : length (v 6) + length (v 7) ≤ length (a .out .now) = omega (arith, m .payload, m .strings) in
+    let at-strings : length (a .payload .now) ≡ length (v 6) = omega (arith, m .payload) in
+    let first = payload-put _ _ _ _ _ _ _ _ _ _ _ t (c .before .before .before .before .before .before .put-payload .ensures) in
+    let second = strings-put _ _ _ _ _ _ _ _ _ _ _ t _ k (c .before .before .emit .ensures) in
+    two-parts (a .out .now) _ (v 6) (v 7) _ _ fits first at-strings second
 
 pub put-texts-spec : {M : Type 1} → statement M
 put-texts-spec =

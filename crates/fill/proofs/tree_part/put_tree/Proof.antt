@@ -1,3 +1,12 @@
+use mathlib.Core.Path.{_≡_, refl}
+use Prim.Native.Nat.{_+_, _*_, _/_, _≤_}
+use native.Mathlib.Omega.{arith}
+use lib.ListN.{length}
+use Rattle.image.specs.Encoding.{sectionOut}
+use Rattle.draft.specs.Source.{draftOf}
+use Rattle.encoder.specs.Written.{written}
+use Rattle.fill.proofs.Known.{tree-room, nodes-fit, order-fits, children-sum, named-sum, named-fit, named-length, texts-end, measured, nodes-put, children-put, named-put}
+use Rattle.fill.proofs.Layers.{three-parts}
 use borrow.Author.Needs.{needs}
 use Rattle.fill.proofs.tree_part.put_tree.Statement.{statement}
 use Rattle.fill.proofs.tree_part.put_tree.Tie as tie
@@ -9,7 +18,7 @@ use Rattle.sections.proofs.named.put_named.Reads as put-named-reads
 
 -- src/tree_part.rt:27:9
 put-nodes-requires : tie.Need-put-nodes-requires
-put-nodes-requires c κs = ?
+put-nodes-requires c κs = let r = c .before .before .before .before .before .before .before .pre in (nodes-fit _ _ _ _ _ _ _ _ _ (r .told), omega (arith, tree-room _ _ _ _ _ _ _ r))
 
 -- src/tree_part.rt:28:23
 mul-at-children : tie.Need-mul-at-children
@@ -17,11 +26,11 @@ mul-at-children c = search needs
 
 -- src/tree_part.rt:29:50
 sub-put-children : tie.Need-sub-put-children
-sub-put-children c = ?
+sub-put-children c = let room = tree-room _ _ _ _ _ _ _ (c .before .before .before .before .before .before .before .before .before .before .pre) in omega arith
 
 -- src/tree_part.rt:29:50
 part-put-children-start : tie.Need-part-put-children-start
-part-put-children-start c = ?
+part-put-children-start c = let room = tree-room _ _ _ _ _ _ _ (c .before .before .before .before .before .before .before .before .before .before .pre) in omega arith
 
 -- src/tree_part.rt:29:50
 part-put-children-end : tie.Need-part-put-children-end
@@ -29,7 +38,8 @@ part-put-children-end c = search needs
 
 -- src/tree_part.rt:29:5
 put-children-requires : tie.Need-put-children-requires
-put-children-requires c κs = ?
+put-children-requires c κs =
+    let r = c .before .before .before .before .before .before .before .before .before .before .before .pre in (order-fits _ _ _ _ _ _ _ _ _ (r .told), omega (arith, tree-room _ _ _ _ _ _ _ r, children-sum _ _ _ _ _ _ _ _ _ (r .told)))
 
 -- src/tree_part.rt:30:34
 mul-at-named : tie.Need-mul-at-named
@@ -41,11 +51,11 @@ add-at-named c = search needs
 
 -- src/tree_part.rt:36:50
 sub-put-named : tie.Need-sub-put-named
-sub-put-named c = ?
+sub-put-named c = let room = tree-room _ _ _ _ _ _ _ (c .before .before .before .before .before .before .before .before .before .before .before .before .before .before .pre) in omega arith
 
 -- src/tree_part.rt:36:50
 part-put-named-start : tie.Need-part-put-named-start
-part-put-named-start c = ?
+part-put-named-start c = let room = tree-room _ _ _ _ _ _ _ (c .before .before .before .before .before .before .before .before .before .before .before .before .before .before .pre) in omega arith
 
 -- src/tree_part.rt:36:50
 part-put-named-end : tie.Need-part-put-named-end
@@ -53,11 +63,17 @@ part-put-named-end c = search needs
 
 -- src/tree_part.rt:36:5
 put-named-requires : tie.Need-put-named-requires
-put-named-requires c κs = ?
+put-named-requires c κs =
+    let r = c .before .before .before .before .before .before .before .before .before .before .before .before .before .before .before .pre in
+    let text = nodes-put _ _ _ _ _ _ _ _ _ _ _ (r .told) _ (c .before .before .before .before .before .before .before .put-nodes .ensures) .1 in
+    (named-fit _ _ _ _ _ _ _ _ _ (r .told) _ text, omega (arith, tree-room _ _ _ _ _ _ _ r, named-sum _ _ _ _ _ _ _ _ _ (r .told)))
 
 -- src/tree_part.rt:37:5
 add-result : tie.Need-add-result
-add-result c = ?
+add-result c =
+    let r = c .before .before .before .before .before .before .before .before .before .before .before .before .before .before .before .before .before .before .pre in
+    let text = nodes-put _ _ _ _ _ _ _ _ _ _ _ (r .told) _ (c .before .before .before .before .before .before .before .before .before .before .put-nodes .ensures) .1 in
+    omega (arith, texts-end _ _ _ (r .told), named-length _ _ _ (r .told))
 
 -- src/tree_part.rt:15:1
 same-length : tie.Need-same-length
@@ -65,7 +81,18 @@ same-length c = search needs
 
 -- src/tree_part.rt:15:1
 returns : tie.Need-returns
-returns c = ?
+returns c = λ definitions items strings t.
+    let a = c .before .before .before .before .before .before .before .before .before .before .before .before .before .before .before .before .before .before .args in
+    let m = measured _ _ _ t in
+    let v = sectionOut (written (draftOf (a .nodes .now) (a .children .now) (a .named .now) definitions items (a .payload .now) strings)) in
+    let room = tree-room _ _ _ _ _ _ _ (c .before .before .before .before .before .before .before .before .before .before .before .before .before .before .before .before .before .before .pre) in
+    let fits : length (v 0) + length (v 1) + length (v 2) ≤ length (a .out .now) = omega (arith, m .nodes, m .children, m .named) in
+    let at-children : length (a .nodes .now) / 10 * 40 ≡ length (v 0) = omega (arith, m .nodes) in
+    let at-named : length (a .nodes .now) / 10 * 40 + length (a .children .now) * 4 ≡ length (v 0) + length (v 1) = omega (arith, m .nodes, m .children) in
+    let first = nodes-put _ _ _ _ _ _ _ _ _ _ _ t _ (c .before .before .before .before .before .before .before .before .before .before .put-nodes .ensures) in
+    let second = children-put _ _ _ _ _ _ _ _ _ _ _ t (c .before .before .before .before .before .before .put-children .ensures) in
+    let third = named-put _ _ _ _ _ _ _ _ _ _ _ t _ (first .1) (c .before .before .put-named .ensures) in
+    (three-parts (a .out .now) _ _ (v 0) (v 1) (v 2) _ _ _ _ fits (first .0) at-children second refl at-named third, omega (arith, first .1, named-length _ _ _ t))
 
 pub put-tree-spec : {M : Type 1} → statement M
 put-tree-spec =
