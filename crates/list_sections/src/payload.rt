@@ -107,7 +107,14 @@ fn put_list(payload: &[u8], start: u32, w: &[u32], text: usize, out: &mut [u8], 
 }
 
 // The same of a node, if it is a list.
-fn put_node(node: NodeRecord, payload: &[u8], w: &[u32], text: usize, out: &mut [u8], at: usize) -> usize
+fn put_node(
+    node: NodeRecord,
+    payload: &[u8],
+    w: &[u32],
+    text: usize,
+    out: &mut [u8],
+    at: usize,
+) -> usize
     requires { ⌜ text + textsBy (now payload) node (kindOf (node .tag)) ≤ length (now w) ⌝ }
     requires { ⌜ at + 4 * length (nodeListWords (now payload) (now w) text node) ≤ length (now out) ⌝ }
     ensures { λ r. ⌜ PutWords (nodeListWords (now (payload .entry)) (now (w .entry)) text node) (now (out .entry)) (now (out .exit)) at r ⌝ }
