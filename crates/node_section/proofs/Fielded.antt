@@ -180,7 +180,7 @@ module _ (s : Sections) (at len : ℕ) (q : ListPassed s at len) where
   unfolding listWord
   origins-word = word-in (s .payload) (at + 4) (omega arith)
 
-  item-word : (j : ℕ) → j < listItems s at → wordIn (s .payload) (at + 8 + j * 20) ≡ listItemWord s at j 0
+  pub item-word : (j : ℕ) → j < listItems s at → wordIn (s .payload) (at + 8 + j * 20) ≡ listItemWord s at j 0
   unfolding listWord
   item-word j h =
       let z : at + 8 + j * 20 ≡ at + (8 + j * 20 + 0 * 4) = omega arith in

@@ -1,114 +1,88 @@
+-- `list_sections::payload::put_list_items` meets its contract. Assumes nothing.
+use Prim.Native.Nat.{_-_}
+use native.Mathlib.Omega.{arith}
+use Rattle.list_sections.proofs.Listing.{Listing, list-start, list-room, list-inside, list-next, list-end}
+use borrow.Author.Needs.{needs}
 use Rattle.list_sections.proofs.payload.put_list_items.Statement.{statement}
 use Rattle.list_sections.proofs.payload.put_list_items.Tie as tie
-use Rattle.list_sections.proofs.payload.put_list_items.Reads as reads
-use Rattle.list_sections.proofs.payload.put_list_items.Lts as lts
-use Rattle.draft.proofs.source.word.Reads as word-reads
-use Rattle.node_section.proofs.kinds.optional_offset.Reads as optional-offset-reads
-use Rattle.node_section.proofs.kinds.text_count.Reads as text-count-reads
-use Rattle.outputs.proofs.put_words.Reads as put-words-reads
-use Rattle.words.proofs.get.Reads as get-reads
 
 abbrev Inv-loop : tie.InvT-loop
-Inv-loop payload start count w text out₀ at first all k₀ place₀ j₀ out k place j = ?
+Inv-loop payload start count w text out₀ at first all k₀ place₀ j₀ out k place j = Listing payload w start text count at out₀ out k place j
 
 abbrev μ-loop : tie.MeasureT-loop
-μ-loop payload start count w text out₀ at first all k₀ place₀ j₀ out k place j = ?
+μ-loop payload start count w text out₀ at first all k₀ place₀ j₀ out k place j = count - j
 
--- src/payload.rt:39:17
 add-first : tie.Need-add-first Inv-loop μ-loop
-add-first c = ?
+add-first c = search needs
 
--- src/payload.rt:44:5
 loop-holds : tie.Need-loop-holds Inv-loop μ-loop
-loop-holds c = ?
+loop-holds c = list-start _ _ _ _ _ _ _ (c .before .before .before .pre .0) (c .before .before .before .pre .1)
 
--- src/payload.rt:45:28
 mul-item : tie.Need-mul-item Inv-loop μ-loop
-mul-item c = ?
+mul-item c = search needs
 
--- src/payload.rt:45:20
 add-item : tie.Need-add-item Inv-loop μ-loop
-add-item c = ?
+add-item c = search needs
 
--- src/payload.rt:46:13
 get-requires : tie.Need-get-requires Inv-loop μ-loop
-get-requires c κs = ?
+get-requires c κs = search needs
 
--- src/payload.rt:47:24
 text-count-requires : tie.Need-text-count-requires Inv-loop μ-loop
-text-count-requires c κs = ?
+text-count-requires c κs = search needs
 
--- src/payload.rt:47:20
 add-name : tie.Need-add-name Inv-loop μ-loop
-add-name c = ?
+add-name c = omega (arith, list-inside _ _ _ _ _ _ _ _ _ _ _ (c .before .before .before .loop .inv) (c .before .before .loop-test .taken) _ _ (c .before .get .ensures) (c .text-count .ensures))
 
--- src/payload.rt:49:13
 optional-offset-requires : tie.Need-optional-offset-requires Inv-loop μ-loop
-optional-offset-requires c κs = ?
+optional-offset-requires c κs = search needs
 
--- src/payload.rt:50:33
 add-get : tie.Need-add-get Inv-loop μ-loop
-add-get c = ?
+add-get c = search needs
 
--- src/payload.rt:50:13
 get-requires-2 : tie.Need-get-requires-2 Inv-loop μ-loop
-get-requires-2 c κs = ?
+get-requires-2 c κs = search needs
 
--- src/payload.rt:51:13
 word-requires : tie.Need-word-requires Inv-loop μ-loop
-word-requires c κs = ?
+word-requires c κs = search needs
 
--- src/payload.rt:52:33
 add-get-2 : tie.Need-add-get-2 Inv-loop μ-loop
-add-get-2 c = ?
+add-get-2 c = search needs
 
--- src/payload.rt:52:13
 get-requires-3 : tie.Need-get-requires-3 Inv-loop μ-loop
-get-requires-3 c κs = ?
+get-requires-3 c κs = search needs
 
--- src/payload.rt:53:33
 add-get-3 : tie.Need-add-get-3 Inv-loop μ-loop
-add-get-3 c = ?
+add-get-3 c = search needs
 
--- src/payload.rt:53:13
 get-requires-4 : tie.Need-get-requires-4 Inv-loop μ-loop
-get-requires-4 c κs = ?
+get-requires-4 c κs = search needs
 
--- src/payload.rt:55:31
 slice-aggregate-put-words : tie.Need-slice-aggregate-put-words Inv-loop μ-loop
-slice-aggregate-put-words c = ?
+slice-aggregate-put-words c = search needs
 
--- src/payload.rt:55:9
 put-words-requires : tie.Need-put-words-requires Inv-loop μ-loop
-put-words-requires c κs = ?
+put-words-requires c κs = list-room _ _ _ _ _ _ _ _ _ _ _ (c .before .before .before .before .before .before .before .before .before .before .loop .inv) (c .before .before .before .before .before .before .before .before .before .loop-test .taken)
 
--- src/payload.rt:56:13
 add-k : tie.Need-add-k Inv-loop μ-loop
-add-k c = ?
+add-k c = omega (arith, list-inside _ _ _ _ _ _ _ _ _ _ _ (c .before .before .before .before .before .before .before .before .before .before .before .before .before .loop .inv) (c .before .before .before .before .before .before .before .before .before .before .before .before .loop-test .taken) _ _ (c .before .before .before .before .before .before .before .before .before .before .before .get .ensures) (c .before .before .before .before .before .before .before .before .before .before .text-count .ensures))
 
--- src/payload.rt:57:9
 add-place : tie.Need-add-place Inv-loop μ-loop
-add-place c = ?
+add-place c = omega (arith, list-room _ _ _ _ _ _ _ _ _ _ _ (c .before .before .before .before .before .before .before .before .before .before .before .before .before .loop .inv) (c .before .before .before .before .before .before .before .before .before .before .before .before .loop-test .taken))
 
--- src/payload.rt:58:9
 add-j : tie.Need-add-j Inv-loop μ-loop
-add-j c = ?
+add-j c = search needs
 
--- src/payload.rt:44:5
 loop-less : tie.Need-loop-less Inv-loop μ-loop
-loop-less c = ?
+loop-less c = search needs
 
--- src/payload.rt:44:5
 loop-again : tie.Need-loop-again Inv-loop μ-loop
-loop-again c = ?
+loop-again c = list-next _ _ _ _ _ _ _ _ _ _ _ (c .before .before .before .before .before .before .before .before .before .before .before .before .before .loop .inv) (c .before .before .before .before .before .before .before .before .before .before .before .before .loop-test .taken) _ _ (c .before .before .before .before .before .before .before .before .before .before .before .get .ensures) (c .before .before .before .before .before .before .before .before .before .before .text-count .ensures) _ _ _ _ _ (c .before .before .before .before .before .before .before .before .before .optional-offset .ensures) (c .before .before .before .before .before .before .before .before .get2 .ensures) (c .before .before .before .before .before .before .before .word .ensures) (c .before .before .before .before .before .before .get3 .ensures) (c .before .before .before .before .before .get4 .ensures) _ (c .before .before .put-words .ensures)
 
--- src/payload.rt:26:1
 same-length : tie.Need-same-length Inv-loop μ-loop
-same-length c = ?
+same-length c = search needs
 
--- src/payload.rt:26:1
 returns : tie.Need-returns Inv-loop μ-loop
-returns c = ?
+returns c = list-end _ _ _ _ _ _ _ _ _ _ _ (c .before .loop .inv) (c .loop-test .left)
 
 pub put-list-items-spec : {M : Type 1} → statement M
 put-list-items-spec =

@@ -1,88 +1,73 @@
+-- `list_sections::payload::put_list_origins` meets its contract. Assumes nothing.
+use Prim.Native.Nat.{_+_, _*_, _-_}
+use mathlib.Core.Path.{refl}
+use native.Mathlib.Omega.{arith}
+use Rattle.outputs.proofs.Running.{Running, run-next, run-put}
+use Rattle.list_sections.specs.Entered.{listOriginWords}
+use Rattle.list_sections.proofs.Listing.{origins-start, origins-room, origin-words}
+use borrow.Author.Needs.{needs}
 use Rattle.list_sections.proofs.payload.put_list_origins.Statement.{statement}
 use Rattle.list_sections.proofs.payload.put_list_origins.Tie as tie
-use Rattle.list_sections.proofs.payload.put_list_origins.Reads as reads
-use Rattle.list_sections.proofs.payload.put_list_origins.Lts as lts
-use Rattle.draft.proofs.source.word.Reads as word-reads
-use Rattle.outputs.proofs.put_words.Reads as put-words-reads
-use Rattle.words.proofs.get.Reads as get-reads
 
 abbrev Inv-loop : tie.InvT-loop
-Inv-loop payload start items count w text out₀ at first all place₀ j₀ out place j = ?
+Inv-loop payload start items count w text out₀ at first all place₀ j₀ out place j = Running at count (listOriginWords payload w text (start + 8 + items * 20)) out₀ out j place
 
 abbrev μ-loop : tie.MeasureT-loop
-μ-loop payload start items count w text out₀ at first all place₀ j₀ out place j = ?
+μ-loop payload start items count w text out₀ at first all place₀ j₀ out place j = count - j
 
--- src/payload.rt:77:17
 add-first : tie.Need-add-first Inv-loop μ-loop
-add-first c = ?
+add-first c = search needs
 
--- src/payload.rt:77:38
 mul-first : tie.Need-mul-first Inv-loop μ-loop
-mul-first c = ?
+mul-first c = search needs
 
--- src/payload.rt:77:17
 add-first-2 : tie.Need-add-first-2 Inv-loop μ-loop
-add-first-2 c = ?
+add-first-2 c = search needs
 
--- src/payload.rt:81:5
 loop-holds : tie.Need-loop-holds Inv-loop μ-loop
-loop-holds c = ?
+loop-holds c = origins-start _ _ _ _ _ _ _ (c .before .before .before .pre .1)
 
--- src/payload.rt:82:30
 mul-origin : tie.Need-mul-origin Inv-loop μ-loop
-mul-origin c = ?
+mul-origin c = search needs
 
--- src/payload.rt:82:22
 add-origin : tie.Need-add-origin Inv-loop μ-loop
-add-origin c = ?
+add-origin c = search needs
 
--- src/payload.rt:83:30
 add-word : tie.Need-add-word Inv-loop μ-loop
-add-word c = ?
+add-word c = search needs
 
--- src/payload.rt:83:13
 word-requires : tie.Need-word-requires Inv-loop μ-loop
-word-requires c κs = ?
+word-requires c κs = search needs
 
--- src/payload.rt:84:39
 add-get : tie.Need-add-get Inv-loop μ-loop
-add-get c = ?
+add-get c = search needs
 
--- src/payload.rt:84:13
 get-requires : tie.Need-get-requires Inv-loop μ-loop
-get-requires c κs = ?
+get-requires c κs = search needs
 
--- src/payload.rt:86:31
 slice-aggregate-put-words : tie.Need-slice-aggregate-put-words Inv-loop μ-loop
-slice-aggregate-put-words c = ?
+slice-aggregate-put-words c = search needs
 
--- src/payload.rt:86:9
 put-words-requires : tie.Need-put-words-requires Inv-loop μ-loop
-put-words-requires c κs = ?
+put-words-requires c κs = origins-room _ _ _ _ _ _ _ _ _ _ (c .before .before .before .before .before .loop .inv) (c .before .before .before .before .loop-test .taken)
 
--- src/payload.rt:87:9
 add-place : tie.Need-add-place Inv-loop μ-loop
-add-place c = ?
+add-place c = omega (arith, origins-room _ _ _ _ _ _ _ _ _ _ (c .before .before .before .before .before .before .before .before .loop .inv) (c .before .before .before .before .before .before .before .loop-test .taken))
 
--- src/payload.rt:88:9
 add-j : tie.Need-add-j Inv-loop μ-loop
-add-j c = ?
+add-j c = search needs
 
--- src/payload.rt:81:5
 loop-less : tie.Need-loop-less Inv-loop μ-loop
-loop-less c = ?
+loop-less c = search needs
 
--- src/payload.rt:81:5
 loop-again : tie.Need-loop-again Inv-loop μ-loop
-loop-again c = ?
+loop-again c = run-next _ _ _ _ _ _ _ (c .before .before .before .before .before .before .before .before .loop .inv) _ _ _ (c .before .before .before .before .before .before .before .loop-test .taken) (origin-words _ _ _ _ _ _ _ (c .before .before .before .before .before .before .word .ensures) (c .before .before .before .before .before .get .ensures)) (c .before .before .put-words .ensures) refl
 
--- src/payload.rt:64:1
 same-length : tie.Need-same-length Inv-loop μ-loop
-same-length c = ?
+same-length c = search needs
 
--- src/payload.rt:64:1
 returns : tie.Need-returns Inv-loop μ-loop
-returns c = ?
+returns c = run-put _ _ _ _ _ _ _ (c .before .loop .inv) (c .loop-test .left)
 
 pub put-list-origins-spec : {M : Type 1} → statement M
 put-list-origins-spec =
