@@ -2,7 +2,7 @@
 use Prim.Native.Nat.{ℕ, zero, suc, _+_, _-_, _≤_, _<_}
 use mathlib.Core.Path.{_≡_, refl, sym, ap, _∙_}
 use mathlib.Core.List.{List, [], _∷_, _++_, append-assoc, append-nil}
-use mathlib.Core.Bool.{Bool, true, false, cond, _||_}
+use mathlib.Core.Bool.{true, false, cond}
 use native.Mathlib.Nat.{add-zero, add-suc}
 use native.Mathlib.Omega.{arith}
 use borrow.Author.Tests.{ltb-true, ltb-false}
@@ -68,6 +68,11 @@ stored-snoc ss [] u = refl
 stored-snoc ss (v ∷ us) u = stored-snoc (cond (holds ss v) ss (ss ++ (v ∷ []))) us u
 
 module _ (key : ℕ → List ℕ) where
+  -- the stored texts, where the texts of the uses are known as a list
+  pub stored-of : (n : ℕ) (us : List (List ℕ)) → textsOf key n ≡ us → storedOf key n ≡ distinct [] us
+  unfolding storedOf
+  stored-of n us e = ap (distinct []) e
+
   stored-suc : (k : ℕ) → storedOf key (suc k) ≡ cond (holds (storedOf key k) (key k)) (storedOf key k) (storedOf key k ++ (key k ∷ []))
   unfolding storedOf joinOf
   stored-suc k = stored-snoc [] (textsOf key k) (key k)

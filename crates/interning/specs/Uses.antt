@@ -4,7 +4,7 @@ use mathlib.Core.Path.{_≡_}
 use mathlib.Core.List.{List, [], _∷_}
 use mathlib.Core.Bool.{Bool, true, cond}
 use lib.Dec.{eqb, ltb}
-use lib.ListN.{length, getD}
+use lib.ListN.{getD}
 use Rattle.laws.specs.Counted.{joinOf}
 use Rattle.laws.specs.Lists.{flatMap}
 use Rattle.encoder.specs.Strings.{distinct, offsetOf}

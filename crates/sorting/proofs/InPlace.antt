@@ -8,9 +8,9 @@ use native.Mathlib.Omega.{arith}
 use native.Mathlib.Numerals.{add-one}
 use borrow.Author.Tests.{ltb-true, ltb-false}
 use lib.Dec.{ltb}
-use lib.ListN.{length, take, drop, set, getD, length-set, length-append, length-take, length-drop, take-append-drop, List·getD-append, drop-of-length-le}
+use lib.ListN.{length, take, drop, set, getD, length-set, length-append, length-drop, List·getD-append, drop-of-length-le}
 use lib.Seq.{drop-cons, take-suc-set, take-all, take-add, drop-drop, getD-drop, drop-set-lt, length-take-le, take-at, drop-at, paste, paste-suc, length-paste, getD-take}
-use Rattle.sorting.specs.Sorted.{mergeWith, merge, isort, rightFirst, takesRight, Strict, part, Ordered}
+use Rattle.sorting.specs.Sorted.{merge, isort, rightFirst, takesRight, Strict, part, Ordered}
 use Rattle.sorting.proofs.Laws.{cases, differ, merge-nil, sort-append, first-left, first-right}
 use Rattle.sorting.proofs.Ordered.{ordered-isort, merge-ordered}
 

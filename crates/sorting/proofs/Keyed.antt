@@ -1,9 +1,9 @@
 -- A list sorted by keys: its neighbours rise where no two keys are one, and then it is the list that encoder/specs/Strings.antt sorts. Assumes nothing.
-use Prim.Native.Nat.{ℕ, zero, suc, _+_, _≤_, _<_}
+use Prim.Native.Nat.{ℕ, suc, _<_}
 use mathlib.Core.Path.{_≡_, refl, sym, ap, _∙_}
 use mathlib.Core.Logic.{_⊎_, inl, inr, ⊎-elim}
 use mathlib.Core.List.{List, [], _∷_}
-use mathlib.Core.Bool.{Bool, true, false, cond}
+use mathlib.Core.Bool.{true, false, cond}
 use native.Mathlib.Omega.{arith}
 use lib.ListN.{length, getD}
 use Rattle.texts.specs.Text.{before, same}
@@ -11,7 +11,7 @@ use Rattle.texts.proofs.Text.{before-unlike, before-asym, unlike-before, same-e
 use Rattle.encoder.specs.Strings.{insertBy, sortBy}
 use Rattle.sorting.specs.Sorted.{byKey, insert, isort, Rises, Unlike, Twice}
 use Rattle.sorting.proofs.Laws.{cases, differ, key-strict}
-use Rattle.sorting.proofs.Listed.{All, Pairs, all-at, all-isort, pairs-at, at-pairs, pairs-isort, isort-pairs, length-isort}
+use Rattle.sorting.proofs.Listed.{All, Pairs, all-isort, pairs-at, at-pairs, pairs-isort, isort-pairs, length-isort}
 use Rattle.sorting.proofs.Ordered.{ordered-isort, rises-pairs}
 
 module _ (key : ℕ → List ℕ) where

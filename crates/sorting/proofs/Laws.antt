@@ -1,11 +1,10 @@
 -- A merge of two sorted lists is the sort of the two; a list in order is its own sort; the order of texts is one to sort by. Assumes nothing.
-use Prim.Native.Nat.{ℕ, _+_, _-_, _≤_, _<_, suc}
-use mathlib.Core.Path.{_≡_, refl, sym, ap, _∙_}
+use Prim.Native.Nat.{ℕ, _+_, _-_, _<_}
+use mathlib.Core.Path.{_≡_, refl, sym, ap}
 use mathlib.Core.List.{List, [], _∷_, _++_}
 use mathlib.Core.Bool.{Bool, true, false, cond, false≢true}
 use native.Mathlib.Omega.{arith}
 use lib.ListN.{length}
-use Rattle.texts.specs.Text.{before}
 use Rattle.texts.proofs.Text.{before-self, before-trans, before-apart}
 use Rattle.sorting.specs.Sorted.{byKey, insert, isort, mergeWith, merge, Strict, rightFirst}
 

@@ -1,14 +1,14 @@
 -- Lists in order: a sort gives one, and leaves one as it is. Assumes nothing.
-use Prim.Native.Nat.{ℕ, zero, suc, _+_, _-_, _≤_, _<_}
+use Prim.Native.Nat.{ℕ, suc, _+_, _-_, _<_}
 use mathlib.Core.Path.{_≡_, refl, sym, ap, _∙_}
 use mathlib.Core.List.{List, [], _∷_, _++_, append-nil}
 use mathlib.Core.Bool.{Bool, true, false}
 use native.Mathlib.Omega.{arith}
 use native.Mathlib.Decide.{ℕ-discrete}
 use lib.ListN.{length, getD}
-use Rattle.sorting.specs.Sorted.{insert, isort, mergeWith, merge, Strict, Rises, Ordered}
+use Rattle.sorting.specs.Sorted.{insert, isort, merge, Strict, Rises, Ordered}
 use Rattle.sorting.proofs.Laws.{cases, differ, merge-nil, merge-step}
-use Rattle.sorting.proofs.Listed.{All, Pairs, all-map, all-at, at-all, pairs-at, at-pairs, chain, all-insert}
+use Rattle.sorting.proofs.Listed.{All, Pairs, all-map, at-all, pairs-at, at-pairs, chain, all-insert}
 
 module _ (lt : ℕ → ℕ → Bool) (S : Strict lt) where
   -- y is not above z

@@ -2,7 +2,7 @@ use Prim.Native.Nat.{ℕ, _+_, _-_, _<_}
 use mathlib.Core.Path.{_≡_, ap, _∙_}
 use mathlib.Core.List.{List}
 use native.Mathlib.Omega.{arith}
-use lib.ListN.{getD, take, drop, length}
+use lib.ListN.{take, drop}
 use Rattle.keys.specs.Keys.{keyOf, keyIn}
 use Rattle.sorting.specs.Sorted.{byKey}
 use Rattle.sorting.proofs.InPlace.{drop-later}

@@ -1,9 +1,9 @@
-use Prim.Native.Nat.{ℕ, _≤_, _<_, _-_, _+_, suc}
-use mathlib.Core.Path.{_≡_, refl, sym, ap, _∙_}
+use Prim.Native.Nat.{ℕ, _≤_, _-_, _+_}
+use mathlib.Core.Path.{_≡_, ap, _∙_}
 use mathlib.Core.List.{List}
 use native.Mathlib.Omega.{arith}
 use native.Mathlib.Numerals.{add-one}
-use lib.ListN.{length, drop, getD, length-set, length-drop}
+use lib.ListN.{length, drop, getD, length-drop}
 use lib.Seq.{paste, paste-zero, length-paste}
 use Rattle.sorting.proofs.InPlace.{paste-above, paste-down}
 use borrow.Author.Needs.{needs}

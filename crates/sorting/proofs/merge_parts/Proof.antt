@@ -4,7 +4,7 @@ use mathlib.Core.Logic.{⊎-elim}
 use mathlib.Core.List.{List}
 use mathlib.Core.Bool.{Bool}
 use native.Mathlib.Omega.{arith}
-use lib.ListN.{length, drop, length-set}
+use lib.ListN.{drop}
 use Rattle.keys.specs.Keys.{keyOf, keyIn}
 use Rattle.sorting.specs.Sorted.{byKey, takesRight}
 use Rattle.sorting.proofs.InPlace.{Placing, placing-none, placing-left, placing-right, placing-done, placing-behind}
