@@ -1,3 +1,4 @@
 pub mod Known
 pub mod Preparing
 pub mod Storing
+pub mod Planning

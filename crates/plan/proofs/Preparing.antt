@@ -2,12 +2,13 @@
 use Prim.Native.Nat.{ℕ, zero, suc, _+_, _*_, _-_, _≤_, _<_}
 use mathlib.Core.Path.{_≡_, refl, sym, ap, _∙_}
 use mathlib.Core.List.{List, [], _∷_, _++_, map, append-assoc}
-use mathlib.Core.Bool.{Bool, true}
+use mathlib.Core.Bool.{Bool, true, false, cond}
 use native.Mathlib.Omega.{arith}
 use native.Mathlib.Decide.{decLt}
 use lib.ListN.{length, getD, take, drop, length-append, length-map, List·getD-append}
 use lib.Seq.{getD-append-add, getD-drop, drop-drop, drop-at, length-take-le, ext-getD, getD-append-seam}
-use Rattle.laws.specs.Counted.{joinOf}
+use Rattle.laws.specs.Counted.{joinOf, sumOf, those}
+use Rattle.records.specs.Records.{containerOf}
 use Rattle.texts.specs.Text.{before}
 use Rattle.image.specs.Header.{nodeWords}
 use Rattle.image.specs.Sections.{Sections, nodeCount, f, isContainer, goodOptional}
@@ -20,8 +21,9 @@ use Rattle.encoder.specs.Ready.{textUses}
 use Rattle.uses.specs.Uses.{useWords, usesMost, withWords}
 use Rattle.uses.proofs.Fits.{uses-length, use-at}
 use Rattle.uses.proofs.Bounds.{olds-below}
+use Rattle.uses.proofs.Sums.{sum-ordered}
 use Rattle.sorting.specs.Sorted.{isort, byKey, Rises}
-use Rattle.sorting.proofs.Listed.{at-all, all-at, all-isort}
+use Rattle.sorting.proofs.Listed.{at-all, all-at, all-isort, length-isort}
 use Rattle.sorting.proofs.Keyed.{unlike-rises, isort-sortBy}
 use Rattle.interning.specs.Uses.{textsOf}
 use Rattle.keys.specs.Keys.{keyOf, nodeOf, longOf}
@@ -31,6 +33,16 @@ use Rattle.paths.specs.Listed.{containers}
 use Rattle.paths.specs.Arranged.{Rooted}
 use Rattle.paths.proofs.Rule.{twice, those-at}
 use Rattle.plan.proofs.Known.{once, renumbers, rooted}
+
+those-long : (n : ℕ) (t : ℕ → Bool) → length (those n t) ≡ sumOf n (λ x. cond (t x) 1 0)
+unfolding those sumOf
+those-long zero t = refl
+those-long (suc n) t = length-append (those n t) (cond (t n) (n ∷ []) []) ∙ go (t n) (those-long n t)
+  where
+    go : (b : Bool) → length (those n t) ≡ sumOf n (λ x. cond (t x) 1 0)
+        → length (those n t) + length (cond b (n ∷ []) []) ≡ sumOf n (λ x. cond (t x) 1 0) + cond b 1 0
+    go true e = omega arith
+    go false e = omega arith
 
 -- ---- the index rises
 
@@ -63,6 +75,15 @@ module _ (s : Sections) (z : s .stride ≡ nodeWords) (p : tablesRule s ≡ 0) (
       each i l =
           let c = those-at (λ j. isContainer s (oldOf order j)) (nodeCount s) i l in
           (renumbers s z p q .old-inside (getD (containers s order) i 0) (c .0), c .1)
+
+  -- as many entries as containers
+  pub boxes-long : length (byPath s order) ≡ sumOf (nodeCount s) (containerOf s)
+  boxes-long =
+      ap {B = ℕ} length (sym sorted) ∙ length-isort (byKey (pathOf s order)) (containers s order)
+      ∙ those-long (nodeCount s) (λ j. isContainer s (oldOf order j)) ∙ containers-sum ∙ sum-ordered (nodeCount s) order (once s z p q) (containerOf s)
+    where
+      containers-sum : sumOf (nodeCount s) (λ j. cond (isContainer s (oldOf order j)) 1 0) ≡ sumOf (nodeCount s) (λ j. containerOf s (oldOf order j))
+      containers-sum = unfold containerOf in refl
 
 -- ---- lists of texts
 
@@ -130,7 +151,7 @@ tables-put w us at h =
 put-front : (us tab : List ℕ) (k : ℕ) → k < length us → getD (us ++ drop (length us) tab) k 0 ≡ getD us k 0
 put-front us tab k h = List·getD-append us (drop (length us) tab) 0 k h
 
-put-behind : (us tab : List ℕ) (k : ℕ) → length us ≤ k → getD (us ++ drop (length us) tab) k 0 ≡ getD tab k 0
+pub put-behind : (us tab : List ℕ) (k : ℕ) → length us ≤ k → getD (us ++ drop (length us) tab) k 0 ≡ getD tab k 0
 put-behind us tab k h =
     let e : k ≡ length us + (k - length us) = omega arith in
     ap (λ (m : ℕ). getD (us ++ drop (length us) tab) m 0) e ∙ getD-append-add us (drop (length us) tab) (k - length us) 0
