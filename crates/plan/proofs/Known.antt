@@ -38,8 +38,8 @@ module _ (s : Sections) (z : s .stride ≡ nodeWords) (p : tablesRule s ≡ 0) (
         numbers = renumbers;
         climbs =
             λ x h.
-                tree-climbs s (tables s p .some)
-                (right-tree s (entries-counts s (tables s p)) (shape s r .entries) (λ i k. all-at (Reached s) i (readWalk s .seen) (reached s q i k) (read-reached s))) x h;
+            tree-climbs s (tables s p .some)
+            (right-tree s (entries-counts s (tables s p)) (shape s r .entries) (λ i k. all-at (Reached s) i (readWalk s .seen) (reached s q i k) (read-reached s))) x h;
         named = λ x h c. ranges s x c (tables s p .fields x h) .name;
       }
     where

@@ -288,36 +288,34 @@ module _ (ns cs ms ds is ps ss : List ℕ) (p : tablesRule (draftOf ns cs ms ds 
                 news = λ i h. last (layoutOf s .new + i) (omega arith) ∙ news-known i h;
                 offsets =
                     λ k h.
-                        let l : k < texts + found = omega (arith, many) in
-                        rw (ut, up) (o k l ∙ (λ j. offsetOf (stored-same j) (key-now k l j)));
+                    let l : k < texts + found = omega (arith, many) in
+                    rw (ut, up) (o k l ∙ (λ j. offsetOf (stored-same j) (key-now k l j)));
                 keys =
                     λ a h.
-                        let l : a < texts + found = omega (arith, ut, up) in
-                        rw ut (ap (λ (tab : List ℕ). keyOf ns ss texts (layoutOf s .paths) (layoutOf s .lengths) tab a) kept ∙ key-now a l);
+                    let l : a < texts + found = omega (arith, ut, up) in
+                    rw ut (ap (λ (tab : List ℕ). keyOf ns ss texts (layoutOf s .paths) (layoutOf s .lengths) tab a) kept ∙ key-now a l);
                 boxes =
                     λ k h.
-                        ap (λ (tab : List ℕ). getD tab (layoutOf s .paths + k) 0) tables-last
-                        ∙ boxes′ s refl p q r free (layoutOf s .paths) (layoutOf s .lengths) text-room (omega arith) (drop (layoutOf s .at) w₂) (sorted .boxes free)
-                        (sorted .lengths free) k (omega (arith, up, found-all));
+                    ap (λ (tab : List ℕ). getD tab (layoutOf s .paths + k) 0) tables-last
+                    ∙ boxes′ s refl p q r free (layoutOf s .paths) (layoutOf s .lengths) text-room (omega arith) (drop (layoutOf s .at) w₂) (sorted .boxes free)
+                    (sorted .lengths free) k (omega (arith, up, found-all));
                 lengths =
                     λ k h.
-                        ap (λ (tab : List ℕ). longOf (layoutOf s .lengths) tab (oldOf (numbering s) (getD (byPath s (numbering s)) k 0))) tables-last
-                        ∙ longs′ s refl p q r free (layoutOf s .paths) (layoutOf s .lengths) text-room (omega arith) (drop (layoutOf s .at) w₂) (sorted .boxes free)
-                        (sorted .lengths free) k (omega (arith, up, found-all));
+                    ap (λ (tab : List ℕ). longOf (layoutOf s .lengths) tab (oldOf (numbering s) (getD (byPath s (numbering s)) k 0))) tables-last
+                    ∙ longs′ s refl p q r free (layoutOf s .paths) (layoutOf s .lengths) text-room (omega arith) (drop (layoutOf s .at) w₂) (sorted .boxes free)
+                    (sorted .lengths free) k (omega (arith, up, found-all));
               }
 
           pub planned : (a : Plan) → StoredPlan key texts found w₄ a → PlanOf s w₄ a
           planned (Refused k) (e, inl h) =
               (rest ∙ first _ _ 22 (fail _ 23 (lt-leb (length (uses s (numbering s))) NONE (omega (arith, many)))) ∙ sym e, λ z′. omega (arith, e))
-          planned (Refused k) (e, inr h) =
-              (
-                rest ∙ second _ _ (pass _ 23 (le-leb (length (uses s (numbering s))) NONE (omega (arith, many, h .0))))
+          planned (Refused k) (e, inr h) = (
+            rest ∙ second _ _ (pass _ 23 (le-leb (length (uses s (numbering s))) NONE (omega (arith, many, h .0))))
                 ∙ fail _ 23 (lt-leb (length (storedBytes s)) NONE (omega (arith, bytes-same, h .1))) ∙ sym e,
-                λ z′. omega (arith, e),
-              )
-          planned (Ready u) h =
-              (
-                rest ∙ second _ _ (pass _ 23 (le-leb (length (uses s (numbering s))) NONE (omega (arith, many, h .1))))
+            λ z′. omega (arith, e),
+          )
+          planned (Ready u) h = (
+            rest ∙ second _ _ (pass _ 23 (le-leb (length (uses s (numbering s))) NONE (omega (arith, many, h .1))))
                 ∙ pass _ 23 (le-leb (length (storedBytes s)) NONE (omega (arith, bytes-same, h .2))),
-                prepared u (h .0) (h .3),
-              )
+            prepared u (h .0) (h .3),
+          )
