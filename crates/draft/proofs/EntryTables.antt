@@ -1,5 +1,5 @@
 -- The rules of a draft's entries by the answers of the tests that the code makes, and the chain of row 19. Assumes nothing.
-use Prim.Native.Nat.{ℕ, zero, suc, _+_, _*_, _/_, _≤_, _<_}
+use Prim.Native.Nat.{ℕ, _+_, _/_, _≤_, _<_}
 use mathlib.Core.Path.{_≡_, refl, sym, ap, _∙_}
 use mathlib.Core.List.{List, []}
 use mathlib.Core.Bool.{Bool, true, false, not}
@@ -14,7 +14,7 @@ use Rattle.laws.proofs.First.{both, second, pass, fail, passed, first-next}
 use Rattle.image.specs.declared.TextEntry.{TextEntry}
 use Rattle.image.specs.declared.Definition.{Definition}
 use Rattle.image.specs.Sections.{Sections, definitionCount, childWord, goodIn}
-use Rattle.image.specs.Entries.{textEntryOf, definitionOf, namedIn, itemIn, definitionIn}
+use Rattle.image.specs.Entries.{textEntryOf, definitionOf, definitionIn}
 use Rattle.image.proofs.Entries.{named-entry, item-entry, definition-entry}
 use Rattle.records.specs.Shown.{insideAmong, follows}
 use Rattle.records.proofs.Tests.{refused, first-broken, first-done}

@@ -8,7 +8,6 @@ use mir.Val.{Fits}
 use lib.Dec.{leb}
 use borrow.Author.Tests.{le-leb, lt-leb, leb-true}
 use Rattle.laws.specs.Refusal.{unless}
-use Rattle.draft.specs.declared.Needed.{Needed}
 use Rattle.draft.specs.declared.Needed.the-variants.{Words, TooMany}
 use Rattle.draft.specs.Needs.{neededOf, neededNumber}
 

@@ -1,5 +1,5 @@
 -- The loop over a draft's nodes: what it is told of each node, and what it has shown when it has passed some. Assumes nothing.
-use Prim.Native.Nat.{ℕ, zero, suc, _+_, _*_, _/_, _≤_, _<_}
+use Prim.Native.Nat.{ℕ, zero, suc, _+_, _/_, _≤_, _<_}
 use mathlib.Core.Path.{_≡_, refl, sym, ap, _∙_}
 use mathlib.Core.List.{List, []}
 use mathlib.Core.Bool.{Bool, true, false, _||_}
@@ -18,7 +18,7 @@ use Rattle.records.specs.declared.Counts.{Counts}
 use Rattle.records.specs.declared.Sums.{Sums}
 use Rattle.records.specs.Fields.{kindOf}
 use Rattle.records.specs.Records.{targetIn, fieldsRule, containersBefore, usedUp}
-use Rattle.records.specs.Shown.{Shows, tagIn, countsOf, sumsBefore, insideAmong}
+use Rattle.records.specs.Shown.{Shows, tagIn, sumsBefore, insideAmong}
 use Rattle.records.proofs.Tests.{refused, first-broken, first-done}
 use Rattle.records.proofs.Passed.{first-sums, within}
 use Rattle.draft.specs.Source.{NodesFrom, draftOf}

@@ -1,14 +1,14 @@
 -- The rules of row 21 by the tests that the code makes. Assumes nothing.
-use Prim.Native.Nat.{ℕ, zero, suc, _+_, _*_, _-_, _/_, _≤_, _<_}
+use Prim.Native.Nat.{ℕ, _+_, _*_, _-_, _/_, _≤_, _<_}
 use mathlib.Core.Path.{_≡_, refl, sym, ap, _∙_}
 use mathlib.Core.List.{List, []}
 use mathlib.Core.Bool.{Bool, true, false, cond, not, _&&_}
 use native.Mathlib.Omega.{arith}
 use native.Mathlib.Nat.{add-zero}
 use lib.ListN.{length, getD}
-use lib.Dec.{eqb, leb}
+use lib.Dec.{eqb}
 use borrow.Author.Tests.{not-true, not-false, eq-eqb, ne-eqb}
-use Rattle.laws.specs.Refusal.{unless, countsAs, passes, _▸_, firstOf}
+use Rattle.laws.specs.Refusal.{unless, passes, _▸_, firstOf}
 use Rattle.laws.specs.Counted.{allOf}
 use Rattle.laws.proofs.First.{pass, fail}
 use Rattle.texts.specs.declared.Order.{Order}
@@ -16,11 +16,10 @@ use Rattle.texts.specs.Text.{before, rising, orderOf, isLess}
 use Rattle.image.specs.declared.NodeRecord.{NodeRecord}
 use Rattle.image.specs.declared.TextEntry.{TextEntry}
 use Rattle.image.specs.declared.Definition.{Definition}
-use Rattle.image.specs.Sections.{Sections, nodeCount, definitionCount, nodeWord, childWord, parentOf, placeOf, tagOf, f, inside, isContainer, insideContainer, goodText, textIn, textAt, partAt}
+use Rattle.image.specs.Sections.{Sections, nodeWord, childWord, parentOf, placeOf, tagOf, f, inside, isContainer, insideContainer, goodText, textIn}
 use Rattle.image.specs.Entries.{textEntryOf, definitionOf, nodeIn, namedIn}
 use Rattle.image.proofs.Entries.{IsNode, is-node, named-entry, item-entry, definition-entry}
 use Rattle.image.proofs.Parts.{good-part}
-use Rattle.records.specs.declared.Counts.{Counts}
 use Rattle.records.specs.Records.{childrenOf, namedOf, parentRule}
 use Rattle.records.specs.Shown.{ShowsParent, tagIn, insideAmong}
 use Rattle.records.proofs.Tests.{stop, go}

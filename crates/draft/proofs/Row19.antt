@@ -4,7 +4,6 @@ use mathlib.Core.Path.{_≡_, refl, sym, ap, _∙_}
 use mathlib.Core.List.{List, []}
 use mathlib.Core.Bool.{Bool, true, false, not}
 use Rattle.laws.specs.Refusal.{unless, _▸_, firstOf}
-use Rattle.laws.specs.Counted.{sumOf}
 use Rattle.laws.proofs.First.{second}
 use Rattle.image.specs.Sections.{Sections, nodeCount, childCount, namedCount, definitionCount, itemCount, childWord, namedWord, definitionWord, itemWord}
 use Rattle.records.specs.Records.{usedUp}

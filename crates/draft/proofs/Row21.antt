@@ -5,7 +5,7 @@ use mathlib.Core.List.{List, []}
 use mathlib.Core.Bool.{Bool, true, false, not}
 use native.Mathlib.Omega.{arith}
 use lib.ListN.{length}
-use Rattle.laws.specs.Refusal.{unless, _▸_, firstOf}
+use Rattle.laws.specs.Refusal.{_▸_, firstOf}
 use Rattle.laws.proofs.First.{second}
 use Rattle.image.specs.Sections.{Sections, nodeCount, definitionCount, nodeWord, childWord, namedWord, definitionWord, itemWord}
 use Rattle.records.specs.Records.{childrenOf, namedOf, parentRule, rootRight}

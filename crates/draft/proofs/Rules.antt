@@ -1,13 +1,11 @@
 -- What the rules 19 and 21 say of a draft that breaks none of them, one fact at a time. Assumes nothing.
 use Prim.Native.Nat.{ℕ, zero, _+_, _*_, _%_, _/_, _≤_, _<_}
-use mathlib.Core.Path.{_≡_, refl, sym, ap, _∙_, subst}
-use mathlib.Core.Bool.{Bool, true, false, _&&_, _||_, not}
+use mathlib.Core.Path.{_≡_, sym, subst}
+use mathlib.Core.Bool.{true, _&&_, _||_}
 use native.Mathlib.Omega.{arith}
-use native.Mathlib.Nat.{le-trans}
 use lib.ListN.{length}
 use lib.Dec.{eqb, leb}
 use borrow.Author.Tests.{eqb-true, eqb-false, leb-true, ne-eqb, not-true}
-use Rattle.laws.specs.Refusal.{unless, _▸_, firstOf}
 use Rattle.laws.proofs.First.{both, passed, as-zero, first-all}
 use Rattle.texts.specs.Text.{rising}
 use Rattle.image.specs.Sections.{Sections, nodeCount, childCount, namedCount, definitionCount, itemCount, parentOf, f, childWord, namedWord, goodText, inside, isContainer}
@@ -15,7 +13,7 @@ use Rattle.image.specs.Header.{nodeWords}
 use Rattle.records.specs.Records.{childrenOf, namedOf, fieldsRule, parentRule, rootRight, usedUp}
 use Rattle.records.proofs.Passed.{Node, node-of, ranges as fields-ranges}
 use Rattle.tree.specs.Tree.{childAt, namedAt, entryNodes, entriesRule}
-use Rattle.tree.specs.Parts.{Counts, Ranges, Fit}
+use Rattle.tree.specs.Parts.{Counts, Fit}
 use Rattle.tree.proofs.Members.{both-true, All}
 use Rattle.tree.proofs.Entries.{entry-each, child-container, named-container, counts}
 use Rattle.index.specs.Definitions.{goodDefinition, goodItem, firstItem, itemsOf, itemsBefore, itemsRight, itemsUsedUp, definitionText, itemTextOf}

@@ -1,6 +1,6 @@
 -- A run of tests that all must pass, as a loop makes them, and as a rule of refusals says it. Assumes nothing.
 use Prim.Native.Nat.{ℕ, zero, suc, _+_, _≤_, _<_}
-use mathlib.Core.Path.{_≡_, refl, sym, ap, _∙_}
+use mathlib.Core.Path.{_≡_, refl, sym, _∙_}
 use mathlib.Core.List.{List}
 use mathlib.Core.Bool.{Bool, true, false, not, _&&_}
 use native.Mathlib.Omega.{arith}
@@ -8,7 +8,7 @@ use borrow.Author.Tests.{not-true, not-false, ne-eqb}
 use Rattle.laws.specs.Refusal.{unless, countsAs, passes, _▸_, firstOf}
 use Rattle.laws.specs.Counted.{allOf}
 use Rattle.image.proofs.Tests.{all-next, all-fails}
-use Rattle.texts.specs.Text.{before, rising}
+use Rattle.texts.specs.Text.{rising}
 
 -- ---- the loop
 

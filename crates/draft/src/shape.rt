@@ -1,13 +1,12 @@
 // Row 21: the root, the parents, the tree's entries, the order of definitions and items. Row 19 has passed: texts are good and ranges are inside.
 ghost use mathlib.Core.Path.{_≡_};
-ghost use mathlib.Core.Bool.{_&&_};
 ghost use mathlib.Core.List.{[]};
 ghost use Prim.Native.Nat.{_+_, _*_, _≤_, _<_};
 ghost use lib.ListN.{length, getD};
 ghost use Rattle.laws.specs.Refusal.{firstOf};
 ghost use Rattle.laws.specs.Counted.{allOf};
 ghost use Rattle.texts.specs.Text.{before, rising};
-ghost use Rattle.image.specs.Sections.{nodeCount, definitionCount, textIn, insideContainer};
+ghost use Rattle.image.specs.Sections.{nodeCount, definitionCount, textIn};
 ghost use Rattle.tree.specs.Tree.{rightChild};
 ghost use Rattle.draft.specs.Source.{draftOf};
 ghost use Rattle.draft.specs.Draft.{tablesRule, relationRule, orderRule, shapeRule};

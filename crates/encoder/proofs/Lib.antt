@@ -1,3 +1,4 @@
 pub mod Joined
 pub mod Blocks
 pub mod Offsets
+pub mod ByPath

@@ -8,7 +8,7 @@ use lib.Seq.{getD-append-add}
 use Rattle.laws.specs.Counted.{joinOf, sumOf}
 use Rattle.encoder.specs.Strings.{offsetOf}
 use Rattle.encoder.specs.Ready.{OffsetsAt}
-use Rattle.encoder.proofs.Joined.{sum-below, join-length, join-at}
+use Rattle.encoder.proofs.Joined.{sum-below, sum-const, join-length, join-at}
 
 module _ (kept : List (List ℕ)) (w : List ℕ) (at : ℕ) where
   -- the word of the first
@@ -32,3 +32,10 @@ module _ (kept : List (List ℕ)) (w : List ℕ) (at : ℕ) where
       ap (λ (m : ℕ). getD w m 0) z
       ∙ o (before + k) (omega (arith, join-length n g, sum-below j n (λ m. length (g m)) h))
       ∙ ap (offsetOf kept) (join-at [] n j k g h q)
+
+  -- of one text a part
+  pub offsets-each : (n : ℕ) (text : ℕ → List ℕ) → OffsetsAt kept (joinOf n (λ j. text j ∷ [])) w at → (j : ℕ) → j < n
+      → getD w (at + j) 0 ≡ offsetOf kept (text j)
+  offsets-each n text o j h =
+      let z : at + j ≡ at + sumOf j (λ m. 1) + 0 = omega (arith, sum-const j 1) in
+      ap (λ (k : ℕ). getD w k 0) z ∙ offsets-part n (λ m. text m ∷ []) o j h 0 (omega arith)

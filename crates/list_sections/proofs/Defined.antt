@@ -16,7 +16,7 @@ use Rattle.encoder.specs.Written.{definitionOut, itemOut}
 use Rattle.encoder.proofs.Joined.{sum-const, join-same, join-length}
 use Rattle.encoder.proofs.Offsets.{offset-first, offsets-right, offsets-part}
 use Rattle.tree.proofs.Members.{sum-ext}
-use Rattle.node_section.proofs.Fielded.{text-length}
+use Rattle.sections.proofs.Told.{text-length}
 use Rattle.list_sections.specs.Entered.{textsBefore, itemsBefore, definitionWords, itemWords, itemsWords}
 
 -- ---- joined parts

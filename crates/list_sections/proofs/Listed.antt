@@ -24,7 +24,8 @@ use Rattle.encoder.specs.Written.{listItemOut, listOriginOut, listOut, payloadO
 use Rattle.encoder.proofs.Joined.{sum-const, join-same, join-length}
 use Rattle.encoder.proofs.Offsets.{offset-first, offsets-left, offsets-right, offsets-part}
 use Rattle.node_section.specs.Encoded.{textCount, optionalOffset}
-use Rattle.node_section.proofs.Fielded.{Optional, optional-of, optional-length, optional-offset, optional-count, text-length, items-word, origins-word, item-word, item-length}
+use Rattle.sections.proofs.Told.{text-length}
+use Rattle.node_section.proofs.Fielded.{Optional, optional-of, optional-length, optional-offset, optional-count, items-word, origins-word, item-word, item-length}
 use Rattle.list_sections.specs.Entered.{itemTexts, listItemWords, listOriginWords, listWords, nodeListWords}
 
 module _ (s : Sections) (order : List ℕ) (kept : List (List ℕ)) (w : List ℕ) (at len : ℕ) (q : ListPassed s at len) where

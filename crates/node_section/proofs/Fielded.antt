@@ -27,7 +27,7 @@ use Rattle.encoder.proofs.Joined.{join-length, sum-const}
 use Rattle.encoder.proofs.Offsets.{offset-first, offsets-left, offsets-right}
 use Rattle.tree.proofs.Members.{sum-ext, sum-add}
 use Rattle.sections.specs.Held.{newIn}
-use Rattle.sections.proofs.Told.{new-is, new-none}
+use Rattle.sections.proofs.Told.{new-is, new-none, text-length}
 use Rattle.node_section.specs.declared.kinds.Starts.{Starts}
 use Rattle.node_section.specs.Encoded.{textCount, optionalOffset, recordWords, encodedBy, listTextsIn, textsBy}
 
@@ -47,13 +47,9 @@ module _ (s : Sections) (a l : ℕ) where
       by (yes p) (no d) = absurd (true≢false (sym h ∙ optional-half (s .strings) a l p d))
       by (no d) q = there d (sym (optional-present (s .strings) a l d) ∙ h)
 
-  -- the length of a good text is the length's word
-  pub text-length : goodText s a l ≡ true → l ≡ length (textAt s a l)
-  text-length h = sym (part-length (s .strings) a l (good (s .strings) a l h .inside))
-
   pub optional-length : Optional s a l → l ≡ cond (absent a l) NONE (length (textAt s a l))
   optional-length (gone p q) = rw (eq-eqb a NONE p, eq-eqb l NONE q) q
-  optional-length (there d h) = rw (ne-eqb a NONE d) (text-length h)
+  optional-length (there d h) = rw (ne-eqb a NONE d) (text-length s a l h)
 
   -- it is one text or none
   pub optional-count : Optional s a l → length (textIf s a l) ≡ textCount a

@@ -10,9 +10,8 @@ use Rattle.words.specs.Words.{NONE}
 use Rattle.image.specs.declared.NodeRecord.{NodeRecord}
 use Rattle.image.specs.Entries.{recordOf}
 use Rattle.records.specs.Fields.{kindOf}
-use Rattle.records.specs.Records.{childrenOf, namedOf, payloadOf}
 use Rattle.sections.specs.declared.numbers.Numbers.{Numbers}
-use Rattle.sections.specs.Held.{nodesOnly, OrderFits}
+use Rattle.sections.specs.Held.{OrderFits, childrenBy, namedBy, payloadBy}
 use Rattle.node_section.specs.declared.kinds.Starts.{Starts}
 use Rattle.node_section.specs.Encoded.{textsBy}
 
@@ -43,17 +42,8 @@ textsAt nodes payload i = textsBy payload (recordOf nodes i) (kindOf (recordOf n
 -- ---- the image's nodes before node j, whose numbers in the draft the words from `order` on hold
 
 module _ (nodes w : List ℕ) (order : ℕ) where
-  abbrev pub childrenBy : ℕ → ℕ
-  childrenBy j = sumOf j (λ m. childrenOf (nodesOnly nodes) (getD w (order + m) 0))
-
-  abbrev pub namedBy : ℕ → ℕ
-  namedBy j = sumOf j (λ m. namedOf (nodesOnly nodes) (getD w (order + m) 0))
-
-  abbrev pub payloadBy : ℕ → ℕ
-  payloadBy j = sumOf j (λ m. payloadOf (nodesOnly nodes) (getD w (order + m) 0))
-
   abbrev pub startsBy : ℕ → Starts
-  startsBy j = record { children = childrenBy j; named = namedBy j; payload = payloadBy j }
+  startsBy j = record { children = childrenBy nodes w order j; named = namedBy nodes w order j; payload = payloadBy nodes w order j }
 
   abbrev pub usedBy : List ℕ → ℕ → ℕ
   usedBy payload j = sumOf j (λ m. textsAt nodes payload (getD w (order + m) 0))

@@ -109,6 +109,9 @@ front-is done out₀ out f =
     let z : 0 + length done ≡ length done = omega arith in
     rw z at (f .is)
 
+pub filled-front : (done out₀ out : List ℕ) → length done ≤ length out₀ → out ≡ over done out₀ → Filled 0 done out₀ out
+filled-front done out₀ out h e = more 0 [] out₀ out₀ (start 0 out₀ (omega arith)) done 0 (length done) out (omega arith) (omega arith) h e
+
 -- ---- the words of a slice, one by one: the first i are written
 
 pub record Putting (at : ℕ) (ws : List ℕ) (out₀ out : List ℕ) (i : ℕ) : Type 0 where

@@ -81,3 +81,14 @@ module _ (base n : ℕ) (x : ℕ → ℕ) (out₀ out : List ℕ) (j at : ℕ) (
       → Running base n (λ m. x m ∷ []) out₀ out′ (j + 1) (at + 4)
   unfolding bytesOf
   word-next v out′ h e q = run-next base n (λ m. x m ∷ []) out₀ out j at r (v ∷ []) out′ (at + 4) h (ap (λ (y : ℕ). y ∷ []) e) q refl
+
+-- ---- entries of three words
+
+module _ (base n : ℕ) (x y z : ℕ → ℕ) (out₀ out : List ℕ) (j at : ℕ) (r : Running base n (λ m. x m ∷ y m ∷ z m ∷ []) out₀ out j at) where
+  pub three-room : j < n → at + 12 ≤ length out
+  three-room h = run-room base n (λ m. x m ∷ y m ∷ z m ∷ []) out₀ out j at r h
+
+  pub three-next : (a b c : ℕ) (out′ : List ℕ) → j < n → a ≡ x j → b ≡ y j → c ≡ z j → out′ ≡ putAt out at (a ∷ b ∷ c ∷ [])
+      → Running base n (λ m. x m ∷ y m ∷ z m ∷ []) out₀ out′ (j + 1) (at + 12)
+  three-next a b c out′ h e d f q =
+      run-next base n (λ m. x m ∷ y m ∷ z m ∷ []) out₀ out j at r (a ∷ b ∷ c ∷ []) out′ (at + 12) h (λ t. e t ∷ d t ∷ f t ∷ []) q refl

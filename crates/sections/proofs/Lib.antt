@@ -1,2 +1,4 @@
 pub mod Told
 pub mod Ordered
+pub mod Entered
+pub mod Pathed

@@ -22,7 +22,7 @@ use Rattle.encoder.specs.Ready.{OldsAt, NewsAt}
 use Rattle.encoder.proofs.Joined.{join-len, ones-len}
 use Rattle.outputs.specs.Output.{putAt, over}
 use Rattle.outputs.proofs.Running.{Running, run-start, run-room, run-next, run-front}
-use Rattle.sections.specs.Held.{newIn, nodesOnly, childWords, childWordsOf, childrenSize}
+use Rattle.sections.specs.Held.{newIn, nodesOnly, childWords, childWordsOf, childrenBy}
 use Rattle.sections.proofs.Told.{join-same, retold, told, new-is}
 
 pub child-words-length : (children w : List ℕ) (new first count : ℕ) → length (childWords children w new first count) ≡ count
@@ -36,7 +36,7 @@ words-of-length nodes children w new i = child-words-length children w new (f (n
 abbrev pub entry : List ℕ → List ℕ → List ℕ → ℕ → ℕ → ℕ → List ℕ
 entry nodes children w order new j = childWordsOf nodes children w new (getD w (order + j) 0)
 
-pub section-length : (nodes children w : List ℕ) (order new : ℕ) → length (joinOf (length nodes / 10) (entry nodes children w order new)) ≡ childrenSize nodes w order
+pub section-length : (nodes children w : List ℕ) (order new : ℕ) → length (joinOf (length nodes / 10) (entry nodes children w order new)) ≡ childrenBy nodes w order (length nodes / 10)
 section-length nodes children w order new =
     join-len (length nodes / 10) (entry nodes children w order new) (λ j. childrenOf (nodesOnly nodes) (getD w (order + j) 0))
     (λ j h. words-of-length nodes children w new (getD w (order + j) 0))
@@ -50,7 +50,7 @@ entry-of nodes children w new i r count e q =
 
 -- ---- the loop over the image's nodes
 
-pub begin : (nodes children w : List ℕ) (order new : ℕ) (out : List ℕ) → 4 * childrenSize nodes w order ≤ length out
+pub begin : (nodes children w : List ℕ) (order new : ℕ) (out : List ℕ) → 4 * childrenBy nodes w order (length nodes / 10) ≤ length out
     → Running 0 (length nodes / 10) (entry nodes children w order new) out out 0 0
 begin nodes children w order new out h =
     run-start 0 (length nodes / 10) (entry nodes children w order new) out (omega (arith, section-length nodes children w order new)) 0 refl

@@ -1,11 +1,13 @@
 -- The draft whose words the section writers are lent, and the numbers that the work words hold. Assumes nothing.
 use Prim.Native.Nat.{ℕ, _<_}
-use mathlib.Core.Path.{_≡_, ap}
+use mathlib.Core.Path.{_≡_, sym, ap}
 use mathlib.Core.List.{List}
-use mathlib.Core.Bool.{cond}
+use mathlib.Core.Bool.{true, cond}
 use borrow.Author.Tests.{eq-eqb}
 use Rattle.words.specs.Words.{NONE, isNone}
-use Rattle.image.specs.Sections.{Sections}
+use Rattle.image.specs.Sections.{Sections, textAt, goodText}
+use Rattle.image.proofs.Parts.{good, part-length}
+use lib.ListN.{length}
 use Rattle.image.specs.Header.{nodeWords}
 use Rattle.draft.specs.Numbering.{newOf}
 use Rattle.encoder.specs.Ready.{NewsAt}
@@ -51,3 +53,7 @@ new-is order w n new x h k = ap (cond (isNone x) NONE) (h x k)
 pub new-none : (order w : List ℕ) (new x : ℕ) → x ≡ NONE → newIn w new x ≡ newOf order x
 unfolding newIn newOf
 new-none order w new x e = rw (eq-eqb x NONE e)
+
+-- the length of a good text is the length's word
+pub text-length : (s : Sections) (a l : ℕ) → goodText s a l ≡ true → l ≡ length (textAt s a l)
+text-length s a l h = sym (part-length (s .strings) a l (good (s .strings) a l h .inside))

@@ -1,13 +1,13 @@
 -- What the section writers read out of the draft's words and the work words, over plain lists; laws tie it to the written sections.
 -- Assumes nothing.
-use Prim.Native.Nat.{ℕ, _+_, _/_, _≤_, _<_}
+use Prim.Native.Nat.{ℕ, _+_, _*_, _/_, _≤_, _<_}
 use mathlib.Core.List.{List, [], _∷_}
 use mathlib.Core.Bool.{cond}
 use lib.ListN.{length, getD}
 use Rattle.laws.specs.Counted.{joinOf, sumOf}
 use Rattle.words.specs.Words.{NONE, isNone}
 use Rattle.image.specs.Sections.{Sections, f}
-use Rattle.records.specs.Records.{childrenOf}
+use Rattle.records.specs.Records.{childrenOf, namedOf, payloadOf}
 use Rattle.draft.specs.Source.{draftOf}
 use Rattle.sections.specs.declared.numbers.Numbers.{Numbers}
 
@@ -37,6 +37,32 @@ childWords children w new first count = joinOf count (λ j. newIn w new (getD ch
 unfoldable pub childWordsOf : List ℕ → List ℕ → List ℕ → ℕ → ℕ → List ℕ
 childWordsOf nodes children w new i = childWords children w new (f (nodesOnly nodes) i 3) (childrenOf (nodesOnly nodes) i)
 
--- how many there are
-abbrev pub childrenSize : List ℕ → List ℕ → ℕ → ℕ
-childrenSize nodes w order = sumOf (length nodes / 10) (λ j. childrenOf (nodesOnly nodes) (getD w (order + j) 0))
+-- ---- named children
+
+-- of one node, where the offset of its first text is the word at `text`: offset, length, number of each in the image
+abbrev pub namedWords : List ℕ → List ℕ → ℕ → ℕ → ℕ → ℕ → List ℕ
+namedWords named w new text first count =
+    joinOf count
+    (λ j. getD w (text + j) 0 ∷ getD named ((first + j) * 3 + 1) 0 ∷ newIn w new (getD named ((first + j) * 3 + 2) 0) ∷ [])
+
+-- of draft's node i
+unfoldable pub namedWordsOf : List ℕ → List ℕ → List ℕ → ℕ → ℕ → ℕ → List ℕ
+namedWordsOf nodes named w new text i = namedWords named w new text (f (nodesOnly nodes) i 5) (namedOf (nodesOnly nodes) i)
+
+-- ---- the image's nodes before node j, whose numbers in the draft the words from `order` on hold
+
+module _ (nodes w : List ℕ) (order : ℕ) where
+  -- their ordered children, their named children, their bytes of payload
+  abbrev pub childrenBy : ℕ → ℕ
+  childrenBy j = sumOf j (λ m. childrenOf (nodesOnly nodes) (getD w (order + m) 0))
+
+  abbrev pub namedBy : ℕ → ℕ
+  namedBy j = sumOf j (λ m. namedOf (nodesOnly nodes) (getD w (order + m) 0))
+
+  abbrev pub payloadBy : ℕ → ℕ
+  payloadBy j = sumOf j (λ m. payloadOf (nodesOnly nodes) (getD w (order + m) 0))
+
+-- what a section of named children needs of the words: numbers of nodes, and an offset for each text
+pub record NamedFit (nodes w : List ℕ) (n : Numbers) : Type 0 where
+  pub order : OrderFits nodes w n
+  pub texts : n .offsets + namedBy nodes w (n .order) (length nodes / 10) ≤ length w

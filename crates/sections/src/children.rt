@@ -2,7 +2,7 @@
 ghost use mathlib.Core.Path.{_≡_};
 ghost use mathlib.Core.List.{List};
 ghost use mathlib.Core.Bool.{cond};
-ghost use Prim.Native.Nat.{ℕ, _+_, _*_, _≤_};
+ghost use Prim.Native.Nat.{ℕ, _+_, _*_, _/_, _≤_};
 ghost use lib.ListN.{length};
 ghost use lib.Dec.{eqb};
 ghost use Rattle.laws.specs.Counted.{joinOf};
@@ -14,7 +14,7 @@ ghost use Rattle.draft.specs.Numbering.{oldOf};
 ghost use Rattle.encoder.specs.Written.{childrenOut};
 ghost use Rattle.encoder.specs.Ready.{OldsAt, NewsAt};
 ghost use Rattle.outputs.specs.Output.{over, putAt};
-ghost use Rattle.sections.specs.Held.{childWords, OrderFits, childrenSize};
+ghost use Rattle.sections.specs.Held.{childWords, OrderFits, childrenBy};
 use crate::numbers::Numbers;
 use crate::numbers::new_number;
 use draft::source::node_at;
@@ -57,7 +57,7 @@ fn put_children_of(
 // Writes the section at the start of the output.
 pub fn put_children(nodes: &[u32], children: &[u32], work: &[u32], numbers: Numbers, out: &mut [u8])
     requires { ⌜ OrderFits (now nodes) (now work) numbers ⌝ }
-    requires { ⌜ 4 * childrenSize (now nodes) (now work) (numbers .order) ≤ length (now out) ⌝ }
+    requires { ⌜ 4 * childrenBy (now nodes) (now work) (numbers .order) (length (now nodes) / 10) ≤ length (now out) ⌝ }
     ensures { λ r. ⌜ ((s : Sections) (order : List ℕ) (kept : List (List ℕ)) → s .nodes ≡ now (nodes .entry) → s .stride ≡ nodeWords → s .children ≡ now (children .entry) → tablesRule s ≡ 0 → OldsAt order (now (work .entry)) (nodeCount s) (numbers .order) → NewsAt order (now (work .entry)) (nodeCount s) (numbers .new) → now (out .exit) ≡ over (bytesOf (joinOf (nodeCount s) (λ j. childrenOut s order kept (oldOf order j)))) (now (out .entry))) ⌝ }
 {
     let order = numbers.order;

@@ -23,7 +23,7 @@ use Rattle.draft.specs.Draft.{newPath}
 use Rattle.draft.specs.Numbering.{oldOf}
 use Rattle.encoder.specs.Strings.{insertBy, sortBy, byPath, pathOf, offsetOf}
 use Rattle.encoder.specs.Written.{indexOut}
-use Rattle.encoder.proofs.Joined.{all-nth}
+use Rattle.encoder.proofs.ByPath.{sort-all, those-pass, path-node}
 use Rattle.written.proofs.Lists.{or-else}
 use Rattle.encoder.proofs.Blocks.{w, index-count, index-word}
 use Rattle.written.proofs.Fields.{Given, counted, old-in, new-old, inside-written, container-same}
@@ -50,20 +50,6 @@ module _ (key : ℕ → List ℕ) where
   abbrev pub Apart : List ℕ → Type 0
   Apart [] = Unit {0}
   Apart (x ∷ xs) = All (Unlike x) xs × Apart xs
-
-  insert-all : (P : ℕ → Type 0) (i : ℕ) (js : List ℕ) → P i → All P js → All P (insertBy key i js)
-  unfolding insertBy
-  insert-all P i [] p a = (p, tt)
-  insert-all P i (j ∷ js) p a = go (before (key i) (key j)) (insert-all P i js p (a .1))
-    where
-      go : (b : Bool) → All P (insertBy key i js) → All P (cond b (i ∷ j ∷ js) (j ∷ insertBy key i js))
-      go true r = (p, a)
-      go false r = (a .0, r)
-
-  pub sort-all : (P : ℕ → Type 0) (is : List ℕ) → All P is → All P (sortBy key is)
-  unfolding sortBy
-  sort-all P [] a = tt
-  sort-all P (i ∷ is) a = insert-all P i (sortBy key is) (a .0) (sort-all P is (a .1))
 
   insert-length : (i : ℕ) (js : List ℕ) → length (insertBy key i js) ≡ suc (length js)
   unfolding insertBy
@@ -98,7 +84,7 @@ module _ (key : ℕ → List ℕ) where
   pub sort-rising : (is : List ℕ) → Apart is → Rising (sortBy key is)
   unfolding sortBy
   sort-rising [] a = tt
-  sort-rising (i ∷ is) a = insert-rising i (sortBy key is) (sort-all (Unlike i) is (a .0)) (sort-rising is (a .1))
+  sort-rising (i ∷ is) a = insert-rising i (sortBy key is) (sort-all key (Unlike i) is (a .0)) (sort-rising is (a .1))
 
   pub rising-at : (xs : List ℕ) (m : ℕ) → m < length xs → Rising xs → rising (λ k. key (getD xs k 0)) m ≡ true
   rising-at xs zero h r = refl
@@ -112,15 +98,6 @@ module _ (key : ℕ → List ℕ) where
   apart-last (x ∷ xs) n a u = (all-append (Unlike x) xs (n ∷ []) (a .0) (u .0, tt), apart-last xs n (a .1) (u .1))
 
 -- ---- the numbers below n that pass a test
-
-those-pass : (n : ℕ) (t : ℕ → Bool) → All (λ x. (x < n) × (t x ≡ true)) (those n t)
-unfolding those
-those-pass zero t = tt
-those-pass (suc n) t = go (all-map (those n t) (λ x p. (omega (arith, p .0), p .1)) (those-pass n t)) (t n) refl
-  where
-    go : All (λ x. (x < suc n) × (t x ≡ true)) (those n t) → (b : Bool) → t n ≡ b → All (λ x. (x < suc n) × (t x ≡ true)) (those n t ++ cond b (n ∷ []) [])
-    go more true e = all-append (λ x. (x < suc n) × (t x ≡ true)) (those n t) (n ∷ []) more ((omega arith, e), tt)
-    go more false e = all-append (λ x. (x < suc n) × (t x ≡ true)) (those n t) [] more tt
 
 those-length : (n : ℕ) (t : ℕ → Bool) → length (those n t) ≡ sumOf n (λ x. cond (t x) 1 0)
 unfolding those sumOf
@@ -176,10 +153,6 @@ module _ {s : Sections} {order : List ℕ} {kept : List (List ℕ)} (g : Given s
       differ : x ≡ y → ⊥
       differ e = omega arith
 
-  boxes-pass : All (λ j. (j < nodeCount s) × (isContainer s (oldOf order j) ≡ true)) boxes
-  unfolding byPath
-  boxes-pass = sort-all (pathOf s order) _ (those (nodeCount s) (λ j. isContainer s (oldOf order j))) (those-pass (nodeCount s) (λ j. isContainer s (oldOf order j)))
-
   boxes-rise : Rising (pathOf s order) boxes
   unfolding byPath
   boxes-rise =
@@ -189,7 +162,7 @@ module _ {s : Sections} {order : List ℕ} {kept : List (List ℕ)} (g : Given s
   module _ (k : ℕ) (h : k < length boxes) where
     -- it is a container
     pub index-node : (target k < nodeCount s) × (isContainer s (oldOf order (target k)) ≡ true)
-    index-node = all-nth (λ j. (j < nodeCount s) × (isContainer s (oldOf order j) ≡ true)) boxes k h boxes-pass
+    index-node = path-node s order k h
 
     pub index-target : indexWord v k 2 ≡ target k
     unfolding indexOut

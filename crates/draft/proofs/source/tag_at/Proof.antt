@@ -1,5 +1,4 @@
 -- `draft::source::tag_at` meets its contract. Assumes nothing.
-use mathlib.Core.Path.{_∙_}
 use borrow.Author.Needs.{needs}
 use Rattle.laws.proofs.Cases.{flag-yes, flag-no}
 use Rattle.image.specs.Sections.{nodeWord}

@@ -5,7 +5,6 @@ use mathlib.Core.Path.{refl, sym, _∙_}
 use mathlib.Core.List.{List, []}
 use native.Mathlib.Omega.{arith}
 use borrow.Author.Needs.{needs}
-use denote.Ref.{now}
 use Rattle.draft.specs.Source.{draftOf}
 use Rattle.draft.proofs.NodeTable.{Passing, passing-start, passing-next, given, few, fields-pass, node-is, refused-here, all-summed, all-used, left-over}
 use Rattle.draft.proofs.tables.nodes_rule.Statement.{statement}

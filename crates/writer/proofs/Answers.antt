@@ -1,0 +1,112 @@
+-- The writer's number, test by test in the order of the code. Assumes nothing.
+use Prim.Native.Nat.{ℕ, zero, suc, _≤_}
+use mathlib.Core.Path.{_≡_, refl, sym, ap, _∙_}
+use mathlib.Core.Bool.{Bool, true, false, _&&_}
+use native.Mathlib.Omega.{arith}
+use lib.ListN.{length}
+use lib.Dec.{leb}
+use borrow.Author.Tests.{le-leb, lt-leb, leb-true, leb-false}
+use Rattle.laws.specs.Refusal.{unless, _▸_}
+use Rattle.laws.proofs.First.{both, first, second, pass, passed, fail}
+use Rattle.words.specs.Words.{NONE}
+use Rattle.image.specs.Header.{inkRight, nodeWords}
+use Rattle.image.specs.Sections.{Sections}
+use Rattle.draft.specs.Draft.{tablesRule, writeWords, reachRule, shapeRule, pathsRule}
+use Rattle.encoder.specs.Encode.{imageFor, draftRule, encodeRule, untouched}
+use Rattle.fill.specs.Length.{storedBytes, imageLength}
+use Rattle.fill.proofs.Sized.{length-is}
+use Rattle.writer.proofs.Numbers.{reach-clears, shape-clears, paths-clear, room-clears, both-clear}
+
+-- the rules that are tested while the image is planned
+abbrev planned : Sections → ℕ
+planned s = reachRule s ▸ shapeRule s ▸ pathsRule s ▸ unless (leb (length (storedBytes s)) NONE) 23
+
+-- the image fits the output, and a word can say how long it is
+abbrev pub fits : ℕ → Sections → ℕ → Bool
+fits ink s room = leb (length (imageFor ink s)) room && leb (length (imageFor ink s)) NONE
+
+onward : (a b c : ℕ) → ((a ▸ b) ▸ c) ≡ (a ▸ (b ▸ c))
+unfolding _▸_
+onward zero b c = refl
+onward (suc a) b c = refl
+
+-- a refusal stands
+stops : (a b : ℕ) → (a ≡ 0 → ⊥) → (a ▸ b) ≡ a
+unfolding _▸_
+stops zero b d = absurd (d refl)
+stops (suc a) b d = refl
+
+-- two last tests, of which the first that refuses decides
+alike : (a x y : ℕ) → ((a ▸ x) ≡ 0 → ⊥) → (a ≡ 0 → (x ≡ 0 → ⊥) → y ≡ x) → (a ▸ y) ≡ (a ▸ x)
+unfolding _▸_
+alike zero x y d e = e refl d
+alike (suc a) x y d e = refl
+
+module _ (ink : ℕ) (s : Sections) (work room : ℕ) where
+  rows : (x : ℕ) → ((reachRule s ▸ shapeRule s ▸ pathsRule s) ▸ x) ≡ (reachRule s ▸ shapeRule s ▸ pathsRule s ▸ x)
+  rows x = onward _ _ _ ∙ ap (λ (r : ℕ). reachRule s ▸ r) (onward _ _ _)
+
+  -- all tests in one row
+  in-row : encodeRule ink s work room
+      ≡ (unless (inkRight ink) 3 ▸ tablesRule s ▸ unless (leb (writeWords s) work) 7 ▸ reachRule s ▸ shapeRule s ▸ pathsRule s ▸ unless (fits ink s room) 23)
+  unfolding encodeRule draftRule
+  in-row =
+      onward _ _ _
+      ∙ ap (λ (r : ℕ). unless (inkRight ink) 3 ▸ r)
+      (onward _ _ _
+      ∙ ap (λ (r : ℕ). tablesRule s ▸ r)
+      (onward _ _ _ ∙ ap (λ (r : ℕ). unless (leb (writeWords s) work) 7 ▸ r) (onward _ _ _ ∙ ap (λ (r : ℕ). reachRule s ▸ r) (onward _ _ _))))
+
+  pub ink-wrong : inkRight ink ≡ false → encodeRule ink s work room ≡ 3
+  ink-wrong h = in-row ∙ first (unless (inkRight ink) 3) _ 2 (fail (inkRight ink) 3 h)
+
+  module _ (h : inkRight ink ≡ true) where
+    after-ink : encodeRule ink s work room ≡ (tablesRule s ▸ unless (leb (writeWords s) work) 7 ▸ reachRule s ▸ shapeRule s ▸ pathsRule s ▸ unless (fits ink s room) 23)
+    after-ink = in-row ∙ second (unless (inkRight ink) 3) _ (pass (inkRight ink) 3 h)
+
+    pub tables-wrong : (tablesRule s ≡ 0 → ⊥) → encodeRule ink s work room ≡ tablesRule s
+    tables-wrong d = after-ink ∙ stops (tablesRule s) _ d
+
+    module _ (p : tablesRule s ≡ 0) where
+      after-tables : encodeRule ink s work room ≡ (unless (leb (writeWords s) work) 7 ▸ reachRule s ▸ shapeRule s ▸ pathsRule s ▸ unless (fits ink s room) 23)
+      after-tables = after-ink ∙ second (tablesRule s) _ p
+
+      pub words-few : leb (writeWords s) work ≡ false → encodeRule ink s work room ≡ 7
+      words-few q = after-tables ∙ first (unless (leb (writeWords s) work) 7) _ 6 (fail _ 7 q)
+
+      module _ (q : leb (writeWords s) work ≡ true) where
+        after-words : encodeRule ink s work room ≡ (reachRule s ▸ shapeRule s ▸ pathsRule s ▸ unless (fits ink s room) 23)
+        after-words = after-tables ∙ second (unless (leb (writeWords s) work) 7) _ (pass _ 7 q)
+
+        -- the work words are cleared, whatever is answered from here on
+        pub cleared : untouched (encodeRule ink s work room) ≡ false
+        cleared =
+            ap untouched after-words
+            ∙ both-clear _ _ (reach-clears s) (both-clear _ _ (shape-clears s) (both-clear _ _ (paths-clear s) (room-clears (fits ink s room))))
+
+        module _ (ten : s .stride ≡ nodeWords) where
+          -- an image is longer than its strings
+          too-long : reachRule s ≡ 0 → leb (length (storedBytes s)) NONE ≡ false → fits ink s room ≡ false
+          too-long r e = go (leb (length (imageFor ink s)) room) (lt-leb (length (imageFor ink s)) NONE (omega (arith, leb-false (length (storedBytes s)) NONE e, length-is ink s ten p r)))
+            where
+              go : (a : Bool) {b : Bool} → b ≡ false → (a && b) ≡ false
+              go true f = f
+              go false f = refl
+
+          -- the plan's refusal
+          pub plan-wrong : (planned s ≡ 0 → ⊥) → encodeRule ink s work room ≡ planned s
+          plan-wrong d =
+              after-words ∙ sym (rows (unless (fits ink s room) 23))
+              ∙ alike (reachRule s ▸ shapeRule s ▸ pathsRule s) (unless (leb (length (storedBytes s)) NONE) 23) (unless (fits ink s room) 23)
+              (λ e. d (sym (rows _) ∙ e)) (λ e. strings (leb (length (storedBytes s)) NONE) refl (both _ _ e .0))
+              ∙ rows (unless (leb (length (storedBytes s)) NONE) 23)
+            where
+              strings : (b : Bool) → leb (length (storedBytes s)) NONE ≡ b → reachRule s ≡ 0 → (unless b 23 ≡ 0 → ⊥) → unless (fits ink s room) 23 ≡ unless b 23
+              strings true e r n = absurd (n (pass true 23 refl))
+              strings false e r n = fail (fits ink s room) 23 (too-long r e) ∙ sym (fail false 23 refl)
+
+        -- the plan is made: what is left is the room
+        pub room-decides : planned s ≡ 0 → encodeRule ink s work room ≡ unless (fits ink s room) 23
+        room-decides e =
+            after-words ∙ sym (rows (unless (fits ink s room) 23))
+            ∙ second (reachRule s ▸ shapeRule s ▸ pathsRule s) _ (both _ _ (rows (unless (leb (length (storedBytes s)) NONE) 23) ∙ e) .0)
