@@ -1,3 +1,4 @@
 pub mod Strings
 pub mod Written
 pub mod Encode
+pub mod Ready

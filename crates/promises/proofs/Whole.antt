@@ -140,19 +140,19 @@ module _ (s : Sections) (at len : ℕ) (r : PayloadRight s at len) where
   unfolding partAt listWord
   part-word k h = ap (λ (bs : List ℕ). wordAt bs k) part-is ∙ word-part at len (s .payload) k h
 
-  part-long : length part ≡ len
+  pub part-long : length part ≡ len
   part-long = ap length part-is ∙ part-length (s .payload) at len (r .inside)
 
-  items-are : wordAt part 0 ≡ listItems s at
+  pub items-are : wordAt part 0 ≡ listItems s at
   items-are = part-word 0 (omega (arith, r .long))
 
-  origins-are : wordAt part 4 ≡ listOrigins s at
+  pub origins-are : wordAt part 4 ≡ listOrigins s at
   origins-are = part-word 4 (omega (arith, r .long))
 
-  item-word : (j k : ℕ) → j < listItems s at → k < 5 → itemEntryWord part j k ≡ listItemWord s at j k
+  pub item-word : (j k : ℕ) → j < listItems s at → k < 5 → itemEntryWord part j k ≡ listItemWord s at j k
   item-word j k h l = part-word (8 + j * 20 + k * 4) (omega (arith, r .exact))
 
-  origin-word : (j k : ℕ) → j < listOrigins s at → k < 2 → originEntryWord part j k ≡ listOriginWord s at j k
+  pub origin-word : (j k : ℕ) → j < listOrigins s at → k < 2 → originEntryWord part j k ≡ listOriginWord s at j k
   origin-word j k h l = rw items-are (part-word (8 + listItems s at * 20 + j * 8 + k * 4) (omega (arith, r .exact)))
 
   item-read : (j : ℕ) → j < listItems s at → ItemRead s (span at len) j

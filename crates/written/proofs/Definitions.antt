@@ -27,19 +27,19 @@ module _ {s : Sections} {order : List ℕ} {kept : List (List ℕ)} (g : Given s
   -- ---- words
 
   module _ (d : ℕ) (h : d < definitionCount s) where
-    at-word : definitionWord v d 0 ≡ offsetOf kept (definitionText s d)
+    pub at-word : definitionWord v d 0 ≡ offsetOf kept (definitionText s d)
     unfolding definitionOut
     at-word = definition-word s order kept d 0 h (omega arith)
 
-    len-word : definitionWord v d 1 ≡ length (definitionText s d)
+    pub len-word : definitionWord v d 1 ≡ length (definitionText s d)
     unfolding definitionOut
     len-word = definition-word s order kept d 1 h (omega arith)
 
-    first-item : firstItem v d ≡ firstItem s d
+    pub first-item : firstItem v d ≡ firstItem s d
     unfolding definitionOut
     first-item = definition-word s order kept d 2 h (omega arith)
 
-    items-of : itemsOf v d ≡ itemsOf s d
+    pub items-of : itemsOf v d ≡ itemsOf s d
     unfolding definitionOut
     items-of = definition-word s order kept d 3 h (omega arith)
 
@@ -62,17 +62,17 @@ module _ {s : Sections} {order : List ℕ} {kept : List (List ℕ)} (g : Given s
       abbrev at : ℕ
       at = firstItem s d + j
 
-      item-inside : at < itemCount s
+      pub item-inside : at < itemCount s
       item-inside = omega (arith, items-right d h .0)
 
       item-at : firstItem v d + j ≡ at
       item-at = ap (λ (x : ℕ). x + j) (first-item d h)
 
-      item-at-word : itemWord v at 0 ≡ offsetOf kept (itemTextOf s d j)
+      pub item-at-word : itemWord v at 0 ≡ offsetOf kept (itemTextOf s d j)
       unfolding itemOut
       item-at-word = item-word s order kept at 0 item-inside (omega arith)
 
-      item-len-word : itemWord v at 1 ≡ length (itemTextOf s d j)
+      pub item-len-word : itemWord v at 1 ≡ length (itemTextOf s d j)
       unfolding itemOut
       item-len-word = item-word s order kept at 1 item-inside (omega arith)
 

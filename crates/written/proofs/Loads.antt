@@ -69,7 +69,7 @@ module _ (ink : ℕ) (s : Sections) (work room : ℕ) (ten : s .stride ≡ nodeW
   fits : length (imageOf ink (w s order kept)) ≤ NONE
   fits = subst (λ (bs : List ℕ). length bs ≤ NONE) image (image-fits ink s work room p)
 
-  given : Given s order kept
+  pub given : Given s order kept
   given =
       let t = taken ink s work room p in
       record {
@@ -90,7 +90,7 @@ module _ (ink : ℕ) (s : Sections) (work room : ℕ) (ten : s .stride ≡ nodeW
   all-whole : Whole (w s order kept)
   all-whole = whole given ten (omega (arith, image-length ink (w s order kept), fits))
 
-  back : sectionsOf (imageFor ink s) ≡ w s order kept
+  pub back : sectionsOf (imageFor ink s) ≡ w s order kept
   back = ap sectionsOf image ∙ round-trip ink (w s order kept) all-whole small
 
   header : headerRule (imageFor ink s) ≡ 0

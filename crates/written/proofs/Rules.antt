@@ -30,7 +30,7 @@ use Rattle.written.proofs.Payload.{strings-small, list-length, list-ite
 
 -- ---- the fields that only one tag has
 
-suits : ℕ → Field → Bool
+unfoldable pub suits : ℕ → Field → Bool
 suits tag children = eqb tag 1
 suits tag named = eqb tag 1
 suits tag payload = eqb tag 12
@@ -46,11 +46,11 @@ suits tag (plain k) = true
 suits tag (atMost k n) = true
 suits tag wrong = true
 
-all-suit : ℕ → List Field → Bool
+unfoldable pub all-suit : ℕ → List Field → Bool
 all-suit tag [] = true
 all-suit tag (x ∷ xs) = suits tag x && all-suit tag xs
 
-suited : (tag : ℕ) → all-suit tag (fields (kindOf tag)) ≡ true
+pub suited : (tag : ℕ) → all-suit tag (fields (kindOf tag)) ≡ true
 unfolding kinds fields suits all-suit
 suited tag = go (ltb tag 19) refl
   where
@@ -124,13 +124,13 @@ module _ {s : Sections} {order : List ℕ} {kept : List (List ℕ)} (g : Given s
     abbrev to : ℕ
     to = sumOf j (λ m. payloadOf s (oldOf order m))
 
-    items-same : listItems v to ≡ listItems s from
+    pub items-same : listItems v to ≡ listItems s from
     items-same = payload-word g j 0 h e (omega (arith, list-length s order kept from)) ∙ (unfold listOut in refl)
 
-    origins-same : listOrigins v to ≡ listOrigins s from
+    pub origins-same : listOrigins v to ≡ listOrigins s from
     origins-same = payload-word g j 1 h e (omega (arith, list-length s order kept from)) ∙ (unfold listOut in refl)
 
-    item-words : (m k : ℕ) → m < listItems s from → k < 5 → listItemWord v to m k ≡ getD (listItemOut s order kept from m) k 0
+    pub item-words : (m k : ℕ) → m < listItems s from → k < 5 → listItemWord v to m k ≡ getD (listItemOut s order kept from m) k 0
     item-words m k q r =
         ap (listWord v to) place ∙ payload-word g j (2 + m * 5 + k) h e (omega (arith, list-length s order kept from))
         ∙ list-item s order kept from m k q r
@@ -138,7 +138,7 @@ module _ {s : Sections} {order : List ℕ} {kept : List (List ℕ)} (g : Given s
         place : 8 + m * 20 + k * 4 ≡ 4 * (2 + m * 5 + k)
         place = omega arith
 
-    origin-words : (m k : ℕ) → m < listOrigins s from → k < 2 → listOriginWord v to m k ≡ getD (listOriginOut s order kept from m) k 0
+    pub origin-words : (m k : ℕ) → m < listOrigins s from → k < 2 → listOriginWord v to m k ≡ getD (listOriginOut s order kept from m) k 0
     origin-words m k q r =
         ap (listWord v to) place ∙ payload-word g j (2 + listItems s from * 5 + m * 2 + k) h e (omega (arith, list-length s order kept from))
         ∙ list-origin s order kept from m k q r
@@ -157,13 +157,13 @@ module _ {s : Sections} {order : List ℕ} {kept : List (List ℕ)} (g : Given s
       abbrev other : ℕ → List ℕ
       other m = textAt s (listOriginWord s from m 0) (listOriginWord s from m 1)
 
-      item-text : (m : ℕ) → m < listItems s from → (t : List ℕ) → holds (origin m ++ (name m ∷ [])) t ≡ true → holds kept t ≡ true
+      pub item-text : (m : ℕ) → m < listItems s from → (t : List ℕ) → holds (origin m ++ (name m ∷ [])) t ≡ true → holds kept t ≡ true
       unfolding listTexts
       item-text m q t z =
           k t (in-left (joinOf (listItems s from) (λ o. origin o ++ (name o ∷ []))) (joinOf (listOrigins s from) (λ o. other o ∷ [])) t
           (in-join (listItems s from) m (λ o. origin o ++ (name o ∷ [])) t q z))
 
-      origin-text : (m : ℕ) → m < listOrigins s from → holds kept (other m) ≡ true
+      pub origin-text : (m : ℕ) → m < listOrigins s from → holds kept (other m) ≡ true
       unfolding listTexts
       origin-text m q =
           k (other m) (in-right (joinOf (listItems s from) (λ o. origin o ++ (name o ∷ []))) (joinOf (listOrigins s from) (λ o. other o ∷ [])) (other m)
@@ -185,7 +185,7 @@ module _ {s : Sections} {order : List ℕ} {kept : List (List ℕ)} (g : Given s
           pass _ 10 (good-at (other m) (listOriginWord v to m 0) (listOriginWord v to m 1) (origin-text m q) (good-utf8 s _ _ (passed _ 9 p))
           (origin-words m 0 q (omega arith)) (origin-words m 1 q (omega arith)))
 
-      list-kept : payloadRule v to (f s (oldOf order j) 1) ≡ 0
+      pub list-kept : payloadRule v to (f s (oldOf order j) 1) ≡ 0
       unfolding payloadRule
       list-kept =
           let right = list-right g (oldOf order j) (old-in g j h) e in
@@ -243,11 +243,11 @@ module _ {s : Sections} {order : List ℕ} {kept : List (List ℕ)} (g : Given s
     abbrev i : ℕ
     i = oldOf order j
 
-    children-are : eqb (tagOf s i) 1 ≡ true → f s i 4 ≡ childrenOf s i
+    pub children-are : eqb (tagOf s i) 1 ≡ true → f s i 4 ≡ childrenOf s i
     unfolding childrenOf
     children-are e = rw e refl
 
-    named-are : eqb (tagOf s i) 1 ≡ true → f s i 6 ≡ namedOf s i
+    pub named-are : eqb (tagOf s i) 1 ≡ true → f s i 6 ≡ namedOf s i
     unfolding namedOf
     named-are e = rw e refl
 
@@ -319,7 +319,7 @@ module _ {s : Sections} {order : List ℕ} {kept : List (List ℕ)} (g : Given s
         (field-kept x (y .0) (r .0) (λ t q. l t (in-left (fieldTexts s i x) (flatMap (fieldTexts s i) xs) t q)) (both _ _ p .0))
         (fields-kept xs (y .1) (r .1) (λ t q. l t (in-right (fieldTexts s i x) (flatMap (fieldTexts s i) xs) t q)) (both _ _ p .1))
 
-    node-fields : fieldsRule v j ≡ 0
+    pub node-fields : fieldsRule v j ≡ 0
     node-fields =
         ap (λ (tag : ℕ). firstField v j (fields (kindOf tag))) (tag-word g j h)
         ∙ fields-kept (fieldsAt s i) (suited (tagOf s i)) (reads g j h) (g .stored .nodes j h) (g .taken .fields i (old-in g j h))

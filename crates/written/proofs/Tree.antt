@@ -42,13 +42,13 @@ module _ {s : Sections} {order : List ℕ} {kept : List (List ℕ)} (g : Given s
     abbrev i : ℕ
     i = oldOf order j
 
-    child-at : (m : ℕ) → m < childrenOf s i → childAt v j m ≡ newOf order (childAt s i m)
+    pub child-at : (m : ℕ) → m < childrenOf s i → childAt v j m ≡ newOf order (childAt s i m)
     child-at m q = ap (λ (x : ℕ). childWord v (x + m)) first-child ∙ child-word s order kept j m h q
       where
         first-child : f v j 3 ≡ sumOf j (λ k. childrenOf s (oldOf order k))
         first-child = unfold fields fieldWords in (container-reads g j h (child-container s i m q) .1 .1 .0 .0 ∙ start-is g (childrenOf s) j h)
 
-    named-at : (m k : ℕ) → m < namedOf s i → k < 3 → namedAt v j m k ≡ getD (textWords kept (namedText s i m) ++ (newOf order (namedAt s i m 2) ∷ [])) k 0
+    pub named-at : (m k : ℕ) → m < namedOf s i → k < 3 → namedAt v j m k ≡ getD (textWords kept (namedText s i m) ++ (newOf order (namedAt s i m 2) ∷ [])) k 0
     named-at m k q r = ap (λ (x : ℕ). namedWord v (x + m) k) first-named ∙ named-word s order kept j m k h q r
       where
         first-named : f v j 5 ≡ sumOf j (λ o. namedOf s (oldOf order o))
