@@ -18,7 +18,7 @@ use Rattle.encoder.specs.Strings.{textIf, offsetOf}
 use Rattle.views.specs.declared.OptionalWord.the-variants as word
 use Rattle.views.specs.View.{span, shown, optionalText, optionalWord}
 use Rattle.written.proofs.Lists.{or-else}
-use Rattle.written.proofs.Numbers.{place-le}
+use Rattle.draft.proofs.Numbers.{place-le}
 use Rattle.written.proofs.Texts.{in-one, good-utf8, good-length}
 use Rattle.written.proofs.Blocks.{w}
 use Rattle.written.proofs.Fields.{Given, few, new-is, new-in, old-in, old-new, new-old, new-zero}
