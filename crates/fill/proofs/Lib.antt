@@ -1,3 +1,0 @@
-pub mod Sized
-pub mod Capped
-pub mod Layers
