@@ -1,10 +1,10 @@
 -- The bits of a signed number, by its sign. Assumes nothing.
-use Prim.Native.Nat.{ℕ, zero, suc, _-_, _≤_, _<_}
+use Prim.Native.Nat.{ℕ, suc, _-_, _<_}
 use mathlib.Core.Path.{_≡_, refl, sym, ap, _∙_, subst}
 use mathlib.Core.Bool.{Bool, true, false, cond, true≢false}
 use native.Mathlib.Omega.{arith}
 use lib.IntN.{ℤ, pos, negsuc, _-ℤ_, natAbs}
-use lib.Dec.{T, ltb}
+use lib.Dec.{T}
 use lib.Signed.{nonNeg, ltZ, mag}
 use borrow.Author.Tests.{le-ltb}
 use mir.Val.{toZ, ofZ, Fits, SFits}

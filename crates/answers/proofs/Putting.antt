@@ -9,14 +9,14 @@ use native.Mathlib.Nat.{not-suc-le-zero}
 use lib.ListN.{length, set, take, drop, getD}
 use native.Mathlib.Numerals.{add-one}
 use lib.Seq.{take-length}
-use lib.Dec.{leb}
 use borrow.Author.Tests.{le-leb, lt-leb}
 use lib.Signed.{mag}
 use mir.Val.{toZ, ofZ}
 use mir.Syntax.{w32}
 use Rattle.words.specs.Words.{NONE}
+use Rattle.views.specs.declared.Span.{Span}
 use Rattle.lookups.specs.declared.ListItem.{ListItem}
-use Rattle.answers.specs.Handed.{numberOf, answerAfter, unsigned, countWords, listItemWords}
+use Rattle.answers.specs.Handed.{numberOf, answerAfter, unsigned, countWords, listItemWords, partWords}
 use Rattle.answers.proofs.Bits.{field-bits}
 
 -- a turn of the loop
@@ -108,3 +108,20 @@ module _ (i : ListItem) (k : i .definition ≤ NONE) (h : i .item ≤ NONE) (v :
 
   pub item-words : (xs now : List ℕ) → now ≡ answerAfter (some these) xs → now ≡ answerAfter (listItemWords i) xs
   item-words xs now q = handed-words these xs now (listItemWords i) same q
+
+module _ (bytes strings : ℕ) (t : Span) where
+  pub outside : bytes < strings + t .offset + t .len → none ≡ partWords bytes strings t
+  outside h = rw (lt-leb (strings + t .offset + t .len) bytes h)
+
+  pub past : strings + t .offset + t .len ≤ bytes → NONE < strings + t .offset → none ≡ partWords bytes strings t
+  past h k = rw (le-leb (strings + t .offset + t .len) bytes h, lt-leb (strings + t .offset) NONE k)
+
+  module _ (h : strings + t .offset + t .len ≤ bytes) (k : strings + t .offset ≤ NONE) where
+    same-part : some ((strings + t .offset) ∷ t .len ∷ []) ≡ partWords bytes strings t
+    same-part = rw (le-leb (strings + t .offset + t .len) bytes h, le-leb (strings + t .offset) NONE k)
+
+    pub part-number : (n r : ℕ) → r ≡ numberOf (some ((strings + t .offset) ∷ t .len ∷ [])) n → r ≡ numberOf (partWords bytes strings t) n
+    part-number n r q = handed-number _ n (partWords bytes strings t) r same-part q
+
+    pub part-words : (xs now : List ℕ) → now ≡ answerAfter (some ((strings + t .offset) ∷ t .len ∷ [])) xs → now ≡ answerAfter (partWords bytes strings t) xs
+    part-words xs now q = handed-words _ xs now (partWords bytes strings t) same-part q

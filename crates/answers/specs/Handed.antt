@@ -1,7 +1,7 @@
 -- What queries answer, in the words that are handed to C and Rust. Assumes nothing.
 use Prim.Native.Nat.{ℕ, _+_}
 use mathlib.Core.List.{List, [], _∷_, _++_}
-use mathlib.Core.Bool.{Bool, cond, _&&_}
+use mathlib.Core.Bool.{Bool, cond}
 use mathlib.Core.Option.{Option, none, some}
 use lib.ListN.{length, drop}
 use lib.IntN.{ℤ}
@@ -94,6 +94,12 @@ abbrev pub listItemWords : ListItem → Option (List ℕ)
 listItemWords i =
     cond (leb (i .definition) NONE) (cond (leb (i .item) NONE) (some (i .definition ∷ i .item ∷ unsigned (i .value) ∷ [])) none) none
 
+-- start and length of a text in an image of so many bytes, whose strings begin at `strings`. A text that is not inside, or whose start
+-- is more than a word, is not handed over; an accepted image has none
+abbrev pub partWords : ℕ → ℕ → Span → Option (List ℕ)
+partWords bytes strings t =
+    cond (leb (strings + t .offset + t .len) bytes) (cond (leb (strings + t .offset) NONE) (some ((strings + t .offset) ∷ t .len ∷ [])) none) none
+
 -- ---- by answer
 
 abbrev pub foundAnswer : Found → Option (List ℕ)
@@ -111,6 +117,10 @@ namedAnswer named.NotFound = none
 abbrev pub placeAnswer : TextAnswer → Option (List ℕ)
 placeAnswer (place.Text t) = some (spanThen t [])
 placeAnswer place.NotFound = none
+
+abbrev pub partAnswer : ℕ → ℕ → TextAnswer → Option (List ℕ)
+partAnswer bytes strings (place.Text t) = partWords bytes strings t
+partAnswer bytes strings place.NotFound = none
 
 abbrev pub entryAnswer : EntryAnswer → Option (List ℕ)
 entryAnswer (entry.Entry e) = some (entryWords e)

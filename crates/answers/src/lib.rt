@@ -11,10 +11,11 @@ ghost use mathlib.Core.Path.{_≡_};
 ghost use Prim.Native.Nat.{_≤_};
 ghost use mathlib.Core.List.{_++_};
 ghost use mathlib.Core.Option.{some};
-ghost use mir.Val.{ofZ};
-ghost use mir.Syntax.{w32};
 ghost use lib.ListN.{length, drop};
-ghost use Rattle.answers.specs.Handed.{numberOf, answerAfter, wordOr, spanOr, noSpan, bitIf, unsigned, namedWords};
+ghost use Rattle.answers.specs.Handed.{numberOf, answerAfter, wordOr, spanOr, noSpan, bitIf, unsigned, namedWords, partWords};
+
+// The largest number that a word holds.
+const LARGEST_WORD: usize = 4294967295;
 
 // The bits of a signed number.
 pub fn unsigned_of(n: i32) -> u32
@@ -91,4 +92,21 @@ pub fn hand_over(words: &[u32], answer: &mut [u32]) -> u32
     }
     put_words(words, answer);
     0
+}
+
+// Start and length of a text in an image of so many bytes, whose strings begin at `strings`; where it lies inside and a word holds the
+// start.
+pub fn hand_part(bytes: usize, strings: u32, text: Span, answer: &mut [u32]) -> u32
+    ensures number { λ r. ⌜ r ≡ numberOf (partWords bytes strings text) (length (now (answer .entry))) ⌝ }
+    ensures written { λ _. ⌜ now (answer .exit) ≡ answerAfter (partWords bytes strings text) (now (answer .entry)) ⌝ }
+{
+    let start = strings as usize + text.offset as usize;
+    if bytes < start + text.len as usize {
+        return 18;
+    }
+    if LARGEST_WORD < start {
+        return 18;
+    }
+    let words = [start as u32, text.len];
+    hand_over(&words, answer)
 }

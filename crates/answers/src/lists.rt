@@ -1,4 +1,5 @@
 // List entries, definitions and items in words.
+use crate::LARGEST_WORD;
 use crate::hand_over;
 use crate::span_or;
 use crate::unsigned_of;
@@ -9,8 +10,6 @@ use views::ListEntry;
 ghost use mathlib.Core.Path.{_≡_};
 ghost use lib.ListN.{length};
 ghost use Rattle.answers.specs.Handed.{numberOf, answerAfter, entryWords, definitionWords, itemWords, countWords, listItemWords};
-
-const LARGEST_WORD: usize = 4294967295;
 
 pub fn entry_words(entry: ListEntry) -> [u32; 5]
     ensures { λ r. ⌜ r ≡ entryWords entry ⌝ }
@@ -29,7 +28,11 @@ pub fn entry_words(entry: ListEntry) -> [u32; 5]
 pub fn definition_words(definition: DefinitionView) -> [u32; 3]
     ensures { λ r. ⌜ r ≡ definitionWords definition ⌝ }
 {
-    [definition.name.offset, definition.name.len, definition.items]
+    [
+        definition.name.offset,
+        definition.name.len,
+        definition.items,
+    ]
 }
 
 pub fn item_words(item: ItemView) -> [u32; 3]
@@ -61,6 +64,10 @@ pub fn hand_list_item(item: ListItem, answer: &mut [u32]) -> u32
     if LARGEST_WORD < item.item {
         return 18;
     }
-    let words = [item.definition as u32, item.item as u32, unsigned_of(item.value)];
+    let words = [
+        item.definition as u32,
+        item.item as u32,
+        unsigned_of(item.value),
+    ];
     hand_over(&words, answer)
 }

@@ -1,5 +1,4 @@
 -- `answers::unsigned_of` meets its contract. Assumes nothing.
-use mathlib.Core.Path.{ap, _∙_}
 use native.Mathlib.Omega.{arith}
 use Rattle.answers.proofs.Bits.{negative, rest-fits, rest-back, below-bits, counting, same-back, above-bits, cast-fits}
 use Rattle.answers.proofs.unsigned_of.Statement.{statement}

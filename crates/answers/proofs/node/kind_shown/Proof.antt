@@ -7,80 +7,56 @@ use Rattle.answers.proofs.node.kind_shown.Tie as tie
 enum-known-kind : tie.Need-enum-known-kind
 enum-known-kind c = search needs
 
-span-or-requires : tie.Need-span-or-requires
-span-or-requires c κs = search needs
-
-unsigned-of-requires : tie.Need-unsigned-of-requires
-unsigned-of-requires c κs = search needs
-
-texted-requires : tie.Need-texted-requires
-texted-requires c κs = search needs
+container-requires : tie.Need-container-requires
+container-requires c κs = search needs
 
 enum-known-kind-2 : tie.Need-enum-known-kind-2
 enum-known-kind-2 c = search needs
 
-no-span-requires : tie.Need-no-span-requires
-no-span-requires c κs = search needs
-
-word-or-requires : tie.Need-word-or-requires
-word-or-requires c κs = search needs
-
-unsigned-of-requires-2 : tie.Need-unsigned-of-requires-2
-unsigned-of-requires-2 c κs = search needs
-
-texted-requires-2 : tie.Need-texted-requires-2
-texted-requires-2 c κs = search needs
+choice-requires : tie.Need-choice-requires
+choice-requires c κs = search needs
 
 enum-known-kind-3 : tie.Need-enum-known-kind-3
 enum-known-kind-3 c = search needs
 
-number-of-requires : tie.Need-number-of-requires
-number-of-requires c κs = search needs
-
-wide-requires : tie.Need-wide-requires
-wide-requires c κs = search needs
-
-valued-requires : tie.Need-valued-requires
-valued-requires c κs = search needs
+command-requires : tie.Need-command-requires
+command-requires c κs = search needs
 
 enum-known-kind-4 : tie.Need-enum-known-kind-4
 enum-known-kind-4 c = search needs
 
+span-or-requires : tie.Need-span-or-requires
+span-or-requires c κs = search needs
+
 span-or-requires-2 : tie.Need-span-or-requires-2
 span-or-requires-2 c κs = search needs
 
-span-or-requires-3 : tie.Need-span-or-requires-3
-span-or-requires-3 c κs = search needs
-
-word-or-requires-2 : tie.Need-word-or-requires-2
-word-or-requires-2 c κs = search needs
+word-or-requires : tie.Need-word-or-requires
+word-or-requires c κs = search needs
 
 divert-flags-requires : tie.Need-divert-flags-requires
 divert-flags-requires c κs = search needs
 
+diverted-requires : tie.Need-diverted-requires
+diverted-requires c κs = search needs
+
 enum-told : tie.Need-enum-told
 enum-told c = search needs
 
-valued-requires-2 : tie.Need-valued-requires-2
-valued-requires-2 c κs = search needs
+valued-requires : tie.Need-valued-requires
+valued-requires c κs = search needs
 
 enum-known-kind-5 : tie.Need-enum-known-kind-5
 enum-known-kind-5 c = search needs
 
-number-of-requires-2 : tie.Need-number-of-requires-2
-number-of-requires-2 c κs = search needs
-
-wide-requires-2 : tie.Need-wide-requires-2
-wide-requires-2 c κs = search needs
-
-valued-requires-3 : tie.Need-valued-requires-3
-valued-requires-3 c κs = search needs
+operator-requires : tie.Need-operator-requires
+operator-requires c κs = search needs
 
 enum-known-kind-6 : tie.Need-enum-known-kind-6
 enum-known-kind-6 c = search needs
 
-texted-requires-3 : tie.Need-texted-requires-3
-texted-requires-3 c κs = search needs
+texted-requires : tie.Need-texted-requires
+texted-requires c κs = search needs
 
 enum-known-kind-7 : tie.Need-enum-known-kind-7
 enum-known-kind-7 c = search needs
@@ -94,23 +70,23 @@ enum-known-kind-8 c = search needs
 assignment-flags-requires : tie.Need-assignment-flags-requires
 assignment-flags-requires c κs = search needs
 
-texted-requires-4 : tie.Need-texted-requires-4
-texted-requires-4 c κs = search needs
+texted-requires-2 : tie.Need-texted-requires-2
+texted-requires-2 c κs = search needs
 
 enum-known-kind-9 : tie.Need-enum-known-kind-9
 enum-known-kind-9 c = search needs
 
-word-or-requires-3 : tie.Need-word-or-requires-3
-word-or-requires-3 c κs = search needs
+word-or-requires-2 : tie.Need-word-or-requires-2
+word-or-requires-2 c κs = search needs
 
-texted-requires-5 : tie.Need-texted-requires-5
-texted-requires-5 c κs = search needs
+texted-requires-3 : tie.Need-texted-requires-3
+texted-requires-3 c κs = search needs
 
 enum-told-2 : tie.Need-enum-told-2
 enum-told-2 c = search needs
 
-valued-requires-4 : tie.Need-valued-requires-4
-valued-requires-4 c κs = search needs
+valued-requires-2 : tie.Need-valued-requires-2
+valued-requires-2 c κs = search needs
 
 returns : tie.Need-returns
 returns c = search (needs, container-shown)
@@ -119,72 +95,64 @@ returns-2 : tie.Need-returns-2
 returns-2 c = search (needs, choice-shown)
 
 returns-3 : tie.Need-returns-3
-returns-3 c = rw (c .before .before .before .before .kind3 .given .1, ← c .before .before .number-of .ensures, ← c .before .wide .ensures) (c .valued .ensures)
+returns-3 c = rw (c .before .before .kind3 .given .1) (c .command .ensures)
 
 returns-4 : tie.Need-returns-4
-returns-4 c = rw (c .before .before .before .before .before .kind4 .given .1, ← c .divert-flags .ensures, ← c .before .word-or2 .ensures, ← c .before .before .span-or3 .ensures, ← c .before .before .before .span-or2 .ensures)
+returns-4 c = rw (c .before .before .before .before .before .before .kind4 .given .1, ← c .before .divert-flags .ensures, ← c .before .before .word-or .ensures, ← c .before .before .before .span-or2 .ensures, ← c .before .before .before .before .span-or .ensures) (c .diverted .ensures)
 
 returns-5 : tie.Need-returns-5
-returns-5 c = rw (c .before .enum-told .given .1) (c .valued2 .ensures)
+returns-5 c = rw (c .before .enum-told .given .1) (c .valued .ensures)
 
 returns-6 : tie.Need-returns-6
-returns-6 c = rw (c .before .before .before .before .kind5 .given .1, ← c .before .before .number-of2 .ensures, ← c .before .wide2 .ensures) (c .valued3 .ensures)
+returns-6 c = rw (c .before .before .kind5 .given .1) (c .operator .ensures)
 
 returns-7 : tie.Need-returns-7
-returns-7 c = rw (c .before .before .kind6 .given .1) (c .texted3 .ensures)
+returns-7 c = rw (c .before .before .kind6 .given .1) (c .texted .ensures)
 
 returns-8 : tie.Need-returns-8
 returns-8 c = rw (c .before .before .kind7 .given .1) (c .value-shown .ensures)
 
 returns-9 : tie.Need-returns-9
-returns-9 c = rw (c .before .before .before .kind8 .given .1, ← c .before .assignment-flags .ensures) (c .texted4 .ensures)
+returns-9 c = rw (c .before .before .before .kind8 .given .1, ← c .before .assignment-flags .ensures) (c .texted2 .ensures)
 
 returns-10 : tie.Need-returns-10
-returns-10 c = rw (c .before .before .before .kind9 .given .1, ← c .before .word-or3 .ensures) (c .texted5 .ensures)
+returns-10 c = rw (c .before .before .before .kind9 .given .1, ← c .before .word-or2 .ensures) (c .texted3 .ensures)
 
 returns-11 : tie.Need-returns-11
-returns-11 c = rw (c .before .enum-told2 .given .1) (c .valued4 .ensures)
+returns-11 c = rw (c .before .enum-told2 .given .1) (c .valued2 .ensures)
 
 pub kind-shown-spec : {M : Type 1} → statement M
 kind-shown-spec =
     tie.close
     (tie.spec
     enum-known-kind
-    span-or-requires
-    unsigned-of-requires
-    texted-requires
+    container-requires
     enum-known-kind-2
-    no-span-requires
-    word-or-requires
-    unsigned-of-requires-2
-    texted-requires-2
+    choice-requires
     enum-known-kind-3
-    number-of-requires
-    wide-requires
-    valued-requires
+    command-requires
     enum-known-kind-4
+    span-or-requires
     span-or-requires-2
-    span-or-requires-3
-    word-or-requires-2
+    word-or-requires
     divert-flags-requires
+    diverted-requires
     enum-told
-    valued-requires-2
+    valued-requires
     enum-known-kind-5
-    number-of-requires-2
-    wide-requires-2
-    valued-requires-3
+    operator-requires
     enum-known-kind-6
-    texted-requires-3
+    texted-requires
     enum-known-kind-7
     value-shown-requires
     enum-known-kind-8
     assignment-flags-requires
-    texted-requires-4
+    texted-requires-2
     enum-known-kind-9
-    word-or-requires-3
-    texted-requires-5
+    word-or-requires-2
+    texted-requires-3
     enum-told-2
-    valued-requires-4
+    valued-requires-2
     returns
     returns-2
     returns-3
