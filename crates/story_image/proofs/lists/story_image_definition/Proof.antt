@@ -41,7 +41,7 @@ same-length c = search needs
 returns-3 : tie.Need-returns-3
 returns-3 c =
     handing _ _ _ (now (c .before .before .before .before .before .before .before .before .before .before .before .before .before .before .before .args .answer)) _
-    (ap some (c .before .before .before .before .before .definition-words .ensures) ∙ ap definitionAnswer (sym (c .before .before .before .before .before .before .before .before .before .found .given .1) ∙ c .before .before .before .before .before .before .before .before .before .definition .ensures) ∙ enough (now (c .before .before .before .before .before .before .before .before .before .before .before .before .before .before .before .args .view)) _ (c .before .before .before .before .before .before .before .before .before .before .before .if1 .left) _ (c .before .before .before .before .before .before .before .before .before .before .view-of .ensures)) (c .before .before .hand-over .ensures)
+    (ap some (c .before .before .before .before .before .definition-words .ensures) ∙ ap definitionAnswer (sym (c .before .before .before .before .before .before .before .found .given .1) ∙ c .before .before .before .before .before .before .before .before .before .definition .ensures) ∙ enough (now (c .before .before .before .before .before .before .before .before .before .before .before .before .before .before .before .args .view)) _ (c .before .before .before .before .before .before .before .before .before .before .before .if1 .left) _ (c .before .before .before .before .before .before .before .before .before .before .view-of .ensures)) (c .before .before .hand-over .ensures)
 
 pub story-image-definition-spec : {M : Type 1} → statement M
 story-image-definition-spec =
