@@ -261,8 +261,6 @@ mod ours {
     use crate::library::components;
     #[cfg(feature = "write")]
     use crate::ours::write::draft_of;
-    #[cfg(feature = "queries")]
-    use story_image::ffi;
     use story_image::{Image, load_words};
 
     pub struct Measured<'a> {
@@ -318,20 +316,7 @@ mod ours {
 
         pub fn views(&self) -> Option<impl FnMut() -> Duration> {
             let nodes = self.image.view().nodes.count;
-            Some(move || {
-                timed(|| {
-                    let (bytes, view) = (&self.input.image, self.image.view());
-                    let mut answer = ffi::Node::default();
-                    let mut has = |node: u32| {
-                        // SAFETY: the slice, the view and the answer live through the call.
-                        let number =
-                            unsafe { ffi::story_image_node_view(bytes.as_ptr(), bytes.len(), view, node, &mut answer) };
-                        black_box(&answer);
-                        number == 0
-                    };
-                    (0..nodes).filter(|node| has(*node)).count()
-                })
-            })
+            Some(move || timed(|| (0..nodes).filter(|node| black_box(self.image.node_view(*node)).is_some()).count()))
         }
 
         pub fn walks(&self) -> Option<impl FnMut() -> Duration> {
