@@ -1,4 +1,4 @@
-/* Loads an image of up to 65,536 bytes and prints its nodes: number, parent, kind, and the text if there is one. */
+/* Loads an image of up to 65,536 bytes and prints its nodes: number, parent (-1: none), kind, text if there is one. */
 #include <inttypes.h>
 #include <stdio.h>
 
@@ -23,13 +23,13 @@ int main(int count, char **arguments) {
     }
     for (uint32_t node = 0; node < view[STORY_IMAGE_NODES_COUNT]; node++) {
         uint32_t shown[STORY_IMAGE_NODE_WORDS], part[2];
-        if (story_image_node_view(bytes, length, view, STORY_IMAGE_VIEW_WORDS, node, shown, STORY_IMAGE_NODE_WORDS) != 0)
+        if (story_image_node_view(bytes, length, view, STORY_IMAGE_VIEW_WORDS, node, shown, STORY_IMAGE_NODE_WORDS))
             return 1;
         uint32_t parent = shown[STORY_IMAGE_NODE_PARENT], kind = shown[STORY_IMAGE_NODE_KIND];
         printf("%" PRIu32 " of %" PRId32 ": %" PRIu32, node, (int32_t)parent, kind);
         if (kind != 12 && story_image_text(bytes, length, view, STORY_IMAGE_VIEW_WORDS, shown[STORY_IMAGE_NODE_TEXT],
                                            shown[STORY_IMAGE_NODE_TEXT_LENGTH], part, 2) == 0)
-            printf(" %.*s", (int)part[1], (const char *)bytes + part[0]);
+            printf(" \"%.*s\"", (int)part[1], (const char *)bytes + part[0]);
         putchar('\n');
     }
     return 0;

@@ -87,11 +87,11 @@ pub fn hand_over(words: &[u32], answer: &mut [u32]) -> u32
     ensures number { λ r. ⌜ r ≡ numberOf (some (now (words .entry))) (length (now (answer .entry))) ⌝ }
     ensures written { λ _. ⌜ now (answer .exit) ≡ answerAfter (some (now (words .entry))) (now (answer .entry)) ⌝ }
 {
-    if answer.len() < words.len() {
-        return 18;
+    if words.len() <= answer.len() {
+        put_words(words, answer);
+        return 0;
     }
-    put_words(words, answer);
-    0
+    18
 }
 
 // Start and length of a text in an image of so many bytes, whose strings begin at `strings`; where it lies inside and a word holds the
