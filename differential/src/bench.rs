@@ -1,4 +1,4 @@
-//! Both sides measured in one process, in turns: load, node views, walks and list look-ups, writing.
+//! Both sides measured in one process, in turns, by processor time: load, node views, walks and list look-ups, writing.
 
 use crate::parts::{NONE, Parts, word_at};
 use crate::random::Random;
@@ -188,10 +188,33 @@ fn duel(
     1
 }
 
+#[repr(C)]
+#[derive(Default)]
+struct Time {
+    seconds: i64,
+    nanoseconds: i64,
+}
+
+unsafe extern "C" {
+    fn clock_gettime(clock: i32, time: *mut Time) -> i32;
+}
+
+/// Linux's CLOCK_THREAD_CPUTIME_ID.
+const PROCESSOR_TIME: i32 = 3;
+
+/// Processor time of this thread, so that other work on the machine counts little.
+fn processor_time() -> Duration {
+    let mut time = Time::default();
+    // SAFETY: the C library writes the two numbers of the time, which is ours.
+    let failed = unsafe { clock_gettime(PROCESSOR_TIME, &mut time) };
+    assert_eq!(failed, 0, "no processor time");
+    Duration::new(time.seconds as u64, time.nanoseconds as u32)
+}
+
 fn timed<T>(work: impl FnOnce() -> T) -> Duration {
-    let start = Instant::now();
+    let start = processor_time();
     black_box(work());
-    start.elapsed()
+    processor_time() - start
 }
 
 trait ExpectView<'a> {
