@@ -16,130 +16,116 @@ extern "C" {
 #endif
 
 #define STORY_IMAGE_NONE UINT32_C(4294967295)
-#define STORY_IMAGE_VIEW_WORDS 17
 
-typedef struct {
-    uint32_t offset;
-    uint32_t count;
-} story_image_section;
+/* Words of a view: the ink version, then offset and count of each section. */
+enum {
+    STORY_IMAGE_INK_VERSION,
+    STORY_IMAGE_NODES,
+    STORY_IMAGE_NODES_COUNT,
+    STORY_IMAGE_CHILDREN,
+    STORY_IMAGE_CHILDREN_COUNT,
+    STORY_IMAGE_NAMED,
+    STORY_IMAGE_NAMED_COUNT,
+    STORY_IMAGE_DEFINITIONS,
+    STORY_IMAGE_DEFINITIONS_COUNT,
+    STORY_IMAGE_ITEMS,
+    STORY_IMAGE_ITEMS_COUNT,
+    STORY_IMAGE_INDEX,
+    STORY_IMAGE_INDEX_COUNT,
+    STORY_IMAGE_PAYLOAD,
+    STORY_IMAGE_PAYLOAD_COUNT,
+    STORY_IMAGE_STRINGS,
+    STORY_IMAGE_STRINGS_COUNT,
+    STORY_IMAGE_VIEW_WORDS
+};
 
-/* What the header of an image says. */
-typedef struct {
-    uint32_t ink_version;
-    story_image_section nodes;
-    story_image_section children;
-    story_image_section named;
-    story_image_section definitions;
-    story_image_section items;
-    story_image_section index;
-    story_image_section payload;
-    story_image_section strings;
-} story_image_view;
+/* Words of a node's view. Absent: NONE. What a kind lacks is NONE in texts and target, 0 in value and flags. */
+enum {
+    STORY_IMAGE_NODE_PARENT,
+    STORY_IMAGE_NODE_PLACE,
+    STORY_IMAGE_NODE_KIND,            /* the tag, 1 to 14 and 16 to 18 */
+    STORY_IMAGE_NODE_TEXT,            /* name, path or text in the strings; of a list (12), its place in the payload */
+    STORY_IMAGE_NODE_TEXT_LENGTH,
+    STORY_IMAGE_NODE_VARIABLE,        /* of a divert (4) */
+    STORY_IMAGE_NODE_VARIABLE_LENGTH,
+    STORY_IMAGE_NODE_TARGET,          /* of a choice (2), divert (4), reference (17) */
+    STORY_IMAGE_NODE_VALUE,           /* number of a command (3) or operator (6); bool, int, bits of a float (8 to 10);
+                                         arguments of a divert (4); context of a pointer (14) */
+    STORY_IMAGE_NODE_FLAGS,           /* of a container (1), choice (2): the word. Of a divert: 1 conditional,
+                                         2 external, 4 pushes, 8 times the push type. Of an assignment (16): 1 global,
+                                         2 new */
+    STORY_IMAGE_NODE_WORDS
+};
 
-/* A node's view. kind is the tag, 1 to 14 and 16 to 18. Absent: NONE. What a kind lacks is NONE in texts and target,
- * 0 in value and flags. */
-typedef struct {
-    uint32_t parent;
-    uint32_t place;
-    uint32_t kind;
-    uint32_t text;            /* name, path or text in the strings; of a list (12), its place in the payload */
-    uint32_t text_length;
-    uint32_t variable;        /* of a divert (4) */
-    uint32_t variable_length;
-    uint32_t target;          /* of a choice (2), divert (4), reference (17) */
-    uint32_t value;           /* number of a command (3) or operator (6); bool, int, bits of a float (8 to 10);
-                                 arguments of a divert (4); context of a pointer (14) */
-    uint32_t flags;           /* of a container (1), choice (2): the word. Of a divert: 1 conditional, 2 external,
-                                 4 pushes, 8 times the push type. Of an assignment (16): 1 global, 2 new */
-} story_image_node;
-
-typedef struct {
-    uint32_t name;
-    uint32_t name_length;
-    uint32_t node;
-} story_image_named_child_view;
-
-/* A part of the image's bytes. */
-typedef struct {
-    size_t start;
-    size_t length;
-} story_image_part;
-
-/* A text, by its place in the strings. */
-typedef struct {
-    uint32_t offset;
-    uint32_t length;
-} story_image_text_place;
-
-typedef struct {
-    uint32_t origin;          /* NONE in both words if there is none */
-    uint32_t origin_length;
-    uint32_t name;
-    uint32_t name_length;
-    int32_t value;
-} story_image_list_entry_view;
-
-typedef struct {
-    uint32_t name;
-    uint32_t name_length;
-    uint32_t items;
-} story_image_definition_view;
-
-typedef struct {
-    uint32_t name;
-    uint32_t name_length;
-    int32_t value;
-} story_image_item_view;
-
-/* An item found by name: number of its definition, its number among all items, its value. */
-typedef struct {
-    uint32_t definition;
-    uint32_t item;
-    int32_t value;
-} story_image_list_item_view;
-
-/* 0, and the view's STORY_IMAGE_VIEW_WORDS words: ink version, then offset and count of each section, in the order of
- * story_image_view; words past them stay. Or 1 to 17, the number of the first rule broken, and the view stays as it was.
- * Work words needed: nodes + children + named + 1; numbers 1 to 7 leave all work words as they were, else as many as are
- * needed are 0 on return and the rest stays. A view of fewer words counts as a lack of work words: 7, after rows 1 to 6. */
+/* 0, and the view's STORY_IMAGE_VIEW_WORDS words; words past them stay. Or 1 to 17, the number of the first rule
+ * broken, and the view stays as it was. Work words needed: nodes + children + named + 1; numbers 1 to 7 leave all work
+ * words as they were, else as many as are needed are 0 on return and the rest stays. A view of fewer words counts as a
+ * lack of work words: 7, after rows 1 to 6. */
 uint32_t story_image_load(const uint8_t *bytes, size_t length, uint32_t *work, size_t work_length, uint32_t *view,
                           size_t view_length);
 
-/* Below this line: to come, not yet in the static library. */
+/* Queries. Each returns 0 and writes its words at the start of the answer, or returns 18 and leaves the answer as it
+ * was; words past those that are written stay. The view is lent as the words that story_image_load wrote. A view of
+ * fewer than STORY_IMAGE_VIEW_WORDS words, or an answer too short for the query's words, gives 18. Any bytes and any
+ * view may be asked: a section outside the bytes counts as empty. A text is an offset and a length in the strings; a
+ * signed value is handed over as its 32 bits. */
 
-/* Queries: 0, and the answer; or 18, and an answer of zeros. Any bytes and any view may be asked. */
-uint32_t story_image_node_view(const uint8_t *bytes, size_t length, const story_image_view *view, uint32_t node,
-                               story_image_node *answer);
-uint32_t story_image_child_count(const uint8_t *bytes, size_t length, const story_image_view *view, uint32_t node,
-                                 uint32_t *answer);
-uint32_t story_image_child_at(const uint8_t *bytes, size_t length, const story_image_view *view, uint32_t node,
-                              uint32_t index, uint32_t *answer);
-uint32_t story_image_named_child_count(const uint8_t *bytes, size_t length, const story_image_view *view,
-                                       uint32_t node, uint32_t *answer);
-uint32_t story_image_named_child_at(const uint8_t *bytes, size_t length, const story_image_view *view, uint32_t node,
-                                    uint32_t index, story_image_named_child_view *answer);
-uint32_t story_image_find_named_child(const uint8_t *bytes, size_t length, const story_image_view *view, uint32_t node,
-                                      const uint8_t *name, size_t name_length, uint32_t *answer);
-uint32_t story_image_text(const uint8_t *bytes, size_t length, const story_image_view *view, uint32_t offset,
-                          uint32_t text_length, story_image_part *answer);
+/* STORY_IMAGE_NODE_WORDS words. */
+uint32_t story_image_node_view(const uint8_t *bytes, size_t length, const uint32_t *view, size_t view_length,
+                               uint32_t node, uint32_t *answer, size_t answer_length);
 
-/* Item and origin number index of a list value: its payload, and the strings. */
+/* Of a text: its start and its length in the image's bytes, where it is present and inside the strings. */
+uint32_t story_image_text(const uint8_t *bytes, size_t length, const uint32_t *view, size_t view_length,
+                          uint32_t offset, uint32_t text_length, uint32_t *answer, size_t answer_length);
+
+/* How many ordered, how many named children a container has. */
+uint32_t story_image_child_count(const uint8_t *bytes, size_t length, const uint32_t *view, size_t view_length,
+                                 uint32_t node, uint32_t *answer, size_t answer_length);
+uint32_t story_image_named_child_count(const uint8_t *bytes, size_t length, const uint32_t *view, size_t view_length,
+                                       uint32_t node, uint32_t *answer, size_t answer_length);
+
+/* An ordered child of a container: its node. */
+uint32_t story_image_child_at(const uint8_t *bytes, size_t length, const uint32_t *view, size_t view_length,
+                              uint32_t node, uint32_t index, uint32_t *answer, size_t answer_length);
+
+/* A named child of a container: name, its length, node. */
+uint32_t story_image_named_child_at(const uint8_t *bytes, size_t length, const uint32_t *view, size_t view_length,
+                                    uint32_t node, uint32_t index, uint32_t *answer, size_t answer_length);
+
+/* The named child of a container that bears the name: its node. */
+uint32_t story_image_find_named_child(const uint8_t *bytes, size_t length, const uint32_t *view, size_t view_length,
+                                      uint32_t node, const uint8_t *name, size_t name_length, uint32_t *answer,
+                                      size_t answer_length);
+
+/* Of a list value, from its payload and the strings. An item: origin, its length (both NONE if there is none), name,
+ * its length, value. An origin: text, its length. */
 uint32_t story_image_list_entry(const uint8_t *payload, size_t payload_length, const uint8_t *strings,
-                                size_t strings_length, uint32_t index, story_image_list_entry_view *answer);
+                                size_t strings_length, uint32_t index, uint32_t *answer, size_t answer_length);
 uint32_t story_image_list_origin(const uint8_t *payload, size_t payload_length, const uint8_t *strings,
-                                 size_t strings_length, uint32_t index, story_image_text_place *answer);
+                                 size_t strings_length, uint32_t index, uint32_t *answer, size_t answer_length);
 
-uint32_t story_image_definition(const uint8_t *bytes, size_t length, const story_image_view *view, uint32_t index,
-                                story_image_definition_view *answer);
-uint32_t story_image_definition_item(const uint8_t *bytes, size_t length, const story_image_view *view, uint32_t index,
-                                     uint32_t item, story_image_item_view *answer);
-uint32_t story_image_list_item(const uint8_t *bytes, size_t length, const story_image_view *view, const uint8_t *name,
-                               size_t name_length, story_image_list_item_view *answer);
+/* How many list definitions there are. */
+uint32_t story_image_definition_count(const uint8_t *bytes, size_t length, const uint32_t *view, size_t view_length,
+                                      uint32_t *answer, size_t answer_length);
 
-/* Three words a component: kind (0 parent, 1 index, 2 name), then index and 0, or offset and length in names. */
-uint32_t story_image_resolve_path(const uint8_t *bytes, size_t length, const story_image_view *view, uint32_t origin,
-                                  bool relative, const uint32_t *components, size_t components_length,
-                                  const uint8_t *names, size_t names_length, uint32_t *answer);
+/* A list definition: name, its length, number of its items. An item of a definition: name, its length, value. */
+uint32_t story_image_definition(const uint8_t *bytes, size_t length, const uint32_t *view, size_t view_length,
+                                uint32_t index, uint32_t *answer, size_t answer_length);
+uint32_t story_image_definition_item(const uint8_t *bytes, size_t length, const uint32_t *view, size_t view_length,
+                                     uint32_t index, uint32_t item, uint32_t *answer, size_t answer_length);
+
+/* The list item that a name means, with or without its origin and a dot in front: number of its definition, its number
+ * among all items, value. */
+uint32_t story_image_list_item(const uint8_t *bytes, size_t length, const uint32_t *view, size_t view_length,
+                               const uint8_t *name, size_t name_length, uint32_t *answer, size_t answer_length);
+
+/* The node at the end of a path. Three words a component: kind (0 parent, 1 index, 2 name), then index and 0, or offset
+ * and length in names. */
+uint32_t story_image_resolve_path(const uint8_t *bytes, size_t length, const uint32_t *view, size_t view_length,
+                                  uint32_t origin, bool relative, const uint32_t *path, size_t path_length,
+                                  const uint8_t *names, size_t names_length, uint32_t *answer, size_t answer_length);
+
+/* Below this line: to come, not yet in the static library. */
 
 /* 0, and the length written; or 3, 7, 19 to 23, and 0. Work words: 16 a node, 4 for each child, named entry,
  * definition, item and payload byte. */

@@ -1,4 +1,4 @@
-//! Both sides measured in one process, in turns: load, node views, walks and list look-ups, writing.
+//! Both sides measured in one process, in turns, by processor time: load, node views, walks and list look-ups, writing.
 
 use crate::parts::{NONE, Parts, word_at};
 use crate::random::Random;
@@ -188,10 +188,33 @@ fn duel(
     1
 }
 
+#[repr(C)]
+#[derive(Default)]
+struct Time {
+    seconds: i64,
+    nanoseconds: i64,
+}
+
+unsafe extern "C" {
+    fn clock_gettime(clock: i32, time: *mut Time) -> i32;
+}
+
+/// Linux's CLOCK_THREAD_CPUTIME_ID.
+const PROCESSOR_TIME: i32 = 3;
+
+/// Processor time of this thread, so that other work on the machine counts little.
+fn processor_time() -> Duration {
+    let mut time = Time::default();
+    // SAFETY: the C library writes the two numbers of the time, which is ours.
+    let failed = unsafe { clock_gettime(PROCESSOR_TIME, &mut time) };
+    assert_eq!(failed, 0, "no processor time");
+    Duration::new(time.seconds as u64, time.nanoseconds as u32)
+}
+
 fn timed<T>(work: impl FnOnce() -> T) -> Duration {
-    let start = Instant::now();
+    let start = processor_time();
     black_box(work());
-    start.elapsed()
+    processor_time() - start
 }
 
 trait ExpectView<'a> {
@@ -261,8 +284,6 @@ mod ours {
     use crate::library::components;
     #[cfg(feature = "write")]
     use crate::ours::write::draft_of;
-    #[cfg(feature = "queries")]
-    use story_image::ffi;
     use story_image::{Image, load_words};
 
     pub struct Measured<'a> {
@@ -318,20 +339,7 @@ mod ours {
 
         pub fn views(&self) -> Option<impl FnMut() -> Duration> {
             let nodes = self.image.view().nodes.count;
-            Some(move || {
-                timed(|| {
-                    let (bytes, view) = (&self.input.image, self.image.view());
-                    let mut answer = ffi::Node::default();
-                    let mut has = |node: u32| {
-                        // SAFETY: the slice, the view and the answer live through the call.
-                        let number =
-                            unsafe { ffi::story_image_node_view(bytes.as_ptr(), bytes.len(), view, node, &mut answer) };
-                        black_box(&answer);
-                        number == 0
-                    };
-                    (0..nodes).filter(|node| has(*node)).count()
-                })
-            })
+            Some(move || timed(|| (0..nodes).filter(|node| black_box(self.image.node_view(*node)).is_some()).count()))
         }
 
         pub fn walks(&self) -> Option<impl FnMut() -> Duration> {

@@ -40,6 +40,7 @@ pub trait Queries {
     /// Item j and origin j of a list value, by its place in the payload.
     fn list_entry(&self, bytes: &[u8], view: &View, list: Place, index: u32) -> Option<Entry>;
     fn list_origin(&self, bytes: &[u8], view: &View, list: Place, index: u32) -> Option<Place>;
+    fn definition_count(&self, bytes: &[u8], view: &View) -> Option<u32>;
     /// Name, and how many items.
     fn definition(&self, bytes: &[u8], view: &View, index: u32) -> Option<(Place, u32)>;
     fn definition_item(&self, bytes: &[u8], view: &View, index: u32, item: u32) -> Option<(Place, i32)>;

@@ -17,6 +17,7 @@ mod published;
 mod queries;
 mod random;
 mod record;
+mod recorded;
 mod rows;
 mod run;
 mod samples;

@@ -160,6 +160,10 @@ impl Queries for Published {
         Some(place_of(bytes, entries(bytes, list)?.origins.get(index as usize)?))
     }
 
+    fn definition_count(&self, bytes: &[u8], _: &View) -> Option<u32> {
+        Some(image(bytes)?.definition_count() as u32)
+    }
+
     fn definition(&self, bytes: &[u8], _: &View, index: u32) -> Option<(Place, u32)> {
         let (name, items) = image(bytes)?.definition(index as usize)?;
         Some((name, items as u32 + u32::from(self.has(Mistake::Definition))))

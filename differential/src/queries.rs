@@ -152,6 +152,7 @@ impl Asking<'_> {
     fn definitions(&mut self, random: &mut Random) {
         let image = self.image;
         let count = image.definition_count();
+        self.same("definition count", Some(count as u32), |ours, bytes, view| ours.definition_count(bytes, view));
         let mut names = vec![texts::name(random), " \t\u{3000}".to_owned(), ".".to_owned(), "low".to_owned()];
         let mut origins = vec![];
         for index in (0..count as u32 + 1).chain([NONE]) {

@@ -1,6 +1,6 @@
 //! A sample of the published Rust's answers, as a file that needs no Rust to read.
 //!
-//! The file is little-endian words. First the word 1380273491 (`SIER`), 1, and the number of records. Each record is
+//! The file is little-endian words. First the word 1380272467 (`SIER`), 1, and the number of records. Each record is
 //! its kind, the number of words that follow, and these; bytes are stored in words, the last filled up with zeros.
 //! `number` is 0, or 18 where a query finds nothing (the answer's words are then 0).
 //!
@@ -20,19 +20,32 @@
 //! | 17 definition item | index, item, number, name, length, value |
 //! | 18 list item | number, definition, item among all, value, name's length, name |
 //! | 19 walk | origin, relative, number, node, number of components, three words each, names' length, names |
-//! | 20 draft | ink version, number, lengths of nodes, children, named, definitions, items (in words), payload, strings, image (in bytes), then all of these; no image where the number is not 0 |
+//! | 20 draft | ink version, number, lengths of nodes, children, named, definitions, items (in words), payload, strings, image (in bytes), then all of these; no image where the number is not 0; the number 21 says that the Rust refuses, and that only refusal is compared |
 
 use crate::damage;
 use crate::drafts;
 use crate::library::components;
 use crate::parts::{NONE, Parts, word_at};
 use crate::random::Random;
+use crate::recorded::Counts;
 use crate::rows::{row_of, writer_row};
 use crate::small::{self, FAMILIES};
 use crate::stories::{Shape, Story};
 use crate::texts;
 use reference::{Draft, Image, Kind, NodeView, Step, Written};
 use std::collections::HashMap;
+
+/// Whole stories; of each so many single words, bits and cuts, and walks.
+const STORIES: usize = 50;
+const WORDS: usize = 60;
+const BITS: usize = 4;
+const WALKS: usize = 8;
+/// Up to how many of each reason small images and pairs of faults are added, and how many accepted ones.
+const OF_REASON: u64 = 12;
+const ACCEPTED: u64 = 20;
+/// Drafts of each number, and the size of the largest in words.
+const DRAFTS: u64 = 20;
+const DRAFT_SIZE: usize = 180;
 
 #[derive(Default)]
 struct Recorder {
@@ -50,16 +63,16 @@ pub fn run(file: &str) -> bool {
     recorder.drafts(&mut random);
     recorder.words[2] = recorder.records;
     let bytes: Vec<u8> = recorder.words.iter().flat_map(|word| word.to_le_bytes()).collect();
-    for (row, count) in recorder.rows.iter().enumerate().filter(|(_, count)| **count > 0) {
-        println!("    {row:2} {count:>8}");
-    }
+    let counts = Counts::of(&recorder.words);
+    counts.print();
     println!("{} records, {} reasons, {} bytes in {file}", recorder.records, recorder.reasons.len(), bytes.len());
-    let written = std::fs::write(file, bytes);
-    match &written {
-        Ok(()) => println!("{} passed, 0 failed", recorder.records),
-        Err(error) => println!("{file}: {error}\n0 passed, 1 failed"),
+    let mut failures = counts.missing();
+    failures.extend(std::fs::write(file, bytes).err().map(|error| format!("{file}: {error}")));
+    for failure in &failures {
+        println!("failed: {failure}");
     }
-    written.is_err()
+    println!("{} passed, {} failed", recorder.records, failures.len());
+    !failures.is_empty()
 }
 
 fn packed(bytes: &[u8]) -> impl Iterator<Item = u32> {
@@ -180,8 +193,9 @@ impl Recorder {
 
     /// Whole stories with their queries, and single faults in them.
     fn stories(&mut self, random: &mut Random) {
-        for turn in 0..60 {
-            let shape = Shape { nodes: 1 + random.below(14), ..Shape::random(random) };
+        for turn in 0..STORIES {
+            let (nodes, containers) = (1 + random.below(20), 1 + random.below(6));
+            let shape = Shape { nodes, containers, ..Shape::random(random) };
             let parts = if turn == 0 { small::smallest() } else { Story::random(shape, random).parts(random) };
             let bytes = parts.bytes();
             self.image(&bytes);
@@ -194,12 +208,12 @@ impl Recorder {
 
     fn faults(&mut self, parts: &Parts, bytes: &[u8], random: &mut Random) {
         let (positions, values) = (damage::word_positions(bytes), damage::values(parts.counts()));
-        for _ in 0..120 {
+        for _ in 0..WORDS {
             let (at, value) = (*random.pick(&positions), *random.pick(&values));
             let row = self.row(&damage::with_word(bytes, at, value));
             self.put(2, [row, at as u32, value]);
         }
-        for _ in 0..4 {
+        for _ in 0..BITS {
             let bit = random.below(8 * bytes.len());
             let mut turned = bytes.to_vec();
             turned[bit / 8] ^= 1 << (bit % 8);
@@ -237,7 +251,7 @@ impl Recorder {
             }
         }
         self.definitions(image, bytes, random);
-        for _ in 0..12 {
+        for _ in 0..WALKS {
             self.walk(image, bytes, random);
         }
     }
@@ -331,6 +345,7 @@ impl Recorder {
 
     /// Members of the small families and pairs of faults, until each reason has come up often enough.
     fn rare(&mut self, random: &mut Random) {
+        let accepted = self.rows[0] + ACCEPTED;
         for turn in 0..60_000 {
             let bytes = if turn % 2 == 0 {
                 let family = random.pick(&FAMILIES);
@@ -341,10 +356,10 @@ impl Recorder {
                 damage::random(&parts, random).1
             };
             let enough = match reference::load(&bytes) {
-                Ok(_) => self.rows[0] >= 700,
-                Err(reason) => self.reasons.get(&reason).is_some_and(|count| *count >= 24),
+                Ok(_) => self.rows[0] >= accepted,
+                Err(reason) => self.reasons.get(&reason).is_some_and(|count| *count >= OF_REASON),
             };
-            if !enough && bytes.len() <= 800 {
+            if !enough && bytes.len() <= 600 {
                 self.image(&bytes);
             }
         }
@@ -353,7 +368,7 @@ impl Recorder {
     /// Drafts inside the comparison.
     fn drafts(&mut self, random: &mut Random) {
         let mut counts = [0; 24];
-        for _ in 0..4000 {
+        for _ in 0..20_000 {
             let case = drafts::random(random);
             let (number, image) = match reference::write(case.ink, &case.draft) {
                 Written::Image(image) if case.known == drafts::Known::Sound && reference::load(&image).is_ok() => {
@@ -362,13 +377,13 @@ impl Recorder {
                 Written::Refused(message) if case.known == drafts::Known::Number(writer_row(&message).unwrap()) => {
                     (writer_row(&message).unwrap(), vec![])
                 }
+                Written::Refused(_) if only_refusal(&case) => (21, vec![]),
                 _ => continue,
             };
-            counts[number as usize] += 1;
-            let size = case.draft.nodes.len() + case.draft.strings.len() / 4;
-            if counts[number as usize] <= 100 && size < 400 {
+            let size = case.draft.nodes.len() + (case.draft.strings.len() + image.len()) / 4;
+            if counts[number as usize] < DRAFTS && size <= DRAFT_SIZE {
+                counts[number as usize] += 1;
                 self.draft(case.ink, number, &case.draft, &image);
-                self.rows[number as usize] += 1;
             }
         }
     }
@@ -383,4 +398,9 @@ impl Recorder {
         all.extend(bytes.into_iter().flat_map(packed));
         self.put(20, all);
     }
+}
+
+/// 21 applies, alone or with 20 or 22, and nothing that is tested before them.
+fn only_refusal(case: &drafts::Case) -> bool {
+    case.known == drafts::Known::Number(21) || case.name == "named target"
 }

@@ -121,7 +121,7 @@ fn coverage(tally: &mut Tally) {
     }
     for (name, [found, nothing]) in &tally.queries {
         need(
-            *found > 0 && (*nothing > 0 || *name == "text"),
+            *found > 0 && (*nothing > 0 || ["text", "definition count"].contains(name)),
             format!("query {name}, found {found}, nothing {nothing}"),
         );
     }

@@ -7,16 +7,15 @@ pub mod ffi;
 mod node;
 #[cfg(feature = "queries")]
 mod queries;
+mod view;
 #[cfg(feature = "write")]
 mod write;
 
-use ffi::View;
-#[cfg(feature = "queries")]
-pub use ffi::{ListItem, Text};
 #[cfg(feature = "queries")]
 pub use node::{Kind, NodeView, PushType};
 #[cfg(feature = "queries")]
-pub use queries::{ListEntry, NamedChild, Step};
+pub use queries::{ListEntry, ListItem, NamedChild, Step, Text};
+pub use view::{Section, View};
 #[cfg(feature = "write")]
 pub use write::{Draft, write};
 
@@ -39,6 +38,9 @@ impl std::error::Error for Refusal {}
 pub struct Image<'a> {
     bytes: &'a [u8],
     view: View,
+    /// The view's words, as the library takes them.
+    #[cfg_attr(not(feature = "queries"), allow(dead_code))]
+    words: [u32; View::WORDS],
 }
 
 /// How many work words a load of these bytes takes; 0 if they are too short for a header.
@@ -53,7 +55,7 @@ pub fn load_words(bytes: &[u8]) -> usize {
 impl<'a> Image<'a> {
     /// Tests the whole image.
     pub fn load(bytes: &'a [u8], work: &mut [u32]) -> Result<Self, Refusal> {
-        let mut view = [0; View::WORDS];
+        let mut words = [0; View::WORDS];
         // SAFETY: the slices are ours, the mutable ones do not overlap, and all live through the call.
         let number = unsafe {
             ffi::story_image_load(
@@ -61,16 +63,16 @@ impl<'a> Image<'a> {
                 bytes.len(),
                 work.as_mut_ptr(),
                 work.len(),
-                view.as_mut_ptr(),
-                view.len(),
+                words.as_mut_ptr(),
+                words.len(),
             )
         };
-        if number == 0 { Ok(Image { bytes, view: View::from(view) }) } else { Err(Refusal(number)) }
+        if number == 0 { Ok(Image { bytes, view: View::from(words), words }) } else { Err(Refusal(number)) }
     }
 
     /// Any bytes under any view; queries on them still end, with parts inside the bytes or nothing.
     pub fn under(bytes: &'a [u8], view: View) -> Self {
-        Image { bytes, view }
+        Image { bytes, view, words: view.words() }
     }
 
     pub fn bytes(&self) -> &'a [u8] {

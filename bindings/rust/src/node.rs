@@ -1,7 +1,7 @@
 //! A node's view as an enum.
 
 use crate::queries::optional_text;
-use crate::{NONE, Text, ffi};
+use crate::{NONE, Text};
 
 #[derive(Clone, Copy, Debug, PartialEq)]
 pub struct NodeView {
@@ -72,21 +72,25 @@ fn optional(word: u32) -> Option<u32> {
     (word != NONE).then_some(word)
 }
 
-pub(crate) fn view_of(node: &ffi::Node) -> Option<NodeView> {
-    let text = Text { offset: node.text, length: node.text_length };
-    let kind = match node.kind {
-        1 => Kind::Container { flags: node.flags as i32, name: optional_text(text.offset, text.length) },
-        2 => Kind::Choice { flags: node.flags as i32, target: optional(node.target) },
-        3 => Kind::Command(node.value),
+/// As many words the library writes: parent, place, kind, text and length, variable and length, target, value, flags.
+pub(crate) const WORDS: usize = 10;
+
+pub(crate) fn view_of(words: [u32; WORDS]) -> Option<NodeView> {
+    let [parent, place, kind, offset, length, variable, variable_length, target, value, flags] = words;
+    let text = Text { offset, length };
+    let kind = match kind {
+        1 => Kind::Container { flags: flags as i32, name: optional_text(offset, length) },
+        2 => Kind::Choice { flags: flags as i32, target: optional(target) },
+        3 => Kind::Command(value),
         4 => Kind::Divert {
-            path: optional_text(text.offset, text.length),
-            target: optional(node.target),
-            variable: optional_text(node.variable, node.variable_length),
-            arguments: node.value,
-            conditional: node.flags & 1 != 0,
-            external: node.flags & 2 != 0,
-            pushes: node.flags & 4 != 0,
-            push_type: match node.flags >> 3 {
+            path: optional_text(offset, length),
+            target: optional(target),
+            variable: optional_text(variable, variable_length),
+            arguments: value,
+            conditional: flags & 1 != 0,
+            external: flags & 2 != 0,
+            pushes: flags & 4 != 0,
+            push_type: match flags >> 3 {
                 0 => PushType::Tunnel,
                 1 => PushType::Function,
                 2 => PushType::FunctionEvaluationFromGame,
@@ -94,19 +98,19 @@ pub(crate) fn view_of(node: &ffi::Node) -> Option<NodeView> {
             },
         },
         5 => Kind::Glue,
-        6 => Kind::Operator(node.value),
+        6 => Kind::Operator(value),
         7 => Kind::Tag(text),
-        8 => Kind::Bool(node.value != 0),
-        9 => Kind::Int(node.value as i32),
-        10 => Kind::Float(node.value),
+        8 => Kind::Bool(value != 0),
+        9 => Kind::Int(value as i32),
+        10 => Kind::Float(value),
         11 => Kind::String(text),
         12 => Kind::List(text),
         13 => Kind::DivertTarget(text),
-        14 => Kind::Pointer { name: text, context: node.value as i32 },
-        16 => Kind::Assignment { name: text, global: node.flags & 1 != 0, new_declaration: node.flags & 2 != 0 },
-        17 => Kind::Reference { name: text, target: optional(node.target) },
+        14 => Kind::Pointer { name: text, context: value as i32 },
+        16 => Kind::Assignment { name: text, global: flags & 1 != 0, new_declaration: flags & 2 != 0 },
+        17 => Kind::Reference { name: text, target: optional(target) },
         18 => Kind::Void,
         _ => return None,
     };
-    Some(NodeView { parent: optional(node.parent), place: optional(node.place), kind })
+    Some(NodeView { parent: optional(parent), place: optional(place), kind })
 }

@@ -1,8 +1,15 @@
 //! What a player asks of an image.
 
 use crate::node::{self, NodeView};
+use crate::view::Section;
 use crate::{Image, NONE, ffi};
-use ffi::{ListItem, Text};
+
+/// A text, by its place in the strings; a list value, by its place in the payload.
+#[derive(Clone, Copy, Debug, Default, PartialEq)]
+pub struct Text {
+    pub offset: u32,
+    pub length: u32,
+}
 
 #[derive(Clone, Copy, Debug, PartialEq)]
 pub struct NamedChild {
@@ -14,6 +21,14 @@ pub struct NamedChild {
 pub struct ListEntry {
     pub origin: Option<Text>,
     pub name: Text,
+    pub value: i32,
+}
+
+/// An item found by name: the number of its definition, its number among all items, its value.
+#[derive(Clone, Copy, Debug, PartialEq)]
+pub struct ListItem {
+    pub definition: u32,
+    pub item: u32,
     pub value: i32,
 }
 
@@ -29,66 +44,57 @@ pub(crate) fn optional_text(offset: u32, length: u32) -> Option<Text> {
     (offset != NONE && length != NONE).then_some(Text { offset, length })
 }
 
-/// Calls a query that fills an answer and returns 0, or 18.
-fn ask<T: Default>(call: impl FnOnce(*mut T) -> u32) -> Option<T> {
-    let mut answer = T::default();
-    (call(&mut answer) == 0).then_some(answer)
+/// Calls a query that writes its words into an answer and returns 0, or 18.
+fn ask<const N: usize>(call: impl FnOnce(*mut u32, usize) -> u32) -> Option<[u32; N]> {
+    let mut answer = [0; N];
+    (call(answer.as_mut_ptr(), N) == 0).then_some(answer)
+}
+
+/// Asks a query on the image's bytes and the view's words; what else it takes follows.
+macro_rules! ask_image {
+    ($image:expr, $query:ident $(, $argument:expr)*) => {{
+        let (bytes, view) = ($image.bytes, &$image.words);
+        // SAFETY: the slices live through the call, and the answer, which alone is written, is ours.
+        ask(|answer, length| unsafe {
+            ffi::$query(bytes.as_ptr(), bytes.len(), view.as_ptr(), view.len(), $($argument,)* answer, length)
+        })
+    }};
 }
 
 impl<'a> Image<'a> {
     pub fn node_view(&self, node: u32) -> Option<NodeView> {
-        // SAFETY: as in `load`; so in every query below.
-        let answer = ask(|answer| unsafe {
-            ffi::story_image_node_view(self.bytes.as_ptr(), self.bytes.len(), &self.view, node, answer)
-        })?;
-        node::view_of(&answer)
+        node::view_of(ask_image!(self, story_image_node_view, node)?)
     }
 
     pub fn child_count(&self, node: u32) -> Option<u32> {
-        ask(|answer| unsafe {
-            ffi::story_image_child_count(self.bytes.as_ptr(), self.bytes.len(), &self.view, node, answer)
-        })
+        let [count] = ask_image!(self, story_image_child_count, node)?;
+        Some(count)
     }
 
     pub fn child_at(&self, node: u32, index: u32) -> Option<u32> {
-        ask(|answer| unsafe {
-            ffi::story_image_child_at(self.bytes.as_ptr(), self.bytes.len(), &self.view, node, index, answer)
-        })
+        let [child] = ask_image!(self, story_image_child_at, node, index)?;
+        Some(child)
     }
 
     pub fn named_child_count(&self, node: u32) -> Option<u32> {
-        ask(|answer| unsafe {
-            ffi::story_image_named_child_count(self.bytes.as_ptr(), self.bytes.len(), &self.view, node, answer)
-        })
+        let [count] = ask_image!(self, story_image_named_child_count, node)?;
+        Some(count)
     }
 
     pub fn named_child_at(&self, node: u32, index: u32) -> Option<NamedChild> {
-        let answer: ffi::NamedChild = ask(|answer| unsafe {
-            ffi::story_image_named_child_at(self.bytes.as_ptr(), self.bytes.len(), &self.view, node, index, answer)
-        })?;
-        Some(NamedChild { name: Text { offset: answer.name, length: answer.name_length }, node: answer.node })
+        let [offset, length, node] = ask_image!(self, story_image_named_child_at, node, index)?;
+        Some(NamedChild { name: Text { offset, length }, node })
     }
 
     pub fn find_named_child(&self, node: u32, name: &[u8]) -> Option<u32> {
-        ask(|answer| unsafe {
-            ffi::story_image_find_named_child(
-                self.bytes.as_ptr(),
-                self.bytes.len(),
-                &self.view,
-                node,
-                name.as_ptr(),
-                name.len(),
-                answer,
-            )
-        })
+        let [child] = ask_image!(self, story_image_find_named_child, node, name.as_ptr(), name.len())?;
+        Some(child)
     }
 
-    /// Where a text lies in the image's bytes.
+    /// Where a text lies in the image's bytes: start and length.
     pub fn text_part(&self, text: Text) -> Option<(usize, usize)> {
-        let part: ffi::Part = ask(|answer| unsafe {
-            ffi::story_image_text(self.bytes.as_ptr(), self.bytes.len(), &self.view, text.offset, text.length, answer)
-        })?;
-        Some((part.start, part.length))
+        let [start, length] = ask_image!(self, story_image_text, text.offset, text.length)?;
+        Some((start as usize, length as usize))
     }
 
     /// A text's bytes, as a part of the image.
@@ -97,7 +103,7 @@ impl<'a> Image<'a> {
         self.bytes.get(start..start.checked_add(length)?)
     }
 
-    fn part(&self, section: ffi::Section, place: Text) -> &'a [u8] {
+    fn part(&self, section: Section, place: Text) -> &'a [u8] {
         let start = section.offset as usize + place.offset as usize;
         self.bytes.get(start..start + place.length as usize).unwrap_or(&[])
     }
@@ -109,70 +115,58 @@ impl<'a> Image<'a> {
     /// Item `index` of a list value.
     pub fn list_entry(&self, list: Text, index: u32) -> Option<ListEntry> {
         let (payload, strings) = (self.part(self.view.payload, list), self.strings());
-        let answer: ffi::ListEntry = ask(|answer| unsafe {
-            ffi::story_image_list_entry(payload.as_ptr(), payload.len(), strings.as_ptr(), strings.len(), index, answer)
-        })?;
-        Some(ListEntry {
-            origin: optional_text(answer.origin, answer.origin_length),
-            name: Text { offset: answer.name, length: answer.name_length },
-            value: answer.value,
-        })
+        // SAFETY: as in `ask_image`.
+        let words = ask(|answer, length| unsafe {
+            let (payload_length, strings_length) = (payload.len(), strings.len());
+            let (payload, strings) = (payload.as_ptr(), strings.as_ptr());
+            ffi::story_image_list_entry(payload, payload_length, strings, strings_length, index, answer, length)
+        });
+        let [origin, origin_length, offset, length, value] = words?;
+        let origin = optional_text(origin, origin_length);
+        Some(ListEntry { origin, name: Text { offset, length }, value: value as i32 })
     }
 
     /// Origin `index` of a list value.
     pub fn list_origin(&self, list: Text, index: u32) -> Option<Text> {
         let (payload, strings) = (self.part(self.view.payload, list), self.strings());
-        ask(|answer| unsafe {
-            ffi::story_image_list_origin(
-                payload.as_ptr(),
-                payload.len(),
-                strings.as_ptr(),
-                strings.len(),
-                index,
-                answer,
-            )
-        })
+        // SAFETY: as in `ask_image`.
+        let words = ask(|answer, length| unsafe {
+            let (payload_length, strings_length) = (payload.len(), strings.len());
+            let (payload, strings) = (payload.as_ptr(), strings.as_ptr());
+            ffi::story_image_list_origin(payload, payload_length, strings, strings_length, index, answer, length)
+        });
+        let [offset, length] = words?;
+        Some(Text { offset, length })
     }
 
-    pub fn definition_count(&self) -> u32 {
-        self.view.definitions.count
+    pub fn definition_count(&self) -> Option<u32> {
+        let [count] = ask_image!(self, story_image_definition_count)?;
+        Some(count)
     }
 
     /// A definition's name, and how many items it has.
     pub fn definition(&self, index: u32) -> Option<(Text, u32)> {
-        let answer: ffi::Definition = ask(|answer| unsafe {
-            ffi::story_image_definition(self.bytes.as_ptr(), self.bytes.len(), &self.view, index, answer)
-        })?;
-        Some((Text { offset: answer.name, length: answer.name_length }, answer.items))
+        let [offset, length, items] = ask_image!(self, story_image_definition, index)?;
+        Some((Text { offset, length }, items))
     }
 
     /// An item's name and value.
     pub fn definition_item(&self, index: u32, item: u32) -> Option<(Text, i32)> {
-        let answer: ffi::Item = ask(|answer| unsafe {
-            ffi::story_image_definition_item(self.bytes.as_ptr(), self.bytes.len(), &self.view, index, item, answer)
-        })?;
-        Some((Text { offset: answer.name, length: answer.name_length }, answer.value))
+        let [offset, length, value] = ask_image!(self, story_image_definition_item, index, item)?;
+        Some((Text { offset, length }, value as i32))
     }
 
     /// The item that a name means, with or without its origin and a dot in front.
     pub fn list_item(&self, name: &[u8]) -> Option<ListItem> {
-        ask(|answer| unsafe {
-            ffi::story_image_list_item(
-                self.bytes.as_ptr(),
-                self.bytes.len(),
-                &self.view,
-                name.as_ptr(),
-                name.len(),
-                answer,
-            )
-        })
+        let [definition, item, value] = ask_image!(self, story_image_list_item, name.as_ptr(), name.len())?;
+        Some(ListItem { definition, item, value: value as i32 })
     }
 
     pub fn resolve_path(&self, origin: u32, relative: bool, steps: &[Step<'_>]) -> Option<u32> {
-        let mut components = Vec::with_capacity(3 * steps.len());
+        let mut path = Vec::with_capacity(3 * steps.len());
         let mut names = Vec::new();
         for step in steps {
-            components.extend(match step {
+            path.extend(match step {
                 Step::Parent => [0, 0, 0],
                 Step::Index(index) => [1, *index, 0],
                 Step::Name(name) => [2, u32::try_from(names.len()).ok()?, u32::try_from(name.len()).ok()?],
@@ -181,24 +175,15 @@ impl<'a> Image<'a> {
                 names.extend_from_slice(name);
             }
         }
-        self.resolve_components(origin, relative, &components, &names)
+        self.resolve_components(origin, relative, &path, &names)
     }
 
-    /// A walk along components as the library takes them.
-    pub fn resolve_components(&self, origin: u32, relative: bool, components: &[u32], names: &[u8]) -> Option<u32> {
-        ask(|answer| unsafe {
-            ffi::story_image_resolve_path(
-                self.bytes.as_ptr(),
-                self.bytes.len(),
-                &self.view,
-                origin,
-                relative,
-                components.as_ptr(),
-                components.len(),
-                names.as_ptr(),
-                names.len(),
-                answer,
-            )
-        })
+    /// A walk along components as the library takes them: three words each, and the bytes of names.
+    pub fn resolve_components(&self, origin: u32, relative: bool, path: &[u32], names: &[u8]) -> Option<u32> {
+        let (path_length, names_length) = (path.len(), names.len());
+        let (path, names) = (path.as_ptr(), names.as_ptr());
+        let [end] =
+            ask_image!(self, story_image_resolve_path, origin, relative, path, path_length, names, names_length)?;
+        Some(end)
     }
 }

@@ -1,6 +1,6 @@
 //! Samples of the repository, loaded.
 
-use story_image::{Image, Refusal, ffi, load_words};
+use story_image::{Image, Refusal, Section, ffi, load_words};
 
 const SMALLEST: &[u8] = include_bytes!("../../../samples/smallest.image");
 
@@ -10,8 +10,8 @@ fn accepted() {
     let image = Image::load(SMALLEST, &mut work).unwrap();
     assert_eq!(work, [0, 0, 7]);
     assert_eq!(image.view().ink_version, 21);
-    assert_eq!(image.view().nodes, ffi::Section { offset: 88, count: 1 });
-    assert_eq!(image.view().strings, ffi::Section { offset: 140, count: 0 });
+    assert_eq!(image.view().nodes, Section { offset: 88, count: 1 });
+    assert_eq!(image.view().strings, Section { offset: 140, count: 0 });
 }
 
 #[test]

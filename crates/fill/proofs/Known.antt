@@ -43,7 +43,7 @@ use Rattle.node_section.specs.Summed.{textsAt, usedBy, NodesFit}
 use Rattle.node_section.proofs.Fielded.{texts-count}
 use Rattle.list_sections.specs.Entered.{textsBefore, itemsBefore, payloadWords, PayloadFits}
 use Rattle.list_sections.proofs.Defined.{uses-are}
-use Rattle.list_sections.proofs.Paying.{section-is}
+use Rattle.list_sections.proofs.Paying.{pay-room}
 use Rattle.keys.specs.declared.Tables.{Tables}
 use Rattle.keys.specs.Keys.{keyIn}
 use Rattle.interning.specs.Uses.{textsOf, storedOf, joined, Offsets}
@@ -272,12 +272,9 @@ module _ (nodes children named definitions items payload strings w : List ℕ) (
 
     pub payload-room : 4 * length (joinOf (length nodes / 10) (payloadWords nodes payload w (n .order) (n .offsets))) ≡ length payload
     payload-room =
-        sym (length-bytes (joinOf (length nodes / 10) (payloadWords nodes payload w (n .order) (n .offsets))))
-        ∙ ap length (section-is s nodes payload w (n .order) (n .offsets) (numbering s) (storedTexts s (numbering s)) payload-fits (t .tables) (t .olds) (node-offsets s w n t))
-        ∙ written-payload
-      where
-        written-payload : length (joinOf (nodeCount s) (λ j. payloadOut s (numbering s) (storedTexts s (numbering s)) (oldOf (numbering s) j))) ≡ length payload
-        written-payload = unfold written writtenWith sectionOut in measured s w n t .payload
+        pay-room s nodes payload w (n .order) (n .offsets) (numbering s) (storedTexts s (numbering s)) payload-fits refl refl refl (t .tables) (t .olds)
+        (node-offsets s w n t)
+        ∙ (unfold written writtenWith sectionOut in measured s w n t .payload)
 
     pub uses-small : length (uses s (numbering s)) < 2 ^ 32
     uses-small = omega (arith, uses-fewer s (t .wide) (t .tables) (t .reach), t .long)

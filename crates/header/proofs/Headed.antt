@@ -1,17 +1,17 @@
 -- The bytes of a header, by counts; the checksum put into an image; sections one after the other are the image's body. Assumes nothing.
 use Prim.Native.Nat.{ℕ, suc, _+_, _*_, _≤_, _<_}
 use mathlib.Core.Path.{_≡_, refl, sym, ap, _∙_}
-use mathlib.Core.List.{List, [], _∷_, _++_, append-assoc, append-nil}
+use mathlib.Core.List.{List, [], _∷_, _++_, append-assoc}
 use native.Mathlib.Omega.{arith}
 use native.Mathlib.Numerals.{add-one}
 use lib.ListN.{length, getD, take, drop, set, length-set}
-use lib.Seq.{take-suc, drop-cons, set-at, append-snoc, length-take-le, take-all}
+use lib.Seq.{take-suc, drop-cons, set-at, append-snoc, length-take-le}
 use Rattle.laws.specs.Counted.{joinOf, sumOf}
 use Rattle.words.specs.Words.{bytes4, bytesOf}
 use Rattle.words.proofs.Words.{length-bytes}
 use Rattle.texts.specs.Text.{ascii}
 use Rattle.checksum.specs.Crc.{checksumOf}
-use Rattle.image.specs.Header.{magic, headerLength, version, nodeWords}
+use Rattle.image.specs.Header.{magic, headerLength, version}
 use Rattle.image.specs.Sections.{Sections, nodeCount}
 use Rattle.image.specs.Encoding.{countOf, sectionOut, startOf, bodyOf, headerWith, imageOf}
 use Rattle.outputs.specs.Output.{over, putAt}

@@ -1,7 +1,6 @@
 -- The counts of an image's sections, and where its last section ends by them. Assumes nothing.
 use Prim.Native.Nat.{ℕ, _+_, _*_}
 use mathlib.Core.Path.{_≡_}
-use mathlib.Core.List.{List}
 use lib.ListN.{length}
 use Rattle.image.specs.Header.{headerLength, nodeWords}
 use Rattle.image.specs.Sections.{Sections}

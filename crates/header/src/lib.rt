@@ -2,9 +2,8 @@
 ghost use mathlib.Core.Path.{_≡_};
 ghost use mathlib.Core.List.{_++_};
 ghost use Prim.Native.Nat.{ℕ, _≤_};
-ghost use lib.ListN.{length, take, drop};
-ghost use Rattle.words.specs.Words.{NONE, bytes4};
-ghost use Rattle.checksum.specs.Crc.{checksumOf};
+ghost use lib.ListN.{length};
+ghost use Rattle.words.specs.Words.{NONE};
 ghost use Rattle.image.specs.Header.{magic, headerLength};
 ghost use Rattle.image.specs.Sections.{Sections};
 ghost use Rattle.image.specs.Encoding.{headerWith, bodyOf, imageOf};

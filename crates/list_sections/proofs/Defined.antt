@@ -1,13 +1,13 @@
 -- What is read of definitions and items is what is written of them, for a draft whose tables are right. Assumes nothing.
-use Prim.Native.Nat.{ℕ, zero, suc, _+_, _*_, _/_, _≤_, _<_}
+use Prim.Native.Nat.{ℕ, zero, suc, _+_, _<_}
 use mathlib.Core.Path.{_≡_, refl, sym, ap, _∙_, subst}
 use mathlib.Core.List.{List, [], _∷_, _++_, append-assoc, append-nil}
 use native.Mathlib.Omega.{arith}
 use native.Mathlib.Nat.{mul-one}
-use lib.ListN.{length, getD, length-append}
+use lib.ListN.{length, getD}
 use Rattle.laws.specs.Counted.{sumOf, joinOf}
 use Rattle.image.specs.Sections.{Sections, definitionCount, itemCount, definitionWord, itemWord}
-use Rattle.index.specs.Definitions.{definitionText, firstItem, itemsOf, itemText, itemTextOf, itemsBefore as itemsSum}
+use Rattle.index.specs.Definitions.{definitionText, firstItem, itemsOf, itemTextOf, itemsBefore as itemsSum}
 use Rattle.draft.specs.Draft.{tablesRule}
 use Rattle.draft.proofs.Rules.{Tables, tables, items-start, items-all, item-good}
 use Rattle.encoder.specs.Strings.{definitionTexts, offsetOf}

@@ -1,19 +1,15 @@
 -- The loops and calls that write the payload of lists. Assumes nothing.
-use Prim.Native.Nat.{ℕ, _+_, _*_, _/_, _≤_, _<_}
+use Prim.Native.Nat.{ℕ, _+_, _*_, _≤_, _<_}
 use mathlib.Core.Path.{_≡_, refl, sym, ap, _∙_}
 use mathlib.Core.List.{List, [], _∷_, _++_, append-nil}
-use mathlib.Core.Bool.{true, false, cond}
 use native.Mathlib.Omega.{arith}
 use native.Mathlib.Nat.{mul-one}
 use native.Mathlib.Numerals.{add-one}
-use lib.ListN.{length, getD, take, drop, length-append, take-append-drop}
-use lib.Dec.{eqb}
+use lib.ListN.{length, getD, length-append, take-append-drop}
 use borrow.Author.Tests.{eq-eqb, ne-eqb}
 use Rattle.laws.specs.Counted.{sumOf, joinOf}
 use Rattle.words.specs.Words.{wordIn, bytesOf}
-use Rattle.words.proofs.Words.{length-bytes}
 use Rattle.image.specs.declared.NodeRecord.{NodeRecord}
-use Rattle.image.specs.Entries.{recordOf}
 use Rattle.records.specs.Fields.{kindOf}
 use Rattle.tree.proofs.Members.{sum-add}
 use Rattle.encoder.proofs.Joined.{sum-const, sum-below, even-len}
@@ -21,9 +17,8 @@ use Rattle.outputs.specs.Output.{putAt}
 use Rattle.outputs.proofs.Filled.{FilledWords, start, more-words, put-is}
 use Rattle.outputs.proofs.Running.{Running, run-start, run-room, run-next, run-put}
 use Rattle.node_section.specs.Encoded.{textCount, optionalOffset, listTextsIn, textsBy}
-use Rattle.node_section.specs.Summed.{textsAt, usedBy}
 use Rattle.node_section.proofs.Counting.{at-list}
-use Rattle.list_sections.specs.Entered.{itemTexts, listItemWords, listOriginWords, listWords, nodeListWords, payloadWords, PayloadFits, PutWords}
+use Rattle.list_sections.specs.Entered.{itemTexts, listItemWords, listOriginWords, listWords, nodeListWords, PutWords}
 
 -- ---- items
 

@@ -1,13 +1,13 @@
 -- The loop that writes the payload, node by node, and that what it writes is the written section. Assumes nothing.
 use Prim.Native.Nat.{ℕ, zero, suc, _+_, _*_, _/_, _≤_, _<_}
 use mathlib.Core.Path.{_≡_, refl, sym, ap, _∙_, subst}
-use mathlib.Core.List.{List, [], _++_}
+use mathlib.Core.List.{List, _++_}
 use native.Mathlib.Omega.{arith}
 use native.Mathlib.Numerals.{add-one}
 use lib.ListN.{length, getD}
 use Rattle.laws.specs.Counted.{sumOf, joinOf}
 use Rattle.words.specs.Words.{bytesOf}
-use Rattle.words.proofs.Words.{bytes-append}
+use Rattle.words.proofs.Words.{bytes-append, length-bytes}
 use Rattle.image.specs.declared.NodeRecord.{NodeRecord}
 use Rattle.image.specs.Entries.{recordOf, nodeIn}
 use Rattle.image.specs.Header.{nodeWords}
@@ -21,7 +21,7 @@ use Rattle.draft.proofs.Rules.{tables}
 use Rattle.encoder.specs.Strings.{nodeTexts}
 use Rattle.encoder.specs.Ready.{OldsAt, OffsetsAt, nodeUses}
 use Rattle.encoder.specs.Written.{payloadOut}
-use Rattle.encoder.proofs.Joined.{sum-below, join-same}
+use Rattle.encoder.proofs.Joined.{sum-below, join-same, join-length}
 use Rattle.encoder.proofs.Offsets.{offsets-part}
 use Rattle.outputs.specs.Output.{over}
 use Rattle.outputs.proofs.Running.{Running, run-start, run-room, run-next, run-front}
@@ -98,21 +98,21 @@ module _ (s : Sections) (nodes payload w : List ℕ) (order offsets : ℕ) (olds
   abbrev r : Sections
   r = retold s nodes (s .children) (s .named) payload
 
+  texts-at : tablesRule r ≡ 0 → (i : ℕ) → i < nodeCount r → textsAt nodes payload i ≡ length (nodeTexts r i)
+  unfolding textsAt
+  texts-at p i h =
+      ap (λ (x : NodeRecord). textsBy payload x (kindOf (x .tag))) (node-record r nodes i refl refl)
+      ∙ texts-count r i (kindOf (tagOf r i)) (tables r p .fields i h)
+
   module _ (fits : PayloadFits nodes payload w order offsets) (p : tablesRule r ≡ 0) (q : OldsAt olds w (nodeCount r) order)
       (o : OffsetsAt kept (nodeUses r olds) w offsets) where
     old-below : (j : ℕ) → j < nodeCount r → oldOf olds j < nodeCount r
     old-below j h = subst (λ (x : ℕ). x < nodeCount r) (q j h) (fits .olds j h)
 
-    texts-at : (i : ℕ) → i < nodeCount r → textsAt nodes payload i ≡ length (nodeTexts r i)
-    unfolding textsAt
-    texts-at i h =
-        ap (λ (x : NodeRecord). textsBy payload x (kindOf (x .tag))) (node-record r nodes i refl refl)
-        ∙ texts-count r i (kindOf (tagOf r i)) (tables r p .fields i h)
-
     used-is : (j : ℕ) → j ≤ nodeCount r → sumOf j (λ m. length (nodeTexts r (oldOf olds m))) ≡ usedBy nodes w order payload j
     used-is j h =
         sum-ext j (λ m. length (nodeTexts r (oldOf olds m))) (λ m. textsAt nodes payload (getD w (order + m) 0))
-        (λ m k. sym (ap (textsAt nodes payload) (q m (omega arith)) ∙ texts-at (oldOf olds m) (old-below m (omega arith))))
+        (λ m k. sym (ap (textsAt nodes payload) (q m (omega arith)) ∙ texts-at p (oldOf olds m) (old-below m (omega arith))))
 
     part-is : (j : ℕ) → j < nodeCount r → bytesOf (payloadWords nodes payload w order offsets j) ≡ payloadOut r olds kept (oldOf olds j)
     unfolding payloadWords
@@ -126,7 +126,7 @@ module _ (s : Sections) (nodes payload w : List ℕ) (order offsets : ℕ) (olds
         ap (λ (x : NodeRecord). bytesOf (nodeListWords payload w text x)) same
         ∙ node-written r olds kept w text i (tables r p .fields i (old-below j h)) own
 
-    pub section-is : bytesOf (joinOf (length nodes / 10) (payloadWords nodes payload w order offsets)) ≡ joinOf (nodeCount r) (λ j. payloadOut r olds kept (oldOf olds j))
+    section-is : bytesOf (joinOf (length nodes / 10) (payloadWords nodes payload w order offsets)) ≡ joinOf (nodeCount r) (λ j. payloadOut r olds kept (oldOf olds j))
     section-is =
         bytes-join (length nodes / 10) (payloadWords nodes payload w order offsets)
         ∙ join-same (nodeCount r) (λ j. bytesOf (payloadWords nodes payload w order offsets j)) (λ j. payloadOut r olds kept (oldOf olds j)) part-is
@@ -144,3 +144,38 @@ module _ (s : Sections) (nodes payload w : List ℕ) (order offsets : ℕ) (olds
       (λ p q o.
       run-front (length nodes / 10) (payloadWords nodes payload w order offsets) out₀ out j at (g .running) h
       ∙ ap (λ (bs : List ℕ). over bs out₀) (section-is (g .fits) p q o))
+
+  -- ---- what the writer asks for, out of the rules
+
+  -- how much room the section takes
+  pub pay-room : PayloadFits nodes payload w order offsets → s .nodes ≡ nodes → s .stride ≡ nodeWords → s .payload ≡ payload → tablesRule s ≡ 0
+      → OldsAt olds w (nodeCount s) order → OffsetsAt kept (nodeUses s olds) w offsets
+      → 4 * length (joinOf (length nodes / 10) (payloadWords nodes payload w order offsets)) ≡ length (joinOf (nodeCount s) (λ j. payloadOut s olds kept (oldOf olds j)))
+  pay-room fits e d b =
+      subst
+      (λ (x : Sections). tablesRule x ≡ 0 → OldsAt olds w (nodeCount x) order → OffsetsAt kept (nodeUses x olds) w offsets
+      → 4 * length (joinOf (length nodes / 10) (payloadWords nodes payload w order offsets)) ≡ length (joinOf (nodeCount x) (λ j. payloadOut x olds kept (oldOf olds j))))
+      (sym (told s nodes (s .children) (s .named) payload d e refl refl b))
+      (λ p q o. sym (length-bytes (joinOf (length nodes / 10) (payloadWords nodes payload w order offsets))) ∙ ap length (section-is fits p q o))
+
+  -- the numbers are nodes, and there is an offset for each text
+  pub pay-fits : s .nodes ≡ nodes → s .stride ≡ nodeWords → s .payload ≡ payload → tablesRule s ≡ 0 → OldsAt olds w (nodeCount s) order
+      → ((j : ℕ) → j < nodeCount s → oldOf olds j < nodeCount s) → order + nodeCount s ≤ length w → offsets + length (nodeUses s olds) ≤ length w
+      → PayloadFits nodes payload w order offsets
+  pay-fits e d b =
+      subst
+      (λ (x : Sections). tablesRule x ≡ 0 → OldsAt olds w (nodeCount x) order → ((j : ℕ) → j < nodeCount x → oldOf olds j < nodeCount x)
+      → order + nodeCount x ≤ length w → offsets + length (nodeUses x olds) ≤ length w → PayloadFits nodes payload w order offsets)
+      (sym (told s nodes (s .children) (s .named) payload d e refl refl b))
+      (λ p q below h t.
+      record {
+        olds = λ j k. subst (λ (x : ℕ). x < nodeCount r) (sym (q j k)) (below j k);
+        order-end = h;
+        texts =
+            omega (
+              arith,
+              join-length (nodeCount r) (λ m. nodeTexts r (oldOf olds m)),
+              sum-ext (nodeCount r) (λ m. length (nodeTexts r (oldOf olds m))) (λ m. textsAt nodes payload (getD w (order + m) 0))
+                  (λ m k. sym (ap (textsAt nodes payload) (q m k) ∙ texts-at p (oldOf olds m) (below m k))),
+            );
+      })

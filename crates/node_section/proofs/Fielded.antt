@@ -15,7 +15,7 @@ use Rattle.words.proofs.Words.{word-in}
 use Rattle.image.specs.Entries.{nodeIn}
 use Rattle.image.specs.Sections.{Sections, nodeCount, parentOf, placeOf, tagOf, f, textAt, absent, goodText, goodOptional, inside}
 use Rattle.image.proofs.Tests.{both-true}
-use Rattle.image.proofs.Parts.{good, part-length, optional-present, optional-half}
+use Rattle.image.proofs.Parts.{good, optional-present, optional-half}
 use Rattle.records.specs.Fields.{Kind, Container, Choice, Command, Divert, Glue, Operator, Tag, BoolValue, IntValue, FloatValue, StringValue, ListValue, TargetValue, PointerValue, Assignment, Reference, Void, Unknown, fields}
 use Rattle.records.specs.Records.{childrenOf, namedOf, payloadOf, firstField, listWord, listItems, listOrigins, listItemWord, listOriginWord}
 use Rattle.records.proofs.Passed.{node-of, text-passed, optional-passed, command-passed, operator-passed, node-passed, optional-node-passed, container-passed, optional-container-passed, payload-passed, ListPassed, list-passed}

@@ -2,11 +2,9 @@
 // over the image's nodes before it. Fields that a kind lacks are NONE.
 ghost use mathlib.Core.Path.{_≡_};
 ghost use Prim.Native.Nat.{_≤_};
-ghost use lib.ListN.{length};
+ghost use lib.ListN.{length, getD};
 ghost use Rattle.records.specs.Fields.{kindOf, Container, Choice, Divert, Reference};
 ghost use Rattle.words.specs.Words.{NONE};
-ghost use lib.ListN.{getD};
-ghost use Rattle.sections.specs.Held.{newIn};
 ghost use Rattle.node_section.specs.Encoded.{fielded, blankOf, optionalOffset, textCount, encodedBy};
 use draft::source::word;
 use image::NONE;

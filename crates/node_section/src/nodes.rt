@@ -1,13 +1,11 @@
 // Section 0: the records of the image's nodes.
 ghost use mathlib.Core.Path.{_≡_};
 ghost use mathlib.Core.List.{List};
-ghost use mathlib.Core.Bool.{cond};
 ghost use Prim.Native.Nat.{ℕ, _+_, _*_, _/_, _≤_, _<_};
 ghost use lib.ListN.{length};
-ghost use lib.Dec.{eqb};
 ghost use Rattle.laws.specs.Counted.{joinOf};
 ghost use Rattle.laws.specs.Lists.{placeIn};
-ghost use Rattle.words.specs.Words.{NONE, bytesOf};
+ghost use Rattle.words.specs.Words.{bytesOf};
 ghost use Rattle.image.specs.Header.{nodeWords};
 ghost use Rattle.image.specs.Sections.{Sections, nodeCount};
 ghost use Rattle.draft.specs.Draft.{tablesRule, shapeRule};

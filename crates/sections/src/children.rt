@@ -47,7 +47,8 @@ fn put_children_of(
     let mut place = at;
     let mut j = 0;
     while j < all {
-        let child = new_number(work, new, word(children, start + j));
+        let old = word(children, start + j);
+        let child = new_number(work, new, old);
         put_word(out, place, child);
         place += 4;
         j += 1;

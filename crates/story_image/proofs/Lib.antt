@@ -1,1 +1,3 @@
 pub mod Exporting
+pub mod Asking
+pub mod Parts

@@ -1,8 +1,9 @@
 -- How answers are handed to C and Rust, in words. Assumes nothing.
-use Prim.Native.Nat.{ℕ, zero, suc}
+use Prim.Native.Nat.{ℕ, zero, suc, _+_, _*_}
 use mathlib.Core.List.{List, [], _∷_, _++_}
 use mathlib.Core.Bool.{cond}
-use lib.ListN.{length, drop}
+use mathlib.Core.Option.{Option, none}
+use lib.ListN.{length, drop, getD}
 use lib.Dec.{leb}
 use Rattle.image.specs.declared.Section.{Section}
 use Rattle.image.specs.declared.ImageView.{ImageView}
@@ -22,6 +23,28 @@ wordsOfView v =
 
 abbrev pub viewLength : ℕ
 viewLength = 17
+
+-- the view that lent words give
+abbrev sectionBy : List ℕ → ℕ → Section
+sectionBy ws k = record { offset = getD ws (1 + 2 * k) 0; count = getD ws (2 + 2 * k) 0 }
+
+abbrev pub viewBy : List ℕ → ImageView
+viewBy ws =
+    record {
+      «ink_version» = getD ws 0 0;
+      nodes = sectionBy ws 0;
+      children = sectionBy ws 1;
+      named = sectionBy ws 2;
+      definitions = sectionBy ws 3;
+      items = sectionBy ws 4;
+      index = sectionBy ws 5;
+      payload = sectionBy ws 6;
+      strings = sectionBy ws 7;
+    }
+
+-- what a query answers under lent words of a view; too few words have no answer
+unfoldable pub under : List ℕ → (ImageView → Option (List ℕ)) → Option (List ℕ)
+under view query = cond (leb viewLength (length view)) (query (viewBy view)) none
 
 -- work words that count: none where the lent view is too short
 abbrev pub lentWords : ℕ → ℕ → ℕ

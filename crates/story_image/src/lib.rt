@@ -1,26 +1,62 @@
-// The library for C and Rust (include/story_image.h): each function on numbers and lent slices.
+// The library for C and Rust (include/story_image.h): each function on numbers and lent slices. A query returns 0 and writes its words
+// at the start of the lent answer, or returns 18 and leaves the answer as it was.
+pub mod node; // node.rt: a node's view, texts
+pub mod children; // children.rt: ordered and named children
+pub mod lists; // lists.rt: list values, definitions, items
+pub mod walk; // walk.rt: walks along a path
+
 use image::ImageView;
+use image::Section;
 use load::Loaded;
 ghost use mathlib.Core.Path.{_≡_};
 ghost use Prim.Native.Nat.{_≤_};
-ghost use mathlib.Core.List.{_++_};
-ghost use lib.ListN.{length, drop};
+ghost use lib.ListN.{length};
 ghost use Rattle.image.specs.Header.{sectionsOf, viewOf};
 ghost use Rattle.load.specs.Load.{loadRule, loadWords, loadedNumber, workAfter};
-ghost use Rattle.story_image.specs.Exported.{wordsOfView, viewLength, lentWords, viewAfter};
+ghost use Rattle.story_image.specs.Exported.{wordsOfView, viewBy, viewLength, lentWords, viewAfter};
 
 // Words of a view: the ink version, then offset and count of each section.
 const VIEW_WORDS: usize = 17;
 
-// Writes words at the start of an answer.
-fn put_words(words: &[u32], out: &mut [u32])
-    requires { ⌜ length (now words) ≤ length (now out) ⌝ }
-    ensures { λ _. ⌜ now (out .exit) ≡ now (words .entry) ++ drop (length (now (words .entry))) (now (out .entry)) ⌝ }
+// The view that words give.
+fn view_of(words: &[u32]) -> ImageView
+    requires { ⌜ viewLength ≤ length (now words) ⌝ }
+    ensures { λ r. ⌜ r ≡ viewBy (now (words .entry)) ⌝ }
 {
-    let mut i = 0;
-    while i < words.len() {
-        out[i] = words[i];
-        i += 1;
+    ImageView {
+        ink_version: words[0],
+        nodes: Section {
+            offset: words[1],
+            count: words[2],
+        },
+        children: Section {
+            offset: words[3],
+            count: words[4],
+        },
+        named: Section {
+            offset: words[5],
+            count: words[6],
+        },
+        definitions: Section {
+            offset: words[7],
+            count: words[8],
+        },
+        items: Section {
+            offset: words[9],
+            count: words[10],
+        },
+        index: Section {
+            offset: words[11],
+            count: words[12],
+        },
+        payload: Section {
+            offset: words[13],
+            count: words[14],
+        },
+        strings: Section {
+            offset: words[15],
+            count: words[16],
+        },
     }
 }
 
@@ -53,7 +89,7 @@ fn put_view(found: ImageView, view: &mut [u32])
     ensures { λ _. ⌜ now (view .exit) ≡ viewAfter 0 (wordsOfView found) (now (view .entry)) ⌝ }
 {
     let words = words_of_view(found);
-    put_words(&words, view);
+    answers::put_words(&words, view);
 }
 
 fn number_of(loaded: Loaded) -> u32

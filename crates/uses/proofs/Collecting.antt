@@ -1,17 +1,15 @@
 -- The three runs of uses, of nodes, named entries and definitions, are all the uses of a draft. Assumes nothing.
-use Prim.Native.Nat.{ℕ, _+_, _-_, _*_, _/_, _≤_}
-use mathlib.Core.Path.{_≡_, refl, sym, ap, _∙_}
+use Prim.Native.Nat.{ℕ, _+_, _-_, _/_, _≤_}
+use mathlib.Core.Path.{_≡_, refl, ap}
 use mathlib.Core.List.{List, [], _∷_, _++_}
 use native.Mathlib.Omega.{arith}
 use lib.ListN.{length, length-append}
-use Rattle.laws.specs.Counted.{joinOf}
 use Rattle.laws.specs.Lists.{flatMap}
 use Rattle.image.specs.Sections.{Sections, nodeWord, namedWord, definitionWord, itemWord}
-use Rattle.records.specs.Fields.{Field, text, optional, command, operator, node, optionalNode, container, optionalContainer, plain, atMost, children, named, payload, wrong, fields, kindOf}
+use Rattle.records.specs.Fields.{Field, text, optional, command, operator, node, optionalNode, container, optionalContainer, plain, atMost, children, named, payload, wrong}
 use Rattle.records.specs.Records.{namedOf, listWord}
 use Rattle.draft.specs.Source.{draftOf}
 use Rattle.draft.specs.Numbering.{oldOf}
-use Rattle.encoder.specs.Ready.{textUses}
 use Rattle.encoder.proofs.Joined.{join-same}
 use Rattle.uses.specs.Uses.{listItemPairs, listOriginPairs, listPairs, fieldPairs, nodePairs, namedPairs, definitionPairs, allNodePairs, allNamedPairs, allDefinitionPairs, useWords, wordsFrom, Room, Put, nodesOnly, namedOnly, definitionsOnly, Olds, Readable, Collectable, Collected}
 use Rattle.uses.proofs.Pairs.{pairs-length, uses-pairs}

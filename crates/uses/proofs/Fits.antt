@@ -1,6 +1,6 @@
 -- Of a draft whose tables are right: the pairs of its uses lie inside the strings, its lists inside the payload. Assumes nothing.
 use Prim.Native.Nat.{ℕ, zero, suc, _+_, _*_, _≤_, _<_}
-use mathlib.Core.Path.{_≡_, refl, sym, ap, _∙_, subst}
+use mathlib.Core.Path.{_≡_, sym, ap, _∙_}
 use mathlib.Core.List.{List, [], _∷_, _++_}
 use mathlib.Core.Bool.{Bool, true, false, cond, _||_}
 use native.Mathlib.Omega.{arith}
@@ -9,19 +9,18 @@ use lib.ListN.{length, getD}
 use Rattle.laws.specs.Counted.{joinOf}
 use Rattle.laws.specs.Lists.{flatMap}
 use Rattle.laws.proofs.First.{both}
-use Rattle.image.specs.Sections.{Sections, nodeCount, definitionCount, partAt, tagOf, f, absent, goodText, goodIn, goodOptional}
+use Rattle.image.specs.Sections.{Sections, nodeCount, definitionCount, partAt, f, absent, goodText, goodIn, goodOptional}
 use Rattle.image.proofs.Parts.{part-length, good}
 use Rattle.records.specs.Fields.{Field, text, optional, command, operator, node, optionalNode, container, optionalContainer, plain, atMost, children, named, payload, wrong}
-use Rattle.records.specs.Records.{fieldRule, firstField, fieldsAt, fieldsRule, payloadRule, namedOf, listItems, listOrigins, listItemWord, listOriginWord}
+use Rattle.records.specs.Records.{fieldRule, firstField, fieldsAt, payloadRule, namedOf, listItems, listOrigins, listItemWord, listOriginWord}
 use Rattle.records.proofs.Passed.{text-passed, optional-passed, command-passed, operator-passed, payload-passed, payload-range, list-passed}
 use Rattle.tree.specs.Tree.{namedAt}
-use Rattle.tree.proofs.Members.{All}
-use Rattle.index.specs.Definitions.{firstItem, itemsOf}
+use Rattle.index.specs.Definitions.{itemsOf}
 use Rattle.draft.specs.Draft.{tablesRule}
 use Rattle.draft.specs.Numbering.{oldOf}
 use Rattle.draft.proofs.Rules.{Tables, tables, named-text-at, item-good}
 use Rattle.encoder.specs.Ready.{textUses}
-use Rattle.uses.specs.Uses.{useIf, listItemPairs, listOriginPairs, listPairs, fieldPairs, nodePairs, namedPairs, definitionPairs, allNodePairs, allNamedPairs, allDefinitionPairs, useWords, ListInside, Olds, Readable}
+use Rattle.uses.specs.Uses.{useIf, listItemPairs, listOriginPairs, listPairs, fieldPairs, namedPairs, definitionPairs, allNodePairs, allNamedPairs, allDefinitionPairs, useWords, Olds, Readable}
 use Rattle.uses.proofs.Pairs.{further, further-length, pairs-length, pairs-read, uses-pairs}
 
 -- ---- pairs inside

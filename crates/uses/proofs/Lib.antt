@@ -6,3 +6,4 @@ pub mod Collecting
 pub mod Fits
 pub mod Sums
 pub mod Bounds
+pub mod Enough

@@ -1,19 +1,17 @@
--- The words of the uses say the texts in use, pair by pair; each pair lies inside the strings of a draft whose tables are right.
--- Assumes nothing.
-use Prim.Native.Nat.{ℕ, zero, suc, _+_, _*_, _≤_, _<_}
-use mathlib.Core.Path.{_≡_, refl, sym, ap, _∙_}
+-- The words of the uses say the texts in use, pair by pair. Assumes nothing.
+use Prim.Native.Nat.{ℕ, zero, suc, _+_, _*_, _<_}
+use mathlib.Core.Path.{_≡_, refl, ap, _∙_}
 use mathlib.Core.List.{List, [], _∷_, _++_}
 use mathlib.Core.Bool.{Bool, true, false, cond}
 use native.Mathlib.Omega.{arith}
 use native.Mathlib.Nat.{not-suc-le-zero}
-use lib.ListN.{length, getD, length-append}
+use lib.ListN.{length, getD}
 use Rattle.laws.specs.Counted.{joinOf}
 use Rattle.laws.specs.Lists.{flatMap}
 use Rattle.image.specs.Sections.{Sections, nodeCount, definitionCount, partAt, f, absent}
 use Rattle.records.specs.Fields.{Field, text, optional, command, operator, node, optionalNode, container, optionalContainer, plain, atMost, children, named, payload, wrong}
-use Rattle.records.specs.Records.{fieldsAt, namedOf, listItems, listOrigins, listItemWord, listOriginWord}
-use Rattle.tree.specs.Tree.{namedAt, namedText}
-use Rattle.index.specs.Definitions.{itemsOf, itemTextOf}
+use Rattle.records.specs.Records.{fieldsAt, namedOf, listItems, listOrigins, listItemWord}
+use Rattle.index.specs.Definitions.{itemsOf}
 use Rattle.draft.specs.Numbering.{oldOf}
 use Rattle.encoder.specs.Strings.{textIf, listTexts, fieldTexts, nodeTexts, namedTexts, definitionTexts}
 use Rattle.encoder.specs.Ready.{textUses}

@@ -12,7 +12,7 @@ use Rattle.outputs.proofs.Filled.{Filled, start, more}
 use Rattle.outputs.proofs.Running.{join-within}
 use Rattle.image.specs.Sections.{absent}
 use Rattle.draft.specs.Numbering.{oldOf}
-use Rattle.uses.specs.Uses.{Room, Put, useIf, wordsFrom, withWords}
+use Rattle.uses.specs.Uses.{Room, Put, useIf, wordsFrom}
 
 -- ---- one run
 

@@ -18,7 +18,7 @@ use Rattle.views.specs.declared.ItemView.{ItemView}
 use Rattle.views.specs.declared.ItemAnswer.the-variants as item
 use Rattle.views.specs.View.{signed, span, shown}
 use Rattle.views.specs.Lists.{definitionQuery, itemEntry, itemQuery}
-use Rattle.written.proofs.Blocks.{w, definition-count, item-count, item-word}
+use Rattle.encoder.proofs.Blocks.{w, definition-count, item-count, item-word}
 use Rattle.written.proofs.Fields.{Given}
 use Rattle.written.proofs.Definitions.{at-word, len-word, first-item, items-of, items-right, item-inside, item-at-word, item-len-word}
 use Rattle.written_views.specs.Views.{SameText, SameItem, SameDefinition}

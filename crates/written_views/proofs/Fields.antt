@@ -16,7 +16,7 @@ use Rattle.draft.specs.Numbering.{oldOf}
 use Rattle.encoder.specs.Strings.{fieldTexts}
 use Rattle.encoder.specs.Written.{fieldStart, fieldWords}
 use Rattle.written.proofs.Texts.{in-left, in-right, in-one}
-use Rattle.written.proofs.Blocks.{w}
+use Rattle.encoder.proofs.Blocks.{w}
 use Rattle.written.proofs.Fields.{Given, old-in, Reads, ReadsAll, reads, start-is}
 use Rattle.written.proofs.Rules.{suits, all-suit, suited}
 use Rattle.written_views.specs.Views.{SameField}

@@ -26,7 +26,7 @@ use Rattle.promises.proofs.Fields.{payload-right, right-text, right-optional}
 use Rattle.promises.proofs.Views.{shown-right}
 use Rattle.promises.proofs.Whole.{part-long, items-are, origins-are, item-word, origin-word}
 use Rattle.written.proofs.Texts.{in-left, in-right, in-one}
-use Rattle.written.proofs.Blocks.{w}
+use Rattle.encoder.proofs.Blocks.{w}
 use Rattle.written.proofs.Fields.{Given, old-in}
 use Rattle.written.proofs.Payload.{list-right}
 use Rattle.written.proofs.Rules.{items-same, origins-same, item-words, origin-words, item-text, origin-text, list-kept}

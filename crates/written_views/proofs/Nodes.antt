@@ -27,7 +27,7 @@ use Rattle.views.specs.Children.{childCountOf, namedCountOf, childQuery, namedE
 use Rattle.promises.specs.Rules.{NodeRight}
 use Rattle.promises.proofs.Fields.{fields-right, right-node}
 use Rattle.promises.proofs.Views.{Seen, seen}
-use Rattle.written.proofs.Blocks.{w}
+use Rattle.encoder.proofs.Blocks.{w}
 use Rattle.written.proofs.Fields.{Given, counted, few, old-in, parent-word, place-word, tag-word, container-same, container-reads}
 use Rattle.written.proofs.Rules.{children-are, named-are, node-fields}
 use Rattle.written.proofs.Tree.{child-at, named-at}

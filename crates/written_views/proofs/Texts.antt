@@ -20,7 +20,7 @@ use Rattle.views.specs.View.{span, shown, optionalText, optionalWord}
 use Rattle.written.proofs.Lists.{or-else}
 use Rattle.tree.proofs.Places.{place-le}
 use Rattle.written.proofs.Texts.{in-one, good-utf8, good-length}
-use Rattle.written.proofs.Blocks.{w}
+use Rattle.encoder.proofs.Blocks.{w}
 use Rattle.written.proofs.Fields.{Given, few, new-is, new-in, old-in, old-new, new-old, new-zero}
 use Rattle.written.proofs.Rules.{good-at, text-at}
 use Rattle.written_views.specs.Views.{renumbered, Renumbers, SameText, SameOptional}

@@ -8,7 +8,7 @@ use Rattle.image.specs.Header.{viewOf}
 use Rattle.load.specs.Load.{loadedOf}
 use Rattle.draft.specs.Numbering.{numbering}
 use Rattle.encoder.specs.Encode.{imageFor}
-use Rattle.written.proofs.Blocks.{w, definition-count, item-count}
+use Rattle.encoder.proofs.Blocks.{w, definition-count, item-count}
 use Rattle.written.proofs.Fields.{Given, counted}
 use Rattle.written.proofs.Loads.{given, back, written-loads}
 use Rattle.written_views.specs.Views.{SameViews, WrittenViews, WrittenReads}

@@ -3,10 +3,10 @@
 use super::Ours;
 use crate::library::{Entry, Place, Queries, View};
 use reference::{Kind, Named, NodeView, Step};
-use story_image::{Image, Text, ffi};
+use story_image::{Image, Text};
 
 fn image<'a>(bytes: &'a [u8], view: &View) -> Image<'a> {
-    Image::under(bytes, ffi::View::from(*view))
+    Image::under(bytes, story_image::View::from(*view))
 }
 
 fn place(text: Text) -> Place {
@@ -89,6 +89,10 @@ impl Queries for Ours {
 
     fn list_origin(&self, bytes: &[u8], view: &View, list: Place, index: u32) -> Option<Place> {
         image(bytes, view).list_origin(text(list), index).map(place)
+    }
+
+    fn definition_count(&self, bytes: &[u8], view: &View) -> Option<u32> {
+        image(bytes, view).definition_count()
     }
 
     fn definition(&self, bytes: &[u8], view: &View, index: u32) -> Option<(Place, u32)> {

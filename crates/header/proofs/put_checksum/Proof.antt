@@ -1,25 +1,18 @@
+-- `header::put_checksum` meets its contract. Assumes nothing.
 use Rattle.header.proofs.Headed.{sum-put}
 use borrow.Author.Needs.{needs}
 use Rattle.header.proofs.put_checksum.Statement.{statement}
 use Rattle.header.proofs.put_checksum.Tie as tie
-use Rattle.header.proofs.put_checksum.Reads as reads
-use Rattle.header.proofs.put_checksum.Lts as lts
-use Rattle.checksum.proofs.checksum.Reads as checksum-reads
-use Rattle.words.proofs.put_word.Reads as put-word-reads
 
--- src/lib.rt:89:9
 checksum-requires : tie.Need-checksum-requires
 checksum-requires c κs = search needs
 
--- src/lib.rt:90:5
 put-word-requires : tie.Need-put-word-requires
 put-word-requires c κs = search needs
 
--- src/lib.rt:85:1
 same-length : tie.Need-same-length
 same-length c = search needs
 
--- src/lib.rt:85:1
 returns : tie.Need-returns
 returns c = λ ink s e. sum-put ink s _ _ _ e (c .before .before .before .before .checksum .ensures) (c .before .before .put-word .ensures)
 

@@ -1,3 +1,4 @@
+-- `header::put_magic` meets its contract. Assumes nothing.
 use Prim.Native.Nat.{_-_}
 use mathlib.Core.Path.{refl}
 use Rattle.texts.specs.Text.{ascii}
@@ -6,8 +7,6 @@ use Rattle.header.proofs.Headed.{Copying, copy-start, copy-more, copy-e
 use borrow.Author.Needs.{needs}
 use Rattle.header.proofs.put_magic.Statement.{statement}
 use Rattle.header.proofs.put_magic.Tie as tie
-use Rattle.header.proofs.put_magic.Reads as reads
-use Rattle.header.proofs.put_magic.Lts as lts
 
 abbrev Inv-loop : tie.InvT-loop
 Inv-loop out₀ magic i₀ out i = Copying magic out₀ out i

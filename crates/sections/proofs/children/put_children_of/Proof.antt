@@ -1,11 +1,10 @@
 -- `sections::children::put_children_of` meets its contract. Assumes nothing.
-use Rattle.outputs.proofs.Running.{word-room, word-next}
+use Rattle.outputs.proofs.Running.{word-room, word-next, Running, run-start, run-put}
 use Prim.Native.Nat.{_+_, _-_}
 use mathlib.Core.Path.{refl}
 use mathlib.Core.List.{[], _∷_}
 use lib.ListN.{getD}
 use native.Mathlib.Omega.{arith}
-use Rattle.outputs.proofs.Running.{Running, run-start, run-put}
 use Rattle.sections.specs.Held.{newIn}
 use Rattle.sections.proofs.Ordered.{child-words-length}
 use borrow.Author.Needs.{needs}

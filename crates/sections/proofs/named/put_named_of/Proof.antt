@@ -1,9 +1,8 @@
 -- `sections::named::put_named_of` meets its contract. Assumes nothing.
-use Rattle.outputs.proofs.Running.{three-room, three-next}
+use Rattle.outputs.proofs.Running.{three-room, three-next, Running, run-start, run-put}
 use Prim.Native.Nat.{_-_}
 use native.Mathlib.Omega.{arith}
 use mathlib.Core.Path.{refl}
-use Rattle.outputs.proofs.Running.{Running, run-start, run-put}
 use Rattle.sections.proofs.Entered.{named-entry, named-words-length}
 use borrow.Author.Needs.{needs}
 use Rattle.sections.proofs.named.put_named_of.Statement.{statement}

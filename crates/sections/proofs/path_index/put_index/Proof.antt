@@ -1,3 +1,4 @@
+-- `sections::path_index::put_index` meets its contract. Assumes nothing.
 use Prim.Native.Nat.{_-_}
 use native.Mathlib.Omega.{arith}
 use Rattle.outputs.proofs.Running.{Running, three-room, three-next}
@@ -6,10 +7,6 @@ use Rattle.sections.proofs.Pathed.{begin, finish}
 use borrow.Author.Needs.{needs}
 use Rattle.sections.proofs.path_index.put_index.Statement.{statement}
 use Rattle.sections.proofs.path_index.put_index.Tie as tie
-use Rattle.sections.proofs.path_index.put_index.Reads as reads
-use Rattle.sections.proofs.path_index.put_index.Lts as lts
-use Rattle.draft.proofs.source.word.Reads as word-reads
-use Rattle.outputs.proofs.put_words.Reads as put-words-reads
 
 abbrev Inv-loop : tie.InvT-loop
 Inv-loop work numbers paths out₀ at₀ k₀ out at k = Running 0 (paths .count) (indexWords work numbers paths) out₀ out k at

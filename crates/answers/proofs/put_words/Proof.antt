@@ -1,13 +1,13 @@
--- `story_image::put_words` meets its contract: after i turns the first i words are written. Assumes nothing.
+-- `answers::put_words` meets its contract: after i turns the first i words are written. Assumes nothing.
 use Prim.Native.Nat.{_≤_, _-_}
 use mathlib.Core.Path.{_≡_, refl}
 use mathlib.Core.List.{_++_}
 use native.Mathlib.Omega.{arith}
 use lib.ListN.{length, length-set, take, drop}
 use borrow.Author.Needs.{needs}
-use Rattle.story_image.proofs.Exporting.{put-step, put-end}
-use Rattle.story_image.proofs.put_words.Statement.{statement}
-use Rattle.story_image.proofs.put_words.Tie as tie
+use Rattle.answers.proofs.Putting.{put-step, put-end}
+use Rattle.answers.proofs.put_words.Statement.{statement}
+use Rattle.answers.proofs.put_words.Tie as tie
 
 abbrev Inv-loop : tie.InvT-loop
 Inv-loop words out₀ i₀ out i = (i ≤ length words) × (length out ≡ length out₀) × (out ≡ take i words ++ drop i out₀)

@@ -1,0 +1,3 @@
+pub mod Putting
+pub mod Bits
+pub mod Shows

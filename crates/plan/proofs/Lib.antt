@@ -1,0 +1,5 @@
+pub mod Known
+pub mod Preparing
+pub mod Storing
+pub mod Planning
+pub mod Steps

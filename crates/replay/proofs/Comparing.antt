@@ -1,0 +1,71 @@
+-- A comparison of recorded words, word by word, and what a record says by it. Assumes nothing.
+use Prim.Native.Nat.{ℕ, _+_, _<_, _/_}
+use mathlib.Core.Path.{_≡_, refl, sym, ap, subst, _∙_}
+use mathlib.Core.List.{List, [], _∷_}
+use mathlib.Core.Bool.{Bool, true, false}
+use mathlib.Core.Option.{Option, none, some}
+use native.Mathlib.Nat.{not-suc-le-zero}
+use lib.ListN.{length, getD}
+use lib.Seq.{ext-getD}
+use lib.Dec.{eqb}
+use borrow.Author.Count.{below-more}
+use Rattle.laws.proofs.Cases.{eq-yes, eq-no}
+use Rattle.words.specs.Words.{wordIn, wordsOf}
+use Rattle.words.proofs.Words.{length-words}
+use Rattle.texts.specs.Text.{same}
+use Rattle.texts.proofs.Text.{equal-same, unlike-same, length-same}
+use Rattle.image.specs.Header.{sectionBytes}
+use Rattle.views.specs.declared.Found.{Found}
+use Rattle.views.specs.declared.Found.the-variants.{Node, NotFound}
+use Rattle.answers.specs.Handed.{foundAnswer}
+use Rattle.replay.specs.Recorded.{recorded}
+
+-- ---- word by word
+
+module _ (part ws : List ℕ) where
+  -- the words below i agree
+  unfoldable pub Agree : ℕ → Type 0
+  Agree i = (k : ℕ) → k < i → getD (wordsOf part) k 0 ≡ getD ws k 0
+
+  pub agree-none : Agree 0
+  unfolding Agree
+  agree-none k l = absurd (not-suc-le-zero l)
+
+  pub agree-more : (i x : ℕ) → x ≡ getD (wordsOf part) i 0 → x ≡ getD ws i 0 → Agree i → Agree (i + 1)
+  unfolding Agree
+  agree-more i x e h all = below-more (λ (k : ℕ). getD (wordsOf part) k 0 ≡ getD ws k 0) i all (sym e ∙ h)
+
+  pub agree-all : (i : ℕ) → length part / 4 ≡ length ws → i ≡ length ws → Agree i → true ≡ same (wordsOf part) ws
+  unfolding Agree
+  agree-all i e l all =
+      let n = length-words part ∙ e in
+      sym (equal-same (wordsOf part) ws (ext-getD 0 (wordsOf part) ws n (λ k b. all k (subst (λ (m : ℕ). k < m) (n ∙ sym l) b))))
+
+  pub unlike-word : (i x : ℕ) → x ≡ getD (wordsOf part) i 0 → (x ≡ getD ws i 0 → ⊥) → false ≡ same (wordsOf part) ws
+  unlike-word i x e d = sym (unlike-same (wordsOf part) ws (λ q. d (e ∙ ap (λ (l : List ℕ). getD l i 0) q)))
+
+  pub unlike-length : (length part / 4 ≡ length ws → ⊥) → false ≡ same (wordsOf part) ws
+  unlike-length d = sym (length-same (wordsOf part) ws (λ e. d (sym (length-words part) ∙ e)))
+
+-- ---- what a record says; x is its word at `at`
+
+module _ (f : List ℕ) (at x : ℕ) (e : x ≡ wordIn f at) where
+  pub other-number : (count : ℕ) (ws : List ℕ) → (x ≡ 0 → ⊥) → false ≡ recorded f at count (some ws)
+  unfolding recorded
+  other-number count ws d = eq-no (wordIn f at) 0 _ _ false (λ q. d (e ∙ q)) refl
+
+  pub words-then : (count : ℕ) (ws part : List ℕ) (r : Bool) → x ≡ 0 → part ≡ sectionBytes f (record { offset = at + 4; count = count }) 4 → r ≡ same (wordsOf part) ws → r ≡ recorded f at count (some ws)
+  unfolding recorded
+  words-then count ws part r z p h = eq-yes (wordIn f at) 0 _ _ r (sym e ∙ z) (h ∙ ap (λ (l : List ℕ). same (wordsOf l) ws) p)
+
+  pub number-alone : (r : Bool) → r ≡ eqb x 18 → r ≡ recorded f at 0 none
+  unfolding recorded
+  number-alone r h = h ∙ ap (λ (y : ℕ). eqb y 18) e
+
+module _ (f : List ℕ) (at : ℕ) (a : Found) (r : Bool) where
+  pub node-found : (n : ℕ) → a ≡ Node n → r ≡ recorded f at 1 (some (n ∷ [])) → r ≡ recorded f at 1 (foundAnswer a)
+  node-found n e h = rw e h
+
+  pub node-none : a ≡ NotFound → r ≡ recorded f at 0 none → r ≡ recorded f at 1 (foundAnswer a)
+  unfolding recorded
+  node-none e h = rw e h
