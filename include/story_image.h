@@ -125,16 +125,18 @@ uint32_t story_image_resolve_path(const uint8_t *bytes, size_t length, const uin
                                   uint32_t origin, bool relative, const uint32_t *path, size_t path_length,
                                   const uint8_t *names, size_t names_length, uint32_t *answer, size_t answer_length);
 
-/* Below this line: to come, not yet in the static library. */
-
-/* 0, and the length written; or 3, 7, 19 to 23, and 0. Work words: 16 a node, 4 for each child, named entry,
- * definition, item and payload byte. */
+/* Writes the image of a draft at the start of the output: sections 0 to 4 as words, payload and strings as bytes; any
+ * numbering with root 0. 0, and the image's length as the first of the written words; bytes and words past them stay. Or
+ * 3, 7, 19 to 23, the number of the first rule broken, and output and written words stay as they were. Work words needed:
+ * 16 a node, 4 for each child, named entry, definition, item and payload byte; numbers 3, 19 and 7 leave all work words
+ * as they were, else as many as are needed are 0 on return and the rest stays. No word for the length counts as a lack
+ * of work words: 7, after 3 and 19. */
 uint32_t story_image_write(uint32_t ink_version, const uint32_t *nodes, size_t nodes_length, const uint32_t *children,
                            size_t children_length, const uint32_t *named, size_t named_length,
                            const uint32_t *definitions, size_t definitions_length, const uint32_t *items,
                            size_t items_length, const uint8_t *payload, size_t payload_length, const uint8_t *strings,
                            size_t strings_length, uint32_t *work, size_t work_length, uint8_t *output,
-                           size_t output_length, uint32_t *written);
+                           size_t output_length, uint32_t *written, size_t written_length);
 
 #ifdef __cplusplus
 }

@@ -183,5 +183,6 @@ unsafe extern "C" {
         output: *mut u8,
         output_length: usize,
         written: *mut u32,
+        written_length: usize,
     ) -> u32;
 }

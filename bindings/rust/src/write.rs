@@ -24,8 +24,8 @@ impl Draft<'_> {
 
 /// Writes the image at the start of the output; gives its length.
 pub fn write(ink_version: u32, draft: &Draft<'_>, work: &mut [u32], output: &mut [u8]) -> Result<usize, Refusal> {
-    let mut written = 0;
-    // SAFETY: all slices are ours, do not overlap where they are mutable, and live through the call.
+    let mut written = [0];
+    // SAFETY: the slices are ours, the mutable ones do not overlap, and all live through the call.
     let number = unsafe {
         ffi::story_image_write(
             ink_version,
@@ -47,8 +47,9 @@ pub fn write(ink_version: u32, draft: &Draft<'_>, work: &mut [u32], output: &mut
             work.len(),
             output.as_mut_ptr(),
             output.len(),
-            &mut written,
+            written.as_mut_ptr(),
+            written.len(),
         )
     };
-    if number == 0 { Ok(written as usize) } else { Err(Refusal(number)) }
+    if number == 0 { Ok(written[0] as usize) } else { Err(Refusal(number)) }
 }

@@ -1,3 +1,4 @@
 pub mod Exporting
 pub mod Asking
 pub mod Parts
+pub mod Handing

@@ -4,6 +4,7 @@ pub mod node; // node.rt: a node's view, texts
 pub mod children; // children.rt: ordered and named children
 pub mod lists; // lists.rt: list values, definitions, items
 pub mod walk; // walk.rt: walks along a path
+pub mod write; // write.rt: writing an image
 
 use image::ImageView;
 use image::Section;

@@ -1,0 +1,251 @@
+// Writes the small examples of document 01's rows 3, 7 and 19 to 23, and of the drafts at the edges. Standard input holds records of
+// words: ink version, output bytes and work words lent, the lengths of the draft's seven slices; then the slices. A line is printed for
+// each: its place, the number, the length that was written, the CRC-32 of the lent output and how many of the lent work words are 0.
+use libc::STDIN_FILENO;
+use libc::STDOUT_FILENO;
+use writer::Encoded;
+ghost use Prim.Native.Nat.{_≤_};
+
+// What a record begins with.
+struct Head {
+    ink: u32,
+    out: u32,
+    work: u32,
+    nodes: u32,
+    children: u32,
+    named: u32,
+    definitions: u32,
+    items: u32,
+    payload: u32,
+    strings: u32,
+}
+
+fn head_of(record: &[u8]) -> Head {
+    Head {
+        ink: words::get(record, 0),
+        out: words::get(record, 4),
+        work: words::get(record, 8),
+        nodes: words::get(record, 12),
+        children: words::get(record, 16),
+        named: words::get(record, 20),
+        definitions: words::get(record, 24),
+        items: words::get(record, 28),
+        payload: words::get(record, 32),
+        strings: words::get(record, 36),
+    }
+}
+
+// How many words its slices have.
+fn words_in(head: Head) -> usize
+    ensures { λ r. ⌜ r ≤ 21474836475 ⌝ }
+{
+    let tree = head.nodes as usize + head.children as usize + head.named as usize;
+    tree + head.definitions as usize + head.items as usize
+}
+
+// How many bytes a record has.
+fn size_of(head: Head) -> usize
+    ensures { λ r. ⌜ r ≤ 100000000000 ⌝ }
+{
+    40 + 4 * words_in(head) + head.payload as usize + head.strings as usize
+}
+
+// The bytes behind the first n.
+fn after(bytes: &[u8], n: usize) -> &[u8] {
+    if n <= bytes.len() {
+        &bytes[n..]
+    } else {
+        &bytes[..0]
+    }
+}
+
+// The first so many bytes.
+fn front(bytes: &[u8], count: u32) -> &[u8] {
+    let n = count as usize;
+    if n <= bytes.len() { &bytes[..n] } else { bytes }
+}
+
+// The first so many of 64 words.
+fn first(words: &[u32; 64], count: u32) -> &[u32] {
+    let all: &[u32] = words;
+    let n = count as usize;
+    if n <= all.len() { &all[..n] } else { all }
+}
+
+// The words that bytes begin with.
+fn read_words(bytes: &[u8], to: &mut [u32; 64]) {
+    let mut i = 0;
+    while i < 64 {
+        to[i] = words::get(bytes, 4 * i);
+        i += 1;
+    }
+}
+
+// 1 for a word that is 0.
+fn zero(word: u32) -> u64
+    ensures { λ r. ⌜ r ≤ 1 ⌝ }
+{
+    if word == 0 { 1 } else { 0 }
+}
+
+// How many of the words are 0.
+fn zeros(words: &[u32]) -> u64 {
+    let mut n = 0u64;
+    let mut i = 0;
+    while i < words.len() {
+        n += zero(words[i]);
+        i += 1;
+    }
+    n
+}
+
+fn print_number(n: u64) {
+    io::write_all(STDOUT_FILENO, b" ");
+    io::print_decimal(STDOUT_FILENO, n);
+}
+
+fn print_answer(answer: Encoded) {
+    match answer {
+        Encoded::Written(length) => {
+            print_number(0);
+            print_number(length as u64);
+        }
+        Encoded::Refused(number) => {
+            print_number(number as u64);
+            print_number(0);
+        }
+    }
+}
+
+// Writes a draft into what is lent, and prints what came of it.
+fn write_lent(
+    head: Head,
+    nodes: &[u32],
+    children: &[u32],
+    named: &[u32],
+    definitions: &[u32],
+    items: &[u32],
+    payload: &[u8],
+    strings: &[u8],
+    out: &mut [u8],
+    work: &mut [u32],
+) {
+    let answer = writer::encode(
+        head.ink,
+        nodes,
+        children,
+        named,
+        definitions,
+        items,
+        payload,
+        strings,
+        out,
+        work,
+    );
+    print_answer(answer);
+    print_number(checksum::crc(out) as u64);
+    print_number(zeros(work));
+    io::write_all(STDOUT_FILENO, b"\n");
+}
+
+// Lends as much of 512 bytes and 512 words as a record says, none of them 0.
+fn write_draft(
+    head: Head,
+    nodes: &[u32],
+    children: &[u32],
+    named: &[u32],
+    definitions: &[u32],
+    items: &[u32],
+    payload: &[u8],
+    strings: &[u8],
+) {
+    let mut bytes = [170u8; 512];
+    let mut words = [7u32; 512];
+    let m = head.out as usize;
+    let n = head.work as usize;
+    if 512 < m {
+        return;
+    }
+    if 512 < n {
+        return;
+    }
+    let out: &mut [u8] = &mut bytes;
+    let work: &mut [u32] = &mut words;
+    write_lent(
+        head,
+        nodes,
+        children,
+        named,
+        definitions,
+        items,
+        payload,
+        strings,
+        &mut out[..m],
+        &mut work[..n],
+    );
+}
+
+// Writes the draft of a record, of which each slice has at most 64 words.
+fn run_record(record: &[u8], head: Head) {
+    let mut nodes = [0u32; 64];
+    let mut children = [0u32; 64];
+    let mut named = [0u32; 64];
+    let mut definitions = [0u32; 64];
+    let mut items = [0u32; 64];
+    let from_nodes = after(record, 40);
+    let from_children = after(from_nodes, 4 * head.nodes as usize);
+    let from_named = after(from_children, 4 * head.children as usize);
+    let from_definitions = after(from_named, 4 * head.named as usize);
+    let from_items = after(from_definitions, 4 * head.definitions as usize);
+    let from_payload = after(from_items, 4 * head.items as usize);
+    let from_strings = after(from_payload, head.payload as usize);
+    read_words(from_nodes, &mut nodes);
+    read_words(from_children, &mut children);
+    read_words(from_named, &mut named);
+    read_words(from_definitions, &mut definitions);
+    read_words(from_items, &mut items);
+    write_draft(
+        head,
+        first(&nodes, head.nodes),
+        first(&children, head.children),
+        first(&named, head.named),
+        first(&definitions, head.definitions),
+        first(&items, head.items),
+        front(from_payload, head.payload),
+        front(from_strings, head.strings),
+    );
+}
+
+// The record that bytes begin with; answers its size, or 0 where there is none.
+fn run_one(records: &[u8], place: u32) -> usize
+    ensures { λ r. ⌜ r ≤ 100000000000 ⌝ }
+{
+    let head = head_of(records);
+    if head.nodes == 0 {
+        return 0;
+    }
+    io::print_decimal(STDOUT_FILENO, place as u64);
+    io::write_all(STDOUT_FILENO, b":");
+    run_record(records, head);
+    size_of(head)
+}
+
+// Every record, up to 100.
+fn run_all(records: &[u8]) {
+    let mut at = 0usize;
+    let mut place = 1u32;
+    while place <= 100 {
+        let size = run_one(after(records, at), place);
+        if size == 0 {
+            return;
+        }
+        at += size;
+        place += 1;
+    }
+}
+
+fn main() {
+    let mut buffer = io::large_buffer();
+    let n = io::read_full(STDIN_FILENO, &mut buffer);
+    run_all(&buffer[..n]);
+}

@@ -1,0 +1,104 @@
+// Writing an image from a draft.
+use writer::Encoded;
+ghost use mathlib.Core.Path.{_≡_};
+ghost use lib.ListN.{length};
+ghost use Rattle.draft.specs.Draft.{writeWords};
+ghost use Rattle.draft.specs.Source.{draftOf};
+ghost use Rattle.encoder.specs.Encode.{imageFor, encodeRule, outAfter, encodeWorkAfter};
+ghost use Rattle.writer.specs.Answer.{encodedNumber};
+ghost use Rattle.story_image.specs.Lengths.{wordsFor, lengthAfter};
+
+fn number_of(answer: Encoded) -> u32
+    ensures { λ r. ⌜ r ≡ encodedNumber answer ⌝ }
+{
+    match answer {
+        Encoded::Written(_) => 0,
+        Encoded::Refused(number) => number,
+    }
+}
+
+// The number of a draft that is written without work words.
+fn write_without_words(
+    ink: u32,
+    nodes: &[u32],
+    children: &[u32],
+    named: &[u32],
+    definitions: &[u32],
+    items: &[u32],
+    payload: &[u8],
+    strings: &[u8],
+    output: &mut [u8],
+) -> u32
+    ensures answer { λ r. ⌜ r ≡ encodeRule ink (draftOf (now (nodes .entry)) (now (children .entry)) (now (named .entry)) (now (definitions .entry)) (now (items .entry)) (now (payload .entry)) (now (strings .entry))) 0 (length (now (output .entry))) ⌝ }
+    ensures output { λ r. ⌜ now (output .exit) ≡ outAfter r (imageFor ink (draftOf (now (nodes .entry)) (now (children .entry)) (now (named .entry)) (now (definitions .entry)) (now (items .entry)) (now (payload .entry)) (now (strings .entry)))) (now (output .entry)) ⌝ }
+{
+    let mut word = [0u32; 1];
+    let none: &mut [u32] = &mut word;
+    let answer = writer::encode(
+        ink,
+        nodes,
+        children,
+        named,
+        definitions,
+        items,
+        payload,
+        strings,
+        output,
+        &mut none[..0],
+    );
+    number_of(answer)
+}
+
+// Writes the image of a draft at the start of the output and its length into the first word of `written`; or gives the number of the
+// first rule broken, and leaves the output and `written` as they were. A `written` without a word counts as a lack of work words.
+#[no_mangle]
+pub extern "C" fn story_image_write(
+    ink: u32,
+    nodes: &[u32],
+    children: &[u32],
+    named: &[u32],
+    definitions: &[u32],
+    items: &[u32],
+    payload: &[u8],
+    strings: &[u8],
+    work: &mut [u32],
+    output: &mut [u8],
+    written: &mut [u32],
+) -> u32
+    ensures answer { λ r. ⌜ r ≡ encodeRule ink (draftOf (now (nodes .entry)) (now (children .entry)) (now (named .entry)) (now (definitions .entry)) (now (items .entry)) (now (payload .entry)) (now (strings .entry))) (wordsFor (length (now (written .entry))) (length (now (work .entry)))) (length (now (output .entry))) ⌝ }
+    ensures words { λ r. ⌜ now (work .exit) ≡ encodeWorkAfter (writeWords (draftOf (now (nodes .entry)) (now (children .entry)) (now (named .entry)) (now (definitions .entry)) (now (items .entry)) (now (payload .entry)) (now (strings .entry)))) r (now (work .entry)) ⌝ }
+    ensures image { λ r. ⌜ now (output .exit) ≡ outAfter r (imageFor ink (draftOf (now (nodes .entry)) (now (children .entry)) (now (named .entry)) (now (definitions .entry)) (now (items .entry)) (now (payload .entry)) (now (strings .entry)))) (now (output .entry)) ⌝ }
+    ensures length { λ r. ⌜ now (written .exit) ≡ lengthAfter r (length (imageFor ink (draftOf (now (nodes .entry)) (now (children .entry)) (now (named .entry)) (now (definitions .entry)) (now (items .entry)) (now (payload .entry)) (now (strings .entry))))) (now (written .entry)) ⌝ }
+{
+    if written.len() < 1 {
+        return write_without_words(
+            ink,
+            nodes,
+            children,
+            named,
+            definitions,
+            items,
+            payload,
+            strings,
+            output,
+        );
+    }
+    match writer::encode(
+        ink,
+        nodes,
+        children,
+        named,
+        definitions,
+        items,
+        payload,
+        strings,
+        output,
+        work,
+    ) {
+        Encoded::Written(length) => {
+            written[0] = length;
+            0
+        }
+        Encoded::Refused(number) => number,
+    }
+}
