@@ -1,2 +1,5 @@
 pub mod Numbers
 pub mod Answers
+pub mod Readying
+pub mod Outcomes
+pub mod Putting
