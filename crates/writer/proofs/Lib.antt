@@ -3,3 +3,4 @@ pub mod Answers
 pub mod Readying
 pub mod Outcomes
 pub mod Putting
+pub mod Writing

@@ -46,12 +46,11 @@ module _ (ink : ℕ) (s : Sections) (z : s .stride ≡ nodeWords) (w : List ℕ)
 
       module _ (h : m ≤ length out₀) where
         pub fill-asks : Ready s w (numbersBy l u) (tablesBy l u) (entriesBy s u) × (imageLength s ≤ length out₀)
-        fill-asks =
-            (
-              subst (λ (x : Layout). Ready s w (numbersBy x u) (tablesBy x u) (entriesBy s u)) (sym (d .layout))
-                  (ready s z (d .tables) (d .planned) w (d .long) u (d .prepared) (sized .1)),
-              omega (arith, sized .0),
-            )
+        fill-asks = (
+          subst (λ (x : Layout). Ready s w (numbersBy x u) (tablesBy x u) (entriesBy s u)) (sym (d .layout))
+              (ready s z (d .tables) (d .planned) w (d .long) u (d .prepared) (sized .1)),
+          omega (arith, sized .0),
+        )
 
         pub put-done : (out : List ℕ) → out ≡ over (imageFor ink s) out₀ → Answered ink s (unless (fits ink s (length out₀)) 23) out₀ out (Written m)
         put-done out o = image-put ink s z (d .tables) (rules s z (d .tables) (d .planned) .0) out₀ m out (sized .1) (omega (arith, sized .0)) (sized .0) o

@@ -3,15 +3,24 @@ ghost use mathlib.Core.Path.{_≡_};
 ghost use lib.ListN.{length};
 ghost use Rattle.draft.specs.Source.{draftOf};
 ghost use Prim.Native.Nat.{_+_, _*_, _≤_};
-ghost use Rattle.writer.specs.Answer.{encodedOf, fits, Answered};
+ghost use Rattle.writer.specs.Answer.{encodedOf, fits, Answered, WrittenWith};
+ghost use mathlib.Core.Bool.{true};
+ghost use Rattle.draft.specs.Draft.{tablesRule, writeWords};
+ghost use Rattle.image.specs.Header.{inkRight};
+ghost use Rattle.encoder.specs.Encode.{imageFor, encodeRule, outAfter, encodeWorkAfter};
 ghost use Rattle.laws.specs.Refusal.{unless};
 ghost use Rattle.writer.specs.Planned.{layoutBy, Drawn};
+use draft::Needed;
+use draft::tables;
 use fill::size;
 use fill::size::Entries;
 use fill::size::Size;
+use image::refusal::BAD_INK_VERSION;
 use image::refusal::NO_ROOM;
+use image::refusal::TOO_FEW_WORDS;
 use keys::Tables;
 use plan::Layout;
+use plan::Plan;
 use plan::Uses;
 use sections::numbers::Numbers;
 
@@ -107,3 +116,58 @@ fn put_image(
         }
     }
 }
+
+// Plans and writes the image of a draft whose tables are right, in exactly the work words that it needs.
+fn write(
+    ink: u32,
+    nodes: &[u32],
+    children: &[u32],
+    named: &[u32],
+    definitions: &[u32],
+    items: &[u32],
+    payload: &[u8],
+    strings: &[u8],
+    out: &mut [u8],
+    work: &mut [u32],
+) -> Encoded
+    requires { ⌜ (inkRight ink ≡ true) × (tablesRule (draftOf (now nodes) (now children) (now named) (now definitions) (now items) (now payload) (now strings)) ≡ 0) ⌝ }
+    requires { ⌜ length (now work) ≡ writeWords (draftOf (now nodes) (now children) (now named) (now definitions) (now items) (now payload) (now strings)) ⌝ }
+    ensures { λ r. ⌜ WrittenWith ink (draftOf (now (nodes .entry)) (now (children .entry)) (now (named .entry)) (now (definitions .entry)) (now (items .entry)) (now (payload .entry)) (now (strings .entry))) (now (out .entry)) (now (out .exit)) r ⌝ }
+{
+    let l = layout_of(
+        nodes.len() / 10,
+        named.len() / 3,
+        definitions.len() / 4,
+        items.len() / 3,
+        payload.len(),
+        work.len(),
+    );
+    match plan::prepare(
+        nodes,
+        children,
+        named,
+        definitions,
+        items,
+        payload,
+        strings,
+        work,
+        l,
+    ) {
+        Plan::Refused(number) => Encoded::Refused(number),
+        Plan::Ready(uses) => put_image(
+            ink,
+            nodes,
+            children,
+            named,
+            definitions,
+            items,
+            payload,
+            strings,
+            work,
+            l,
+            uses,
+            out,
+        ),
+    }
+}
+
