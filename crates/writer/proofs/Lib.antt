@@ -4,3 +4,4 @@ pub mod Readying
 pub mod Outcomes
 pub mod Putting
 pub mod Writing
+pub mod Lending

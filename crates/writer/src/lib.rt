@@ -171,3 +171,57 @@ fn write(
     }
 }
 
+// Writes the image of a draft at the start of the output and gives its length, or the number of the first rule that the draft breaks:
+// 3, 19, 7, 20, 21, 22, 23. A refusal leaves the output as it was; 3, 19 and 7 leave the work words too, otherwise as many as are
+// needed are 0 on return.
+pub fn encode(
+    ink: u32,
+    nodes: &[u32],
+    children: &[u32],
+    named: &[u32],
+    definitions: &[u32],
+    items: &[u32],
+    payload: &[u8],
+    strings: &[u8],
+    out: &mut [u8],
+    work: &mut [u32],
+) -> Encoded
+    ensures answer { λ r. ⌜ r ≡ encodedOf ink (draftOf (now (nodes .entry)) (now (children .entry)) (now (named .entry)) (now (definitions .entry)) (now (items .entry)) (now (payload .entry)) (now (strings .entry))) (length (now (work .entry))) (length (now (out .entry))) ⌝ }
+    ensures output { λ r. ⌜ now (out .exit) ≡ outAfter (encodeRule ink (draftOf (now (nodes .entry)) (now (children .entry)) (now (named .entry)) (now (definitions .entry)) (now (items .entry)) (now (payload .entry)) (now (strings .entry))) (length (now (work .entry))) (length (now (out .entry)))) (imageFor ink (draftOf (now (nodes .entry)) (now (children .entry)) (now (named .entry)) (now (definitions .entry)) (now (items .entry)) (now (payload .entry)) (now (strings .entry)))) (now (out .entry)) ⌝ }
+    ensures words { λ r. ⌜ now (work .exit) ≡ encodeWorkAfter (writeWords (draftOf (now (nodes .entry)) (now (children .entry)) (now (named .entry)) (now (definitions .entry)) (now (items .entry)) (now (payload .entry)) (now (strings .entry)))) (encodeRule ink (draftOf (now (nodes .entry)) (now (children .entry)) (now (named .entry)) (now (definitions .entry)) (now (items .entry)) (now (payload .entry)) (now (strings .entry))) (length (now (work .entry))) (length (now (out .entry)))) (now (work .entry)) ⌝ }
+{
+    if !draft::ink_right(ink) {
+        return Encoded::Refused(BAD_INK_VERSION);
+    }
+    let broken = tables::tables_rule(nodes, children, named, definitions, items, payload, strings);
+    if broken != 0 {
+        return Encoded::Refused(broken);
+    }
+    match draft::work_words_fit(
+        nodes,
+        children,
+        named,
+        definitions,
+        items,
+        payload,
+        work.len(),
+    ) {
+        Needed::TooMany => Encoded::Refused(TOO_FEW_WORDS),
+        Needed::Words(needed) => {
+            let answer = write(
+                ink,
+                nodes,
+                children,
+                named,
+                definitions,
+                items,
+                payload,
+                strings,
+                out,
+                &mut work[..needed],
+            );
+            tree::clear(work, needed);
+            answer
+        }
+    }
+}
