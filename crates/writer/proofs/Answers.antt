@@ -18,6 +18,7 @@ use Rattle.encoder.specs.Encode.{imageFor, draftRule, encodeRule, untouched}
 use Rattle.fill.specs.Length.{storedBytes, imageLength}
 use Rattle.fill.proofs.Sized.{length-is}
 use Rattle.fill.proofs.Known.{uses-fewer}
+use Rattle.writer.specs.Answer.{fits}
 use Rattle.writer.proofs.Numbers.{reach-clears, shape-clears, paths-clear, room-clears, both-clear}
 
 -- the tests of 23 while the image is planned: a word can count the texts in use, and say how long the stored ones are
@@ -27,10 +28,6 @@ lengthsRule s = unless (leb (length (uses s (numbering s))) NONE) 23 ▸ unless 
 -- the rules that are tested while it is planned
 abbrev planned : Sections → ℕ
 planned s = reachRule s ▸ shapeRule s ▸ pathsRule s ▸ lengthsRule s
-
--- the image fits the output, and a word can say how long it is
-abbrev pub fits : ℕ → Sections → ℕ → Bool
-fits ink s room = leb (length (imageFor ink s)) room && leb (length (imageFor ink s)) NONE
 
 onward : (a b c : ℕ) → ((a ▸ b) ▸ c) ≡ (a ▸ (b ▸ c))
 unfolding _▸_

@@ -1,8 +1,14 @@
 -- What the writer answers: the length of the image, or the number of the first rule that is broken. Assumes nothing.
-use Prim.Native.Nat.{ℕ, zero, suc}
+use Prim.Native.Nat.{ℕ, zero, suc, _≤_}
+use mathlib.Core.Path.{_≡_}
+use mathlib.Core.List.{List}
+use mathlib.Core.Bool.{Bool, _&&_}
 use lib.ListN.{length}
+use lib.Dec.{leb}
+use Rattle.words.specs.Words.{NONE}
 use Rattle.image.specs.Sections.{Sections}
-use Rattle.encoder.specs.Encode.{imageFor, encodeRule, encodes}
+use Rattle.draft.specs.Draft.{writeWords}
+use Rattle.encoder.specs.Encode.{imageFor, encodeRule, outAfter, encodes}
 use Rattle.writer.specs.declared.Encoded.{Encoded}
 use Rattle.writer.specs.declared.Encoded.the-variants.{Written, Refused}
 
@@ -19,6 +25,21 @@ encodedOf ink s work room = encodedBy (encodeRule ink s work room) (length (imag
 abbrev pub encodedNumber : Encoded → ℕ
 encodedNumber (Written long) = 0
 encodedNumber (Refused r) = r
+
+-- ---- from step to step
+
+-- the image fits the output, and a word can say how long it is
+abbrev pub fits : ℕ → Sections → ℕ → Bool
+fits ink s room = leb (length (imageFor ink s)) room && leb (length (imageFor ink s)) NONE
+
+-- the answer and the output where the number is r
+pub record Answered (ink : ℕ) (s : Sections) (r : ℕ) (out₀ out : List ℕ) (a : Encoded) : Type 0 where
+  pub answer : a ≡ encodedBy r (length (imageFor ink s))
+  pub output : out ≡ outAfter r (imageFor ink s) out₀
+
+-- with as many work words as the draft needs, or more
+abbrev pub WrittenWith : ℕ → Sections → List ℕ → List ℕ → Encoded → Type 0
+WrittenWith ink s out₀ out a = (work : ℕ) → writeWords s ≤ work → Answered ink s (encodeRule ink s work (length out₀)) out₀ out a
 
 -- names on an `unfolding` line what a computation with this module needs
 unfoldable pub encoded : Unit {0}

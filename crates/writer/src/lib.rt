@@ -1,7 +1,227 @@
 // The writer: a draft becomes an image, or the number of the first rule that it breaks.
+ghost use mathlib.Core.Path.{_≡_};
+ghost use lib.ListN.{length};
+ghost use Rattle.draft.specs.Source.{draftOf};
+ghost use Prim.Native.Nat.{_+_, _*_, _≤_};
+ghost use Rattle.writer.specs.Answer.{encodedOf, fits, Answered, WrittenWith};
+ghost use mathlib.Core.Bool.{true};
+ghost use Rattle.draft.specs.Draft.{tablesRule, writeWords};
+ghost use Rattle.image.specs.Header.{inkRight};
+ghost use Rattle.encoder.specs.Encode.{imageFor, encodeRule, outAfter, encodeWorkAfter};
+ghost use Rattle.laws.specs.Refusal.{unless};
+ghost use Rattle.writer.specs.Planned.{layoutBy, Drawn};
+use draft::Needed;
+use draft::tables;
+use fill::size;
+use fill::size::Entries;
+use fill::size::Size;
+use image::refusal::BAD_INK_VERSION;
+use image::refusal::NO_ROOM;
+use image::refusal::TOO_FEW_WORDS;
+use keys::Tables;
+use plan::Layout;
+use plan::Plan;
+use plan::Uses;
+use sections::numbers::Numbers;
 
 // The length of the image that was written, or document 01's number.
 pub enum Encoded {
     Written(u32),
     Refused(u32),
+}
+
+// Where the tables lie, by a draft's counts and the work words that it needs.
+fn layout_of(
+    nodes: usize,
+    named: usize,
+    definitions: usize,
+    items: usize,
+    payload: usize,
+    needed: usize,
+) -> Layout
+    requires { ⌜ 16 * nodes + 4 * (named + definitions + items + payload) ≤ needed ⌝ }
+    ensures { λ r. ⌜ r ≡ layoutBy nodes named definitions items payload needed ⌝ }
+{
+    let uses = 2 * nodes + named + definitions + items + payload;
+    Layout {
+        at: 2 * uses,
+        paths: 2 * uses,
+        lengths: 2 * uses + nodes,
+        order: needed - 2 * nodes,
+        new: needed - nodes,
+    }
+}
+
+// Writes the image that was planned, if it fits the output.
+fn put_image(
+    ink: u32,
+    nodes: &[u32],
+    children: &[u32],
+    named: &[u32],
+    definitions: &[u32],
+    items: &[u32],
+    payload: &[u8],
+    strings: &[u8],
+    work: &[u32],
+    l: Layout,
+    uses: Uses,
+    out: &mut [u8],
+) -> Encoded
+    requires { ⌜ Drawn (draftOf (now nodes) (now children) (now named) (now definitions) (now items) (now payload) (now strings)) (now work) l uses ⌝ }
+    ensures { λ r. ⌜ Answered ink (draftOf (now (nodes .entry)) (now (children .entry)) (now (named .entry)) (now (definitions .entry)) (now (items .entry)) (now (payload .entry)) (now (strings .entry))) (unless (fits ink (draftOf (now (nodes .entry)) (now (children .entry)) (now (named .entry)) (now (definitions .entry)) (now (items .entry)) (now (payload .entry)) (now (strings .entry))) (length (now (out .entry)))) 23) (now (out .entry)) (now (out .exit)) r ⌝ }
+{
+    let entries = Entries {
+        nodes: nodes.len() / 10,
+        children: children.len(),
+        named: named.len() / 3,
+        definitions: definitions.len() / 4,
+        items: items.len() / 3,
+        index: uses.paths,
+        payload: payload.len(),
+        strings: uses.strings,
+    };
+    match size::image_length(entries) {
+        Size::TooLong => Encoded::Refused(NO_ROOM),
+        Size::Bytes(length) => {
+            if out.len() < length as usize {
+                return Encoded::Refused(NO_ROOM);
+            }
+            let numbers = Numbers {
+                order: l.order,
+                new: l.new,
+                offsets: uses.texts + uses.paths,
+            };
+            let tables = Tables {
+                at: l.at,
+                texts: uses.texts,
+                paths: l.paths,
+                lengths: l.lengths,
+            };
+            fill::fill(
+                ink,
+                nodes,
+                children,
+                named,
+                definitions,
+                items,
+                payload,
+                strings,
+                work,
+                numbers,
+                tables,
+                entries,
+                out,
+            );
+            Encoded::Written(length)
+        }
+    }
+}
+
+// Plans and writes the image of a draft whose tables are right, in exactly the work words that it needs.
+fn write(
+    ink: u32,
+    nodes: &[u32],
+    children: &[u32],
+    named: &[u32],
+    definitions: &[u32],
+    items: &[u32],
+    payload: &[u8],
+    strings: &[u8],
+    out: &mut [u8],
+    work: &mut [u32],
+) -> Encoded
+    requires { ⌜ (inkRight ink ≡ true) × (tablesRule (draftOf (now nodes) (now children) (now named) (now definitions) (now items) (now payload) (now strings)) ≡ 0) ⌝ }
+    requires { ⌜ length (now work) ≡ writeWords (draftOf (now nodes) (now children) (now named) (now definitions) (now items) (now payload) (now strings)) ⌝ }
+    ensures { λ r. ⌜ WrittenWith ink (draftOf (now (nodes .entry)) (now (children .entry)) (now (named .entry)) (now (definitions .entry)) (now (items .entry)) (now (payload .entry)) (now (strings .entry))) (now (out .entry)) (now (out .exit)) r ⌝ }
+{
+    let l = layout_of(
+        nodes.len() / 10,
+        named.len() / 3,
+        definitions.len() / 4,
+        items.len() / 3,
+        payload.len(),
+        work.len(),
+    );
+    match plan::prepare(
+        nodes,
+        children,
+        named,
+        definitions,
+        items,
+        payload,
+        strings,
+        work,
+        l,
+    ) {
+        Plan::Refused(number) => Encoded::Refused(number),
+        Plan::Ready(uses) => put_image(
+            ink,
+            nodes,
+            children,
+            named,
+            definitions,
+            items,
+            payload,
+            strings,
+            work,
+            l,
+            uses,
+            out,
+        ),
+    }
+}
+
+// Writes the image of a draft at the start of the output and gives its length, or the number of the first rule that the draft breaks:
+// 3, 19, 7, 20, 21, 22, 23. A refusal leaves the output as it was; 3, 19 and 7 leave the work words too, otherwise as many as are
+// needed are 0 on return.
+pub fn encode(
+    ink: u32,
+    nodes: &[u32],
+    children: &[u32],
+    named: &[u32],
+    definitions: &[u32],
+    items: &[u32],
+    payload: &[u8],
+    strings: &[u8],
+    out: &mut [u8],
+    work: &mut [u32],
+) -> Encoded
+    ensures answer { λ r. ⌜ r ≡ encodedOf ink (draftOf (now (nodes .entry)) (now (children .entry)) (now (named .entry)) (now (definitions .entry)) (now (items .entry)) (now (payload .entry)) (now (strings .entry))) (length (now (work .entry))) (length (now (out .entry))) ⌝ }
+    ensures output { λ r. ⌜ now (out .exit) ≡ outAfter (encodeRule ink (draftOf (now (nodes .entry)) (now (children .entry)) (now (named .entry)) (now (definitions .entry)) (now (items .entry)) (now (payload .entry)) (now (strings .entry))) (length (now (work .entry))) (length (now (out .entry)))) (imageFor ink (draftOf (now (nodes .entry)) (now (children .entry)) (now (named .entry)) (now (definitions .entry)) (now (items .entry)) (now (payload .entry)) (now (strings .entry)))) (now (out .entry)) ⌝ }
+    ensures words { λ r. ⌜ now (work .exit) ≡ encodeWorkAfter (writeWords (draftOf (now (nodes .entry)) (now (children .entry)) (now (named .entry)) (now (definitions .entry)) (now (items .entry)) (now (payload .entry)) (now (strings .entry)))) (encodeRule ink (draftOf (now (nodes .entry)) (now (children .entry)) (now (named .entry)) (now (definitions .entry)) (now (items .entry)) (now (payload .entry)) (now (strings .entry))) (length (now (work .entry))) (length (now (out .entry)))) (now (work .entry)) ⌝ }
+{
+    if !draft::ink_right(ink) {
+        return Encoded::Refused(BAD_INK_VERSION);
+    }
+    let broken = tables::tables_rule(nodes, children, named, definitions, items, payload, strings);
+    if broken != 0 {
+        return Encoded::Refused(broken);
+    }
+    match draft::work_words_fit(
+        nodes,
+        children,
+        named,
+        definitions,
+        items,
+        payload,
+        work.len(),
+    ) {
+        Needed::TooMany => Encoded::Refused(TOO_FEW_WORDS),
+        Needed::Words(needed) => {
+            let answer = write(
+                ink,
+                nodes,
+                children,
+                named,
+                definitions,
+                items,
+                payload,
+                strings,
+                out,
+                &mut work[..needed],
+            );
+            tree::clear(work, needed);
+            answer
+        }
+    }
 }

@@ -1,0 +1,53 @@
+-- What is handed from the plan to the writing of an image. Assumes nothing.
+use Prim.Native.Nat.{ℕ, _+_, _*_, _-_}
+use mathlib.Core.Path.{_≡_}
+use mathlib.Core.List.{List}
+use lib.ListN.{length}
+use Rattle.image.specs.Sections.{Sections, nodeCount, childCount, namedCount, definitionCount, itemCount}
+use Rattle.keys.specs.declared.Tables.{Tables}
+use Rattle.sections.specs.declared.numbers.Numbers.{Numbers}
+use Rattle.plan.specs.declared.Layout.{Layout}
+use Rattle.plan.specs.declared.Uses.{Uses}
+use Rattle.draft.specs.Draft.{tablesRule, writeWords}
+use Rattle.plan.specs.Planned.{layoutOf, planRule, Prepared}
+use Rattle.fill.specs.declared.size.Entries.{Entries}
+
+-- where the tables lie, by a draft's counts and the work words that it needs
+abbrev pub layoutBy : ℕ → ℕ → ℕ → ℕ → ℕ → ℕ → Layout
+layoutBy nodes named definitions items payload needed =
+    record {
+      at = 2 * (2 * nodes + named + definitions + items + payload);
+      paths = 2 * (2 * nodes + named + definitions + items + payload);
+      lengths = 2 * (2 * nodes + named + definitions + items + payload) + nodes;
+      order = needed - 2 * nodes;
+      new = needed - nodes;
+    }
+
+-- where numbers and offsets lie; offsets are behind the sorted uses
+abbrev pub numbersBy : Layout → Uses → Numbers
+numbersBy l u = record { order = l .order; new = l .new; offsets = u .texts + u .paths }
+
+abbrev pub tablesBy : Layout → Uses → Tables
+tablesBy l u = record { at = l .at; texts = u .texts; paths = l .paths; lengths = l .lengths }
+
+-- the entries of the image
+abbrev pub entriesBy : Sections → Uses → Entries
+entriesBy s u =
+    record {
+      nodes = nodeCount s;
+      children = childCount s;
+      named = namedCount s;
+      definitions = definitionCount s;
+      items = itemCount s;
+      index = u .paths;
+      payload = length (s .payload);
+      strings = u .strings;
+    }
+
+-- the tables of a draft are right, the plan passed, and the work words hold what was planned
+pub record Drawn (s : Sections) (w : List ℕ) (l : Layout) (u : Uses) : Type 0 where
+  pub tables : tablesRule s ≡ 0
+  pub planned : planRule s ≡ 0
+  pub long : length w ≡ writeWords s
+  pub layout : l ≡ layoutOf s
+  pub prepared : Prepared s w u
