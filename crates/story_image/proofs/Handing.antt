@@ -13,7 +13,7 @@ use Rattle.image.specs.Header.{inkRight}
 use Rattle.image.specs.Sections.{Sections}
 use Rattle.draft.specs.Draft.{tablesRule, writeWords}
 use Rattle.draft.proofs.Rules.{tables}
-use Rattle.encoder.specs.Encode.{imageFor, encodeRule, untouched, encodeWorkAfter}
+use Rattle.encoder.specs.Encode.{imageFor, encodeRule, outAfter, untouched, encodeWorkAfter}
 use Rattle.writer.specs.declared.Encoded.{Encoded}
 use Rattle.writer.specs.declared.Encoded.the-variants.{Written, Refused}
 use Rattle.writer.specs.Answer.{encodedBy, encodedOf, encodedNumber}
@@ -42,6 +42,9 @@ pub number : (ink : ℕ) (s : Sections) (work room : ℕ) (a : Encoded) (r : ℕ
     → r ≡ encodeRule ink s work room
 unfolding encodedOf
 number ink s work room a r e q = q ∙ ap encodedNumber e ∙ number-by (encodeRule ink s work room) (length (imageFor ink s))
+
+pub output-by : (r k : ℕ) (image out now : List ℕ) → r ≡ k → now ≡ outAfter k image out → now ≡ outAfter r image out
+output-by r k image out now e p = p ∙ ap (λ (m : ℕ). outAfter m image out) (sym e)
 
 -- ---- no work words: 3, 19 or 7
 
@@ -102,6 +105,27 @@ module _ (ink : ℕ) (s : Sections) (work room : ℕ) (a : Encoded) (lent : ℕ)
   unfolding encodedOf
   refused-length k long q written = length-left k long written (refused-by (encodeRule ink s work room) k (length (imageFor ink s)) (sym q ∙ e) .1)
 
-  -- what the writer says of its own number, of the number handed over
-  pub handed : (r : ℕ) (g : ℕ → List ℕ) (now : List ℕ) → r ≡ encodeRule ink s (wordsFor lent work) room → now ≡ g (encodeRule ink s work room) → now ≡ g r
-  handed r g now q p = p ∙ ap g (ap (λ (m : ℕ). encodeRule ink s m room) all ∙ sym q)
+  -- output and work words by the number that is handed over
+  pub written-output : (n : ℕ) (out now : List ℕ) → a ≡ Written n → now ≡ outAfter (encodeRule ink s work room) (imageFor ink s) out
+      → now ≡ outAfter 0 (imageFor ink s) out
+  unfolding encodedOf
+  written-output n out now q p =
+      p ∙ ap (λ (r : ℕ). outAfter r (imageFor ink s) out) (sym (written-by (encodeRule ink s work room) n (length (imageFor ink s)) (sym q ∙ e) .0))
+
+  pub written-words : (n needed : ℕ) (w now : List ℕ) → a ≡ Written n → now ≡ encodeWorkAfter needed (encodeRule ink s work room) w
+      → now ≡ encodeWorkAfter needed 0 w
+  unfolding encodedOf
+  written-words n needed w now q p =
+      p ∙ ap (λ (r : ℕ). encodeWorkAfter needed r w) (sym (written-by (encodeRule ink s work room) n (length (imageFor ink s)) (sym q ∙ e) .0))
+
+  pub refused-output : (k : ℕ) (out now : List ℕ) → a ≡ Refused k → now ≡ outAfter (encodeRule ink s work room) (imageFor ink s) out
+      → now ≡ outAfter k (imageFor ink s) out
+  unfolding encodedOf
+  refused-output k out now q p =
+      p ∙ ap (λ (r : ℕ). outAfter r (imageFor ink s) out) (sym (refused-by (encodeRule ink s work room) k (length (imageFor ink s)) (sym q ∙ e) .0))
+
+  pub refused-words : (k needed : ℕ) (w now : List ℕ) → a ≡ Refused k → now ≡ encodeWorkAfter needed (encodeRule ink s work room) w
+      → now ≡ encodeWorkAfter needed k w
+  unfolding encodedOf
+  refused-words k needed w now q p =
+      p ∙ ap (λ (r : ℕ). encodeWorkAfter needed r w) (sym (refused-by (encodeRule ink s work room) k (length (imageFor ink s)) (sym q ∙ e) .0))
