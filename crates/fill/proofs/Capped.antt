@@ -1,7 +1,7 @@
 -- Sums that stay at one more than a word can say. Assumes nothing.
 use Prim.Native.Nat.{ℕ, _+_, _*_, _≤_, _<_}
 use mathlib.Core.Path.{_≡_, refl, sym, ap, _∙_}
-use mathlib.Core.Bool.{Bool, true, false, cond}
+use mathlib.Core.Bool.{cond}
 use native.Mathlib.Omega.{arith}
 use native.Mathlib.Nat.{mul-le-mul}
 use native.Mathlib.Decide.{decLt}
@@ -9,7 +9,6 @@ use lib.Dec.{leb}
 use borrow.Author.Tests.{le-leb, lt-leb}
 use Rattle.words.specs.Words.{NONE}
 use Rattle.fill.specs.declared.size.Entries.{Entries}
-use Rattle.fill.specs.declared.size.Size.{Size}
 use Rattle.fill.specs.declared.size.Size.the-variants.{Bytes, TooLong}
 use Rattle.fill.specs.Length.{lengthBy, capped, sizeOf}
 

@@ -8,7 +8,7 @@ use lib.ListN.{length, getD, take, length-append, length-map}
 use lib.Seq.{take-suc, take-all}
 use Rattle.laws.specs.Counted.{sumOf, joinOf}
 use Rattle.laws.specs.Lists.{placeIn}
-use Rattle.words.specs.Words.{NONE, bytesOf}
+use Rattle.words.specs.Words.{bytesOf}
 use Rattle.words.proofs.Words.{length-bytes}
 use Rattle.image.specs.Sections.{Sections, nodeCount, childCount, namedCount, definitionCount, itemCount, nodeWord, definitionWord, tagOf}
 use Rattle.image.specs.Header.{nodeWords}
@@ -32,7 +32,7 @@ use Rattle.encoder.specs.Ready.{OldsAt, NewsAt, OffsetsAt, nodeUses, namedUses,
 use Rattle.encoder.proofs.Joined.{sum-const, join-length, join-same}
 use Rattle.encoder.proofs.Offsets.{offsets-left, offsets-right}
 use Rattle.sections.specs.declared.numbers.Numbers.{Numbers}
-use Rattle.sections.specs.Held.{nodesOnly, OrderFits, NamedFit, childrenBy, namedBy, payloadBy}
+use Rattle.sections.specs.Held.{OrderFits, NamedFit, childrenBy, namedBy, payloadBy}
 use Rattle.sections.specs.declared.path_index.Paths.{Paths}
 use Rattle.sections.specs.Indexed.{IndexFit, PathsAt, LengthsAt}
 use Rattle.outputs.specs.Output.{over}

@@ -10,13 +10,12 @@ use Rattle.laws.specs.Counted.{joinOf}
 use Rattle.words.specs.Words.{NONE}
 use Rattle.image.specs.Header.{headerLength}
 use Rattle.image.specs.Sections.{Sections, nodeCount, childCount, namedCount, definitionCount, itemCount}
-use Rattle.image.specs.Encoding.{sectionOut, bodyOf, headerWith, imageOf}
+use Rattle.image.specs.Encoding.{bodyOf, headerWith, imageOf}
 use Rattle.draft.specs.Source.{draftOf}
 use Rattle.draft.specs.Numbering.{numbering}
 use Rattle.encoder.specs.Strings.{byPath}
 use Rattle.encoder.specs.Written.{written}
 use Rattle.encoder.specs.Encode.{imageFor}
-use Rattle.encoder.specs.Ready.{textUses}
 use Rattle.outputs.specs.Output.{over}
 use Rattle.keys.specs.declared.Tables.{Tables}
 use Rattle.sections.specs.declared.numbers.Numbers.{Numbers}
@@ -25,9 +24,9 @@ use Rattle.header.specs.declared.Counts.{Counts}
 use Rattle.header.specs.Counted.{endOf, CountsOf}
 use Rattle.fill.specs.declared.Places.{Places}
 use Rattle.fill.specs.declared.size.Entries.{Entries}
-use Rattle.fill.specs.Length.{storedBytes, lengthBy, countsBy, placesBy, entriesOf}
-use Rattle.fill.specs.Given.{Told, Indexed, treeOut, TreeReady, definitionsAt, listsOut, ListsAt, ListsReady, textsOut, TextsReady, pathsOf, Ready, Sectioned}
-use Rattle.fill.proofs.Sized.{head-length, image-length, sized}
+use Rattle.fill.specs.Length.{lengthBy, countsBy, placesBy, entriesOf}
+use Rattle.fill.specs.Given.{Indexed, treeOut, TreeReady, definitionsAt, listsOut, ListsAt, ListsReady, textsOut, TextsReady, pathsOf, Ready, Sectioned}
+use Rattle.fill.proofs.Sized.{head-length, sized}
 use Rattle.fill.proofs.Known.{tree-length, lists-length, texts-length}
 use Rattle.fill.proofs.Layers.{over-next, three-parts, counts-right}
 

@@ -1,7 +1,7 @@
 -- The sections of a written image: how long each is, and where it begins. Assumes nothing.
 use Prim.Native.Nat.{ℕ, _+_, _*_, _<_}
-use mathlib.Core.Path.{_≡_, refl, sym, ap, _∙_, subst}
-use mathlib.Core.List.{List, [], _++_}
+use mathlib.Core.Path.{_≡_, refl, ap, _∙_}
+use mathlib.Core.List.{List, []}
 use mathlib.Core.Bool.{Bool, true, false, cond}
 use native.Mathlib.Omega.{arith}
 use lib.ListN.{length, length-append}
@@ -12,8 +12,8 @@ use Rattle.words.specs.Words.{bytesOf}
 use Rattle.words.proofs.Words.{length-bytes}
 use Rattle.texts.specs.Text.{ascii}
 use Rattle.image.specs.Header.{nodeWords, headerLength, magic}
-use Rattle.image.specs.Sections.{Sections, nodeCount, childCount, namedCount, definitionCount, itemCount, indexCount, tagOf, f}
-use Rattle.image.specs.Encoding.{countOf, sectionOut, startOf, bodyOf, headerWith, imageOf}
+use Rattle.image.specs.Sections.{Sections, nodeCount, childCount, namedCount, definitionCount, itemCount, tagOf, f}
+use Rattle.image.specs.Encoding.{sectionOut, startOf, bodyOf, headerWith, imageOf}
 use Rattle.records.specs.Records.{childrenOf, namedOf, payloadOf, listItems, listOrigins}
 use Rattle.records.proofs.Passed.{payload-range, used-up}
 use Rattle.draft.specs.Draft.{tablesRule, reachRule}

@@ -1,11 +1,11 @@
 -- What is known before an image is written, of a draft and of the work words. Assumes nothing.
-use Prim.Native.Nat.{ℕ, _+_, _*_, _≤_, _<_}
+use Prim.Native.Nat.{ℕ, _+_, _≤_, _<_}
 use mathlib.Core.Path.{_≡_}
 use mathlib.Core.List.{List, [], _++_}
 use lib.ListN.{length, getD}
 use Rattle.words.specs.Words.{NONE}
 use Rattle.image.specs.Header.{nodeWords}
-use Rattle.image.specs.Sections.{Sections, nodeCount, childCount, namedCount, definitionCount, itemCount}
+use Rattle.image.specs.Sections.{Sections, nodeCount}
 use Rattle.image.specs.Encoding.{sectionOut}
 use Rattle.draft.specs.Source.{draftOf}
 use Rattle.draft.specs.Draft.{tablesRule, reachRule, shapeRule}

@@ -1,3 +1,4 @@
+-- `fill::put_sections` meets its contract. Assumes nothing.
 use mathlib.Core.Path.{refl}
 use native.Mathlib.Omega.{arith}
 use Rattle.fill.proofs.Known.{texts-end, text-uses-length}
@@ -5,62 +6,45 @@ use Rattle.fill.proofs.Runs.{run-tree, run-lists, run-texts, tree-ready
 use borrow.Author.Needs.{needs}
 use Rattle.fill.proofs.put_sections.Statement.{statement}
 use Rattle.fill.proofs.put_sections.Tie as tie
-use Rattle.fill.proofs.put_sections.Reads as reads
-use Rattle.fill.proofs.put_sections.Lts as lts
-use Rattle.fill.proofs.list_part.put_lists.Reads as put-lists-reads
-use Rattle.fill.proofs.text_part.put_texts.Reads as put-texts-reads
-use Rattle.fill.proofs.tree_part.put_tree.Reads as put-tree-reads
 
--- src/lib.rt:100:9
 put-tree-requires : tie.Need-put-tree-requires
 put-tree-requires c κs = tree-ready _ _ _ _ _ _ _ _ _ _ _ _ _ (c .before .before .before .before .before .before .before .before .before .before .pre)
 
--- src/lib.rt:101:16
 add-path : tie.Need-add-path
 add-path c =
     let r = c .before .before .before .before .before .before .before .before .before .before .before .before .before .before .before .pre in omega (arith, r .texts, texts-end _ _ _ (r .told), text-uses-length _ _ _ (r .told))
 
--- src/lib.rt:102:69
 sub-put-lists : tie.Need-sub-put-lists
 sub-put-lists c = let r = c .before .before .before .before .before .before .before .before .before .before .before .before .before .before .before .pre in omega (arith, run-tree _ _ _ _ _ _ _ _ _ _ _ _ _ r, run-lists _ _ _ _ _ _ _ _ _ _ _ _ _ r, run-texts _ _ _ _ _ _ _ _ _ _ _ _ _ r)
 
--- src/lib.rt:102:69
 part-put-lists-start : tie.Need-part-put-lists-start
 part-put-lists-start c = let r = c .before .before .before .before .before .before .before .before .before .before .before .before .before .before .before .pre in omega (arith, run-tree _ _ _ _ _ _ _ _ _ _ _ _ _ r, run-lists _ _ _ _ _ _ _ _ _ _ _ _ _ r, run-texts _ _ _ _ _ _ _ _ _ _ _ _ _ r)
 
--- src/lib.rt:102:69
 part-put-lists-end : tie.Need-part-put-lists-end
 part-put-lists-end c = search needs
 
--- src/lib.rt:102:5
 put-lists-requires : tie.Need-put-lists-requires
 put-lists-requires c κs =
     let r = c .before .before .before .before .before .before .before .before .before .before .before .before .before .before .before .before .pre in
     let text = c .before .before .before .before .before .put-tree .ensures _ _ _ (r .told) .1 in
     lists-ready _ _ _ _ _ _ _ _ _ _ _ _ _ r _ _ _ (lists-at _ _ _ _ _ _ _ _ _ _ _ _ _ r _ _ text refl) (omega (arith, run-tree _ _ _ _ _ _ _ _ _ _ _ _ _ r, run-texts _ _ _ _ _ _ _ _ _ _ _ _ _ r))
 
--- src/lib.rt:103:63
 sub-put-texts : tie.Need-sub-put-texts
 sub-put-texts c = let r = c .before .before .before .before .before .before .before .before .before .before .before .before .before .before .before .before .before .before .before .pre in omega (arith, run-tree _ _ _ _ _ _ _ _ _ _ _ _ _ r, run-lists _ _ _ _ _ _ _ _ _ _ _ _ _ r, run-texts _ _ _ _ _ _ _ _ _ _ _ _ _ r)
 
--- src/lib.rt:103:63
 part-put-texts-start : tie.Need-part-put-texts-start
 part-put-texts-start c = let r = c .before .before .before .before .before .before .before .before .before .before .before .before .before .before .before .before .before .before .before .pre in omega (arith, run-tree _ _ _ _ _ _ _ _ _ _ _ _ _ r, run-lists _ _ _ _ _ _ _ _ _ _ _ _ _ r, run-texts _ _ _ _ _ _ _ _ _ _ _ _ _ r)
 
--- src/lib.rt:103:63
 part-put-texts-end : tie.Need-part-put-texts-end
 part-put-texts-end c = search needs
 
--- src/lib.rt:103:5
 put-texts-requires : tie.Need-put-texts-requires
 put-texts-requires c κs =
     let r = c .before .before .before .before .before .before .before .before .before .before .before .before .before .before .before .before .before .before .before .before .pre in texts-ready _ _ _ _ _ _ _ _ _ _ _ _ _ r _ (omega (arith, run-tree _ _ _ _ _ _ _ _ _ _ _ _ _ r, run-lists _ _ _ _ _ _ _ _ _ _ _ _ _ r, run-texts _ _ _ _ _ _ _ _ _ _ _ _ _ r))
 
--- src/lib.rt:80:1
 same-length : tie.Need-same-length
 same-length c = search needs
 
--- src/lib.rt:80:1
 returns : tie.Need-returns
 returns c =
     let r = c .before .before .before .before .before .before .before .before .before .before .before .before .before .before .before .before .before .before .before .before .before .before .before .pre in

@@ -1,31 +1,25 @@
+-- `fill::size::add` meets its contract. Assumes nothing.
 use mathlib.Core.Path.{sym}
 use native.Mathlib.Omega.{arith}
 use borrow.Author.Needs.{needs}
 use Rattle.fill.proofs.Capped.{capped-few, capped-many, product-few, product-many}
 use Rattle.fill.proofs.size.add.Statement.{statement}
 use Rattle.fill.proofs.size.add.Tie as tie
-use Rattle.fill.proofs.size.add.Reads as reads
-use Rattle.fill.proofs.size.add.Lts as lts
 
--- src/size.rt:33:9
 returns : tie.Need-returns
 returns c =
     let a = c .before .args in
     sym (capped-many _ (omega (arith, product-many (a .size) (a .count) (omega arith) (omega arith))))
 
--- src/size.rt:35:23
 mul-total : tie.Need-mul-total
 mul-total c = let a = c .before .args in omega (arith, product-few (a .size) (a .count) (omega arith) (omega arith))
 
--- src/size.rt:35:17
 add-total : tie.Need-add-total
 add-total c = let a = c .before .args in omega (arith, product-few (a .size) (a .count) (omega arith) (omega arith))
 
--- src/size.rt:28:1
 returns-2 : tie.Need-returns-2
 returns-2 c = sym (capped-few _ (search needs))
 
--- src/size.rt:28:1
 returns-3 : tie.Need-returns-3
 returns-3 c = sym (capped-many _ (search needs))
 

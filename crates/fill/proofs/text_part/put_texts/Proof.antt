@@ -1,3 +1,4 @@
+-- `fill::text_part::put_texts` meets its contract. Assumes nothing.
 use mathlib.Core.Path.{_≡_, ap}
 use Prim.Native.Nat.{_+_, _≤_}
 use native.Mathlib.Omega.{arith}
@@ -11,29 +12,20 @@ use Rattle.fill.proofs.Layers.{two-parts}
 use borrow.Author.Needs.{needs}
 use Rattle.fill.proofs.text_part.put_texts.Statement.{statement}
 use Rattle.fill.proofs.text_part.put_texts.Tie as tie
-use Rattle.fill.proofs.text_part.put_texts.Reads as reads
-use Rattle.fill.proofs.text_part.put_texts.Lts as lts
-use Rattle.interning.proofs.emit.Reads as emit-reads
-use Rattle.list_sections.proofs.payload.put_payload.Reads as put-payload-reads
 
--- src/text_part.rt:27:5
 put-payload-requires : tie.Need-put-payload-requires
 put-payload-requires c κs =
     let r = c .before .before .before .before .before .before .pre in (payload-fits _ _ _ _ _ _ _ _ _ (r .told), omega (arith, texts-room _ _ _ _ _ _ _ r, payload-room _ _ _ _ _ _ _ _ _ (r .told)))
 
--- src/text_part.rt:29:57
 sub-emit : tie.Need-sub-emit
 sub-emit c = let room = texts-room _ _ _ _ _ _ _ (c .before .before .before .before .before .before .before .before .before .pre) in omega arith
 
--- src/text_part.rt:29:57
 part-emit-start : tie.Need-part-emit-start
 part-emit-start c = let room = texts-room _ _ _ _ _ _ _ (c .before .before .before .before .before .before .before .before .before .pre) in omega arith
 
--- src/text_part.rt:29:57
 part-emit-end : tie.Need-part-emit-end
 part-emit-end c = search needs
 
--- src/text_part.rt:29:5
 emit-requires : tie.Need-emit-requires
 emit-requires c κs =
     let r = c .before .before .before .before .before .before .before .before .before .before .pre in
@@ -42,11 +34,9 @@ emit-requires c κs =
       (key-offsets _ _ _ _ _ _ _ _ _ (r .told) _ (r .keyed), omega (arith, texts-room _ _ _ _ _ _ _ r, ap (λ k. length (joined k)) kept)),
     )
 
--- src/text_part.rt:15:1
 same-length : tie.Need-same-length
 same-length c = search needs
 
--- src/text_part.rt:15:1
 returns : tie.Need-returns
 returns c = λ children named definitions items t k.
     let a = c .before .before .before .before .before .before .before .before .before .before .before .before .before .args in
