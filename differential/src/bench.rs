@@ -244,6 +244,7 @@ fn measure(input: &Input, long: Duration) -> u64 {
     let ours = ours::Measured::new(input);
     duel("load", long, load, ours.load())
         + duel("node views", long, views, ours.views())
+        + duel("views as enums", long, views, ours.enums())
         + duel("walks", long, walked, ours.walks())
         + duel("list look-ups", long, looked, ours.items())
         + duel("write", long, write, ours.write())
@@ -265,6 +266,9 @@ mod ours {
         pub fn views(&self) -> Option<fn() -> Duration> {
             None
         }
+        pub fn enums(&self) -> Option<fn() -> Duration> {
+            None
+        }
         pub fn walks(&self) -> Option<fn() -> Duration> {
             None
         }
@@ -284,6 +288,8 @@ mod ours {
     use crate::library::components;
     #[cfg(feature = "write")]
     use crate::ours::write::draft_of;
+    #[cfg(feature = "queries")]
+    use story_image::ffi;
     use story_image::{Image, load_words};
 
     pub struct Measured<'a> {
@@ -301,6 +307,9 @@ mod ours {
             Measured { input }
         }
         pub fn views(&self) -> Option<fn() -> Duration> {
+            None
+        }
+        pub fn enums(&self) -> Option<fn() -> Duration> {
             None
         }
         pub fn walks(&self) -> Option<fn() -> Duration> {
@@ -338,6 +347,26 @@ mod ours {
         }
 
         pub fn views(&self) -> Option<impl FnMut() -> Duration> {
+            let nodes = self.image.view().nodes.count;
+            Some(move || {
+                timed(|| {
+                    let (bytes, view) = (&self.input.image, self.image.view().words());
+                    let mut answer = [0; 10];
+                    let mut has = |node: u32| {
+                        // SAFETY: the slices live through the call, and the answer alone is written.
+                        let number = unsafe {
+                            let (view, answer) = (view.as_ptr(), answer.as_mut_ptr());
+                            ffi::story_image_node_view(bytes.as_ptr(), bytes.len(), view, 17, node, answer, 10)
+                        };
+                        black_box(&answer);
+                        number == 0
+                    };
+                    (0..nodes).filter(|node| has(*node)).count()
+                })
+            })
+        }
+
+        pub fn enums(&self) -> Option<impl FnMut() -> Duration> {
             let nodes = self.image.view().nodes.count;
             Some(move || timed(|| (0..nodes).filter(|node| black_box(self.image.node_view(*node)).is_some()).count()))
         }

@@ -75,6 +75,7 @@ fn optional(word: u32) -> Option<u32> {
 /// As many words the library writes: parent, place, kind, text and length, variable and length, target, value, flags.
 pub(crate) const WORDS: usize = 10;
 
+#[inline]
 pub(crate) fn view_of(words: [u32; WORDS]) -> Option<NodeView> {
     let [parent, place, kind, offset, length, variable, variable_length, target, value, flags] = words;
     let text = Text { offset, length };

@@ -62,6 +62,7 @@ macro_rules! ask_image {
 }
 
 impl<'a> Image<'a> {
+    #[inline]
     pub fn node_view(&self, node: u32) -> Option<NodeView> {
         node::view_of(ask_image!(self, story_image_node_view, node)?)
     }

@@ -5,3 +5,4 @@ pub mod Outcomes
 pub mod Putting
 pub mod Writing
 pub mod Lending
+pub mod Promised

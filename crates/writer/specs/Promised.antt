@@ -1,0 +1,45 @@
+-- What holds of every draft that `encode` has written: demand 3 of the output up to the length reported, with no premise but that words
+-- are words and bytes are bytes. Assumes nothing.
+use Prim.Native.Nat.{ℕ, _≤_, _<_}
+use mathlib.Core.Path.{_≡_}
+use mathlib.Core.List.{List}
+use mathlib.Core.Bool.{true}
+use lib.ListN.{length, take}
+use Rattle.image.specs.Sections.{Sections, nodeCount, isContainer}
+use Rattle.image.specs.Header.{nodeWords, sectionsOf}
+use Rattle.index.specs.Paths.{canonicalPath}
+use Rattle.load.specs.Load.{loadRule, loadWords}
+use Rattle.draft.specs.Numbering.{numbering, oldOf}
+use Rattle.encoder.specs.Encode.{imageFor, encodeRule, outAfter}
+use Rattle.promises.specs.Promises.{Sound, NamedOnce}
+use Rattle.written.specs.Written.{DraftWords}
+use Rattle.written_views.specs.Views.{SameViews}
+use Rattle.writer.specs.declared.Encoded.the-variants.{Written}
+use Rattle.writer.specs.Answer.{encodedOf}
+
+-- the output's first n bytes are an image
+pub record Promised (s : Sections) (image : List ℕ) : Type 0 where
+  -- a load with work words enough accepts it
+  pub loads : (enough : ℕ) → loadWords (sectionsOf image) ≤ enough → loadRule image enough ≡ 0
+  -- nothing sticks in it
+  pub sound : Sound (sectionsOf image)
+  -- its index names each container exactly once
+  pub once : (i : ℕ) → i < nodeCount (sectionsOf image) → isContainer (sectionsOf image) i ≡ true → NamedOnce (sectionsOf image) i
+  -- a reader sees in it what the author wrote, and its canonical paths are the draft's
+  pub views : SameViews s (sectionsOf image) (numbering s)
+  pub paths : (j : ℕ) → j < nodeCount s → isContainer s (oldOf (numbering s) j) ≡ true
+      → canonicalPath (sectionsOf image) j ≡ canonicalPath s (oldOf (numbering s) j)
+
+-- of every answer `Written n` of `encode`, by its contract: the output is that of the clause `output`
+abbrev pub EncodedKeeps : Type 0
+EncodedKeeps =
+    (ink : ℕ) (s : Sections) (work n : ℕ) (out : List ℕ) → s .stride ≡ nodeWords → DraftWords s → encodedOf ink s work (length out) ≡ Written n
+    → (take n (outAfter (encodeRule ink s work (length out)) (imageFor ink s) out) ≡ imageFor ink s)
+    × Promised s (take n (outAfter (encodeRule ink s work (length out)) (imageFor ink s) out))
+
+-- exactly the drafts that break none of the writer's rules are written
+abbrev pub EncodedExactly : Type 0
+EncodedExactly =
+    (ink : ℕ) (s : Sections) (work room : ℕ)
+    → (encodeRule ink s work room ≡ 0 → encodedOf ink s work room ≡ Written (length (imageFor ink s)))
+    × ((n : ℕ) → encodedOf ink s work room ≡ Written n → (encodeRule ink s work room ≡ 0) × (n ≡ length (imageFor ink s)))
