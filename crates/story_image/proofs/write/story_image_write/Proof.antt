@@ -1,21 +1,15 @@
+-- `story_image::write::story_image_write` meets its contract. Assumes nothing.
 use Rattle.story_image.proofs.Handing.{no-length, written-number, written-words, written-output, written-length, refused-number, refused-words, refused-output, refused-length}
 use borrow.Author.Needs.{needs}
 use Rattle.story_image.proofs.write.story_image_write.Statement.{statement}
 use Rattle.story_image.proofs.write.story_image_write.Tie as tie
-use Rattle.story_image.proofs.write.story_image_write.Reads as reads
-use Rattle.story_image.proofs.write.story_image_write.Lts as lts
-use Rattle.story_image.proofs.write.write_without_words.Reads as write-without-words-reads
-use Rattle.writer.proofs.encode.Reads as encode-reads
 
--- src/write.rt:74:9
 write-without-words-requires : tie.Need-write-without-words-requires
 write-without-words-requires c κs = search needs
 
--- src/write.rt:74:9
 same-length : tie.Need-same-length
 same-length c = search needs
 
--- src/write.rt:74:9
 returns : tie.Need-returns
 returns c =
     let a = c .before .before .before .before .before .before .before .before .before .before .before .before .before .before .before .args in
@@ -23,47 +17,36 @@ returns c =
     let kept = no-length _ _ (a .work .now) (a .written .now) _ _ _ _ (c .before .before .before .before .if1 .taken) (said .0) in
     (kept .0, (kept .1, (said .1, kept .2)))
 
--- src/write.rt:86:11
 encode-requires : tie.Need-encode-requires
 encode-requires c κs = search needs
 
--- src/write.rt:98:26
 enum-known-length : tie.Need-enum-known-length
 enum-known-length c = search needs
 
--- src/write.rt:99:13
 slice-write-written : tie.Need-slice-write-written
 slice-write-written c = search needs
 
--- src/write.rt:102:26
 enum-known-number : tie.Need-enum-known-number
 enum-known-number c = search needs
 
--- src/write.rt:54:1
 same-length-2 : tie.Need-same-length-2
 same-length-2 c = search needs
 
--- src/write.rt:54:1
 same-length-3 : tie.Need-same-length-3
 same-length-3 c = search needs
 
--- src/write.rt:54:1
 same-length-4 : tie.Need-same-length-4
 same-length-4 c = search needs
 
--- src/write.rt:54:1
 returns-2 : tie.Need-returns-2
 returns-2 c = (search (needs, written-number), (search (needs, written-words), (search (needs, written-output), search (needs, written-length))))
 
--- src/write.rt:54:1
 same-length-5 : tie.Need-same-length-5
 same-length-5 c = search needs
 
--- src/write.rt:54:1
 same-length-6 : tie.Need-same-length-6
 same-length-6 c = search needs
 
--- src/write.rt:54:1
 returns-3 : tie.Need-returns-3
 returns-3 c = (search (needs, refused-number), (search (needs, refused-words), (search (needs, refused-output), search (needs, refused-length))))
 
