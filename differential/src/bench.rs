@@ -48,6 +48,8 @@ fn inputs(random: &mut Random) -> Vec<Input> {
         input("chain of 5,000 containers", chain(5_000), random),
         input("texts of 500 characters", text_heavy(random), random),
         input("1 MB of random UTF-8", one_text(random), random),
+        input("100,000 distinct texts", with_strings(distinct_texts(100_000)), random),
+        input("100,000 equal texts", with_strings(vec!["the same text".to_owned(); 100_000]), random),
     ]
 }
 
@@ -120,6 +122,11 @@ fn chain(nodes: u32) -> Parts {
         }
     }
     parts
+}
+
+/// Texts in no order.
+fn distinct_texts(count: u64) -> Vec<String> {
+    (0..count).map(|turn| format!("text number {}", turn * 7_919 % count)).collect()
 }
 
 fn with_strings(texts: Vec<String>) -> Parts {
