@@ -1,7 +1,7 @@
 //! One draft: the writer on both sides.
 
 use crate::drafts::{Case, Known};
-use crate::images::MARK;
+use crate::images::{self, MARK};
 use crate::library::{Library, Writer, write_words};
 use crate::random::Random;
 use crate::rows::{breaks_draft, writer_row};
@@ -33,7 +33,13 @@ pub fn draft(case: &Case, ours: Option<&dyn Library>, random: &mut Random, tally
         return;
     }
     let number = match &theirs {
-        Written::Image(image) if loads => written(case, image, writer, random, tally),
+        Written::Image(image) if loads => {
+            let (number, bytes) = written(case, image, writer, random, tally);
+            if number == 0 {
+                images::image("written by us", &bytes, ours, random, tally);
+            }
+            number
+        }
         _ => refused(case, writer, tally),
     };
     *tally.numbers.entry(number).or_default() += 1;
@@ -67,15 +73,15 @@ fn broken_by_loader(case: &Case) -> bool {
     (18..=21).contains(&case.ink) && reference::load(image).is_err_and(|reason| breaks_draft(&reason))
 }
 
-/// A draft that the Rust writes: bytes, output's end, work words; then one byte and one word too few.
-fn written(case: &Case, image: &[u8], ours: &dyn Writer, random: &mut Random, tally: &mut Tally) -> u32 {
+/// A draft that the Rust writes: bytes, output's end, work words; then one byte and one word too few. The bytes that were written.
+fn written(case: &Case, image: &[u8], ours: &dyn Writer, random: &mut Random, tally: &mut Tally) -> (u32, Vec<u8>) {
     let (words, past) = (write_words(&case.draft), random.below(3));
     let mut work = vec![MARK; words + past];
     let mut output = vec![0xa5; image.len() + random.below(20)];
     let (number, length) = ours.write(case.ink, &case.draft, &mut work, &mut output);
     if number != 0 {
         untouched(case, number, &work, &output, tally);
-        return number;
+        return (number, vec![]);
     }
     let same = length == image.len() && output[..length] == *image;
     tally.check(same, || format!("draft {}: other bytes", case.name), image);
@@ -83,6 +89,8 @@ fn written(case: &Case, image: &[u8], ours: &dyn Writer, random: &mut Random, ta
     tally.check(stays, || format!("draft {}: bytes past the image", case.name), image);
     let zero = work[..words].iter().all(|word| *word == 0) && work[words..].iter().all(|word| *word == MARK);
     tally.check(zero, || format!("draft {}: work words", case.name), image);
+
+    let bytes = output[..length.min(output.len())].to_vec();
 
     let mut short = vec![0xa5; image.len() - 1];
     let mut work = vec![MARK; words];
@@ -95,7 +103,7 @@ fn written(case: &Case, image: &[u8], ours: &dyn Writer, random: &mut Random, ta
     let (number, _) = ours.write(case.ink, &case.draft, &mut few, &mut output);
     let right = number == 7 && output.iter().all(|byte| *byte == 0xa5) && few.iter().all(|word| *word == MARK);
     tally.check(right, || format!("draft {}: {number} with a work word too few", case.name), image);
-    0
+    (0, bytes)
 }
 
 fn refused(case: &Case, ours: &dyn Writer, tally: &mut Tally) -> u32 {
