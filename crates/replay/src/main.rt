@@ -1,6 +1,7 @@
 // Runs a sample of the published Rust's answers through the library. Standard input holds the records, in the form that README.md says.
 // A line is printed for each record that the library answers otherwise, then how many of each kind agree, and the sums.
 mod compare; // compare.rt: answers against recorded words
+mod drafts; // drafts.rt: drafts and the images they become
 mod loads; // loads.rt: images, whole and damaged
 mod queries; // queries.rt: what is asked of an accepted image
 
@@ -13,10 +14,8 @@ const MAGIC: u32 = 1380272467;
 
 const FORM: u32 = 1;
 
-// Kinds of records that do not stand for themselves: an image, of which the next records speak, and a draft, which is passed over.
+// The kind of a record of which the next ones speak.
 const IMAGE: u32 = 1;
-
-const DRAFT: u32 = 20;
 
 // Where the run is: the next record, the image that it speaks of, and how many records agreed and differed.
 struct Run {
@@ -94,6 +93,7 @@ fn agrees(kind: u32, fields: &[u8], image: &[u8]) -> bool {
         3 => loads::bit_agrees(fields, image),
         4 => loads::cut_agrees(fields, image),
         10..=19 => queries::agrees(kind, fields, image),
+        20 => drafts::draft_agrees(fields),
         _ => false,
     }
 }
@@ -113,15 +113,6 @@ fn step(data: &[u8], run: Run, place: u32, counts: &mut [u32; 21]) -> Run {
     let kind = words::get(data, at as usize);
     let image = image_at(data, at, kind, before);
     let next = after(at, words::get(data, at as usize + 4));
-    if kind == DRAFT {
-        count(counts, kind);
-        return Run {
-            at: next,
-            image,
-            passed: run.passed,
-            failed: run.failed,
-        };
-    }
     if agrees(
         kind,
         record_at(data, at),
@@ -179,7 +170,7 @@ fn print_kind(kind: u32) {
         17 => print(b"definition item"),
         18 => print(b"list item"),
         19 => print(b"walk"),
-        20 => print(b"draft, passed over"),
+        20 => print(b"draft"),
         _ => print(b"unknown"),
     }
 }
