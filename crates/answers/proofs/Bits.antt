@@ -1,4 +1,4 @@
--- The bits of a signed number, by its sign. Assumes nothing.
+-- The bits of a signed number, by its sign.
 use Prim.Native.Nat.{ℕ, suc, _-_, _<_}
 use mathlib.Core.Path.{_≡_, refl, sym, ap, _∙_, subst}
 use mathlib.Core.Bool.{Bool, true, false, cond, true≢false}

@@ -1,4 +1,4 @@
--- Words put one by one into a lent slice. Assumes nothing.
+-- Words put one by one into a lent slice.
 use Prim.Native.Nat.{ℕ, zero, suc, _+_, _≤_, _<_}
 use mathlib.Core.Path.{_≡_, refl, sym, ap, _∙_}
 use mathlib.Core.List.{List, [], _∷_, _++_}

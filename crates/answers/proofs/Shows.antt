@@ -1,4 +1,4 @@
--- Kinds with a signed field: what the code shows of them. Assumes nothing.
+-- Kinds with a signed field: what the code shows of them.
 use Prim.Native.Nat.{ℕ, _<_}
 use mathlib.Core.Path.{_≡_, refl}
 use lib.IntN.{ℤ}

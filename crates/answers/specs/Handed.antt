@@ -1,4 +1,4 @@
--- What queries answer, in the words that are handed to C and Rust. Assumes nothing.
+-- What queries answer, in the words that are handed to C and Rust.
 use Prim.Native.Nat.{ℕ, _+_}
 use mathlib.Core.List.{List, [], _∷_, _++_}
 use mathlib.Core.Bool.{Bool, cond}

@@ -1,4 +1,4 @@
--- A node's view in ten words. Assumes nothing.
+-- A node's view in ten words.
 use Prim.Native.Nat.{ℕ, _+_}
 use mathlib.Core.List.{List, [], _∷_}
 use mathlib.Core.Bool.{Bool}

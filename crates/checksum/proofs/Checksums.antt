@@ -1,4 +1,4 @@
--- Laws of crcFrom and of the checksum, byte by byte and part by part. Assumes nothing.
+-- Laws of crcFrom and of the checksum, byte by byte and part by part.
 use mathlib.Core.Path.{_≡_, refl, sym, ap, ap₂, _∙_}
 use mathlib.Core.List.{List, [], _∷_, _++_, append-assoc}
 use mathlib.Core.Logic.{_⊎_, inl, inr}

@@ -1,4 +1,4 @@
--- A table of eight-shift values serves for a step: the low byte goes by the table, the rest comes down eight places. Assumes nothing.
+-- A table of eight-shift values serves for a step: the low byte goes by the table, the rest comes down eight places.
 use mathlib.Core.Path.{_≡_, sym, ap, ap₂, _∙_}
 use Prim.Native.Nat.{ℕ, zero, suc, _+_, _*_, _/_, _%_, _^_, _<_}
 use native.Mathlib.Nat.{mod-lt, mul-one, add-zero, zero-add, add-suc, suc-add, le-of-suc-le-suc, not-suc-le-zero}

@@ -1,4 +1,4 @@
--- The rules of a draft's entries by the answers of the tests that the code makes, and the chain of row 19. Assumes nothing.
+-- The rules of a draft's entries by the answers of the tests that the code makes, and the chain of row 19.
 use Prim.Native.Nat.{ℕ, _+_, _/_, _≤_, _<_}
 use mathlib.Core.Path.{_≡_, refl, sym, ap, _∙_}
 use mathlib.Core.List.{List, []}
@@ -16,10 +16,10 @@ use Rattle.image.specs.declared.Definition.{Definition}
 use Rattle.image.specs.Sections.{Sections, definitionCount, childWord, goodIn}
 use Rattle.image.specs.Entries.{textEntryOf, definitionOf, definitionIn}
 use Rattle.image.proofs.Entries.{named-entry, item-entry, definition-entry}
-use Rattle.records.specs.Shown.{insideAmong, follows}
+use Rattle.records.specs.Shown.{insideAmong, startsNext}
 use Rattle.records.proofs.Tests.{refused, first-broken, first-done}
 use Rattle.tree.proofs.Members.{both-true}
-use Rattle.index.specs.Definitions.{firstItem, itemsOf, itemsBefore, itemsUsedUp}
+use Rattle.index.specs.Definitions.{firstItem, numberOfItems, itemsBefore, itemsUsedUp}
 use Rattle.draft.specs.Source.{draftOf}
 use Rattle.draft.specs.Draft.{draftChildRule, draftNamedRule, draftDefinitionRule, draftItemRule}
 
@@ -75,24 +75,24 @@ module _ (ds is ts : List ℕ) (d : ℕ) (entry : Definition) (r : entry ≡ def
   read = r ∙ definition-entry lists ds d refl
 
   pub definition-told : (used x : ℕ) → used ≡ itemsBefore lists d
-      → x ≡ (unless (goodIn ts (entry .offset) (entry .len)) 19 ▸ unless (follows (entry .first) (entry .count) used (length is / 3)) 19)
+      → x ≡ (unless (goodIn ts (entry .offset) (entry .len)) 19 ▸ unless (startsNext (entry .first) (entry .count) used (length is / 3)) 19)
       → x ≡ draftDefinitionRule lists d
   unfolding draftDefinitionRule
   definition-told used x u e =
       e
-      ∙ ap (λ (y : Definition). unless (goodIn ts (y .offset) (y .len)) 19 ▸ unless (follows (y .first) (y .count) used (length is / 3)) 19) read
+      ∙ ap (λ (y : Definition). unless (goodIn ts (y .offset) (y .len)) 19 ▸ unless (startsNext (y .first) (y .count) used (length is / 3)) 19) read
       ∙ ap
       (λ (n : ℕ). unless (goodIn ts (definitionIn lists d .offset) (definitionIn lists d .len)) 19
-      ▸ unless (follows (firstItem lists d) (itemsOf lists d) n (length is / 3)) 19)
+      ▸ unless (startsNext (firstItem lists d) (numberOfItems lists d) n (length is / 3)) 19)
       u
 
   -- the items of a definition that passes end where the next one's begin
   pub used-next : draftDefinitionRule lists d ≡ 0 → entry .first + entry .count ≡ itemsBefore lists (d + 1)
   unfolding draftDefinitionRule sumOf
   used-next p =
-      let right = both-true (leb (firstItem lists d + itemsOf lists d) (length is / 3)) _ (passed _ 18 (both _ _ p .1)) in
+      let right = both-true (leb (firstItem lists d + numberOfItems lists d) (length is / 3)) _ (passed _ 18 (both _ _ p .1)) in
       let start : firstItem lists d ≡ itemsBefore lists d = eqb-true _ _ (right .1) in
-      ap (λ (y : Definition). y .first + y .count) read ∙ ap (λ (n : ℕ). n + itemsOf lists d) start ∙ ap (λ (n : ℕ). itemsBefore lists n) (sym (add-one d))
+      ap (λ (y : Definition). y .first + y .count) read ∙ ap (λ (n : ℕ). n + numberOfItems lists d) start ∙ ap (λ (n : ℕ). itemsBefore lists n) (sym (add-one d))
 
 -- every refusal of a definition is 19
 tests-only : (a b : Bool) → ((unless a 19 ▸ unless b 19) ≡ 0 → ⊥) → 19 ≡ (unless a 19 ▸ unless b 19)

@@ -1,9 +1,9 @@
 pub mod Rules
-pub mod Reached
+pub mod ReachedNodes
 pub mod NodeTable
 pub mod EntryTables
 pub mod Row19
-pub mod Lent
+pub mod WorkWords
 pub mod Runs
 pub mod Relations
 pub mod Row21

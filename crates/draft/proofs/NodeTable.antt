@@ -1,4 +1,4 @@
--- The loop over a draft's nodes: what it is told of each node, and what it has shown when it has passed some. Assumes nothing.
+-- The loop over a draft's nodes: what it is told of each node, and what it has shown when it has passed some.
 use Prim.Native.Nat.{ℕ, zero, suc, _+_, _/_, _≤_, _<_}
 use mathlib.Core.Path.{_≡_, refl, sym, ap, _∙_}
 use mathlib.Core.List.{List, []}
@@ -20,7 +20,7 @@ use Rattle.records.specs.Fields.{kindOf}
 use Rattle.records.specs.Records.{targetIn, fieldsRule, containersBefore, usedUp}
 use Rattle.records.specs.Shown.{Shows, tagIn, sumsBefore, insideAmong}
 use Rattle.records.proofs.Tests.{refused, first-broken, first-done}
-use Rattle.records.proofs.Passed.{first-sums, within}
+use Rattle.records.proofs.PassedRules.{first-sums, within}
 use Rattle.draft.specs.Source.{NodesFrom, draftOf}
 use Rattle.draft.specs.Draft.{draftNodeRule}
 

@@ -1,4 +1,4 @@
--- The rules of row 21 by the tests that the code makes. Assumes nothing.
+-- The rules of row 21 by the tests that the code makes.
 use Prim.Native.Nat.{ℕ, _+_, _*_, _-_, _/_, _≤_, _<_}
 use mathlib.Core.Path.{_≡_, refl, sym, ap, _∙_}
 use mathlib.Core.List.{List, []}
@@ -16,16 +16,16 @@ use Rattle.texts.specs.Text.{before, rising, orderOf, isLess}
 use Rattle.image.specs.declared.NodeRecord.{NodeRecord}
 use Rattle.image.specs.declared.TextEntry.{TextEntry}
 use Rattle.image.specs.declared.Definition.{Definition}
-use Rattle.image.specs.Sections.{Sections, nodeWord, childWord, parentOf, placeOf, tagOf, f, inside, isContainer, insideContainer, goodText, textIn}
+use Rattle.image.specs.Sections.{Sections, nodeWord, childWord, parentOf, placeOf, tagOf, f, inside, isContainer, insideContainer, goodText, textOrEmpty}
 use Rattle.image.specs.Entries.{textEntryOf, definitionOf, nodeIn, namedIn}
 use Rattle.image.proofs.Entries.{IsNode, is-node, named-entry, item-entry, definition-entry}
 use Rattle.image.proofs.Parts.{good-part}
-use Rattle.records.specs.Records.{childrenOf, namedOf, parentRule}
+use Rattle.records.specs.Records.{numberOfChildren, numberOfNamed, parentRule}
 use Rattle.records.specs.Shown.{ShowsParent, tagIn, insideAmong}
 use Rattle.records.proofs.Tests.{stop, go}
 use Rattle.tree.specs.Tree.{childAt, namedAt, namedText, rightChild, childRule, namedRule, entriesRule}
-use Rattle.index.specs.Definitions.{definitionText, itemText, itemTextOf, firstItem, itemsOf}
-use Rattle.index.proofs.Rising.{rising-next}
+use Rattle.index.specs.Definitions.{definitionText, itemText, itemTextOf, firstItem, numberOfItems}
+use Rattle.index.proofs.RisingTexts.{rising-next}
 use Rattle.draft.specs.Source.{draftOf}
 use Rattle.draft.specs.Draft.{relationRule, orderRule}
 use Rattle.draft.specs.Shown.{shownEntry, shownDefinition, rightContainer, namedRight, TreePassed, ListsPassed}
@@ -40,12 +40,12 @@ order-told a b s t o p q e = rw (e, p, q)
 
 pub entry-rises : (ws ts : List ℕ) (first place : ℕ) (last entry : TextEntry) (b : Bool) → (place ≡ 0 → ⊥)
     → last ≡ textEntryOf ws (first + (place - 1)) → entry ≡ textEntryOf ws (first + place)
-    → b ≡ before (textIn ts (last .offset) (last .len)) (textIn ts (entry .offset) (entry .len)) → b ≡ rising (shownEntry ws ts first) place
+    → b ≡ before (textOrEmpty ts (last .offset) (last .len)) (textOrEmpty ts (entry .offset) (entry .len)) → b ≡ rising (shownEntry ws ts first) place
 unfolding shownEntry
 entry-rises ws ts first place last entry b d p q e = rw (rising-next (shownEntry ws ts first) place d, ← p, ← q) e
 
 pub definition-rises : (ws ts : List ℕ) (d : ℕ) (last entry : Definition) (b : Bool) → (d ≡ 0 → ⊥) → last ≡ definitionOf ws (d - 1) → entry ≡ definitionOf ws d
-    → b ≡ before (textIn ts (last .offset) (last .len)) (textIn ts (entry .offset) (entry .len)) → b ≡ rising (shownDefinition ws ts) d
+    → b ≡ before (textOrEmpty ts (last .offset) (last .len)) (textOrEmpty ts (entry .offset) (entry .len)) → b ≡ rising (shownDefinition ws ts) d
 unfolding shownDefinition
 definition-rises ws ts d last entry b h p q e = rw (rising-next (shownDefinition ws ts) d h, ← p, ← q) e
 
@@ -150,8 +150,8 @@ module _ (ns cs ms ts : List ℕ) (g : TreePassed (draftOf ns cs ms [] [] [] ts)
     child-test j =
         ap (λ (k : ℕ). rightChild (alone ns) (getD cs (k + j) 0) i j) (node-words .f3) ∙ sym (passes-unless (rightChild s (childAt s i j) i j) 13)
 
-    children-pass : children-tests ≡ passes (firstOf (childrenOf s i) (childRule s i))
-    unfolding childrenOf
+    children-pass : children-tests ≡ passes (firstOf (numberOfChildren s i) (childRule s i))
+    unfolding numberOfChildren
     children-pass =
         passes-all (r .f4) (λ j. rightChild (alone ns) (getD cs (r .f3 + j) 0) i j) (childRule s i) (λ j k. child-test j)
         ∙ ap (λ (n : ℕ). passes (firstOf n (childRule s i))) (node-words .f4)
@@ -167,7 +167,7 @@ module _ (ns cs ms ts : List ℕ) (g : TreePassed (draftOf ns cs ms [] [] [] ts)
     entry-text : (j : ℕ) → j < r .f6 → shownEntry ms ts (r .f5) j ≡ namedText s i j
     unfolding shownEntry
     entry-text j k =
-        ap (λ (x : TextEntry). textIn ts (x .offset) (x .len)) (entry-is j) ∙ good-part ts (namedAt s i j 0) (namedAt s i j 1) (good-entry j k)
+        ap (λ (x : TextEntry). textOrEmpty ts (x .offset) (x .len)) (entry-is j) ∙ good-part ts (namedAt s i j 0) (namedAt s i j 1) (good-entry j k)
 
     named-test : (j : ℕ) → j < r .f6 → namedRight ns ms ts i (r .f5) j ≡ passes (namedRule s i j)
     unfolding namedRight namedRule nodeWord
@@ -186,8 +186,8 @@ module _ (ns cs ms ts : List ℕ) (g : TreePassed (draftOf ns cs ms [] [] [] ts)
         )
         refl
 
-    named-pass : named-tests ≡ passes (firstOf (namedOf s i) (namedRule s i))
-    unfolding namedOf
+    named-pass : named-tests ≡ passes (firstOf (numberOfNamed s i) (namedRule s i))
+    unfolding numberOfNamed
     named-pass =
         passes-all (r .f6) (namedRight ns ms ts i (r .f5)) (namedRule s i) named-test
         ∙ ap (λ (n : ℕ). passes (firstOf n (namedRule s i))) (node-words .f6)
@@ -205,7 +205,7 @@ module _ (ns cs ms ts : List ℕ) (g : TreePassed (draftOf ns cs ms [] [] [] ts)
       by-entries = by-passing ∙ ap (λ (t : Bool). unless (t && passes (entriesRule s i)) 21) (eq-eqb (parentRule s i) 0 (sym e ∙ z))
 
       pub plain-node : (r .tag ≡ 1 → ⊥) → 0 ≡ relationRule s i
-      unfolding entriesRule childrenOf namedOf firstOf _▸_
+      unfolding entriesRule numberOfChildren numberOfNamed firstOf _▸_
       plain-node d =
           sym (by-entries ∙ ap (λ (t : Bool). unless (passes (firstOf (cond t (f s i 4) 0) (childRule s i) ▸ firstOf (cond t (f s i 6) 0) (namedRule s i))) 21) (ne-eqb (tagOf s i) 1 (λ q. d (node-words .tag ∙ q)))
           ∙ pass true 21 refl)
@@ -216,8 +216,8 @@ module _ (ns cs ms ts : List ℕ) (g : TreePassed (draftOf ns cs ms [] [] [] ts)
         by-tests =
             by-entries
             ∙ ap (λ (b : Bool). unless b 21)
-            (passes-both (firstOf (childrenOf s i) (childRule s i)) (firstOf (namedOf s i) (namedRule s i))
-            ∙ ap (λ (b : Bool). b && passes (firstOf (namedOf s i) (namedRule s i))) (sym (children-pass t)) ∙ ap (λ (b : Bool). children-tests t && b) (sym (named-pass t)))
+            (passes-both (firstOf (numberOfChildren s i) (childRule s i)) (firstOf (numberOfNamed s i) (namedRule s i))
+            ∙ ap (λ (b : Bool). b && passes (firstOf (numberOfNamed s i) (namedRule s i))) (sym (children-pass t)) ∙ ap (λ (b : Bool). children-tests t && b) (sym (named-pass t)))
 
         module _ (a : Bool) (p : a ≡ children-tests t) where
           pub wrong-children : not a ≡ true → 21 ≡ relationRule s i
@@ -242,7 +242,7 @@ module _ (ds is ts : List ℕ) (g : ListsPassed (draftOf [] [] [] ds is [] ts)) 
   definition-text : (k : ℕ) → k ≤ d → shownDefinition ds ts k ≡ definitionText lists k
   unfolding shownDefinition
   definition-text k l =
-      ap (λ (x : Definition). textIn ts (x .offset) (x .len)) (definition-entry lists ds k refl) ∙ good-part ts _ _ (g .definitions k (omega arith))
+      ap (λ (x : Definition). textOrEmpty ts (x .offset) (x .len)) (definition-entry lists ds k refl) ∙ good-part ts _ _ (g .definitions k (omega arith))
 
   module _ (a : Bool) (p : a ≡ rising (shownDefinition ds ts) d) where
     rises-is : rising (definitionText lists) d ≡ a
@@ -256,7 +256,7 @@ module _ (ds is ts : List ℕ) (g : ListsPassed (draftOf [] [] [] ds is [] ts)) 
       first-is : entry .first ≡ firstItem lists d
       first-is = ap (λ (x : Definition). x .first) (r ∙ definition-entry lists ds d refl)
 
-      count-is : entry .count ≡ itemsOf lists d
+      count-is : entry .count ≡ numberOfItems lists d
       count-is = ap (λ (x : Definition). x .count) (r ∙ definition-entry lists ds d refl)
 
       pub items-range : (entry .first + entry .count) * 3 ≤ length is
@@ -265,14 +265,14 @@ module _ (ds is ts : List ℕ) (g : ListsPassed (draftOf [] [] [] ds is [] ts)) 
       item-text : (j : ℕ) → j < entry .count → shownEntry is ts (entry .first) j ≡ itemTextOf lists d j
       unfolding shownEntry
       item-text j k =
-          ap (λ (x : TextEntry). textIn ts (x .offset) (x .len)) (item-entry lists is (entry .first + j) refl)
+          ap (λ (x : TextEntry). textOrEmpty ts (x .offset) (x .len)) (item-entry lists is (entry .first + j) refl)
           ∙ good-part ts _ _ (g .items (entry .first + j) (omega (arith, items-range)))
           ∙ ap (λ (n : ℕ). itemText lists (n + j)) first-is
 
       module _ (b : Bool) (k : b ≡ allOf (entry .count) (rising (shownEntry is ts (entry .first)))) where
-        items-are : firstOf (itemsOf lists d) (λ j. unless (rising (itemTextOf lists d) j) 21) ≡ unless b 21
+        items-are : firstOf (numberOfItems lists d) (λ j. unless (rising (itemTextOf lists d) j) 21) ≡ unless b 21
         items-are =
-            unless-all (itemsOf lists d) 20 (rising (itemTextOf lists d))
+            unless-all (numberOfItems lists d) 20 (rising (itemTextOf lists d))
             ∙ ap (λ (n : ℕ). unless (allOf n (rising (itemTextOf lists d))) 21) (sym count-is)
             ∙ ap (λ (x : Bool). unless x 21)
             (sym (k ∙ all-like (entry .count) (rising (shownEntry is ts (entry .first))) (rising (itemTextOf lists d))

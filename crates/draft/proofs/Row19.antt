@@ -1,4 +1,4 @@
--- Row 19 put together out of what the functions answer. Assumes nothing.
+-- Row 19 put together out of what the functions answer.
 use Prim.Native.Nat.{ℕ, zero, suc}
 use mathlib.Core.Path.{_≡_, refl, sym, ap, _∙_}
 use mathlib.Core.List.{List, []}

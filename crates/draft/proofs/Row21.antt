@@ -1,4 +1,4 @@
--- Row 21 put together out of what the functions answer, of a draft that row 19 has passed. Assumes nothing.
+-- Row 21 put together out of what the functions answer, of a draft that row 19 has passed.
 use Prim.Native.Nat.{ℕ, _+_, _*_, _≤_}
 use mathlib.Core.Path.{_≡_, refl, sym, _∙_}
 use mathlib.Core.List.{List, []}
@@ -8,7 +8,7 @@ use lib.ListN.{length}
 use Rattle.laws.specs.Refusal.{_▸_, firstOf}
 use Rattle.laws.proofs.First.{second}
 use Rattle.image.specs.Sections.{Sections, nodeCount, definitionCount, nodeWord, childWord, namedWord, definitionWord, itemWord}
-use Rattle.records.specs.Records.{childrenOf, namedOf, parentRule, rootRight}
+use Rattle.records.specs.Records.{numberOfChildren, numberOfNamed, parentRule, rootRight}
 use Rattle.records.proofs.Tests.{stop, go, refused}
 use Rattle.tree.specs.Tree.{childRule, namedRule, entriesRule}
 use Rattle.draft.specs.Source.{draftOf}
@@ -51,7 +51,7 @@ module _ (ns cs ms ds is ps ts : List ℕ) where
   -- ---- the row
 
   relations-are : firstOf (nodeCount tree) (relationRule tree) ≡ firstOf (nodeCount s) (relationRule s)
-  unfolding relationRule parentRule entriesRule childrenOf namedOf childRule namedRule nodeWord childWord namedWord
+  unfolding relationRule parentRule entriesRule numberOfChildren numberOfNamed childRule namedRule nodeWord childWord namedWord
   relations-are = refl
 
   orders-are : firstOf (definitionCount lists) (orderRule lists) ≡ firstOf (definitionCount s) (orderRule s)

@@ -1,4 +1,4 @@
--- What the rules 19 and 21 say of a draft that breaks none of them, one fact at a time. Assumes nothing.
+-- What the rules 19 and 21 say of a draft that breaks none of them, one fact at a time.
 use Prim.Native.Nat.{ℕ, zero, _+_, _*_, _%_, _/_, _≤_, _<_}
 use mathlib.Core.Path.{_≡_, sym, subst}
 use mathlib.Core.Bool.{true, _&&_, _||_}
@@ -10,13 +10,13 @@ use Rattle.laws.proofs.First.{both, passed, as-zero, first-all}
 use Rattle.texts.specs.Text.{rising}
 use Rattle.image.specs.Sections.{Sections, nodeCount, childCount, namedCount, definitionCount, itemCount, parentOf, f, childWord, namedWord, goodText, inside, isContainer}
 use Rattle.image.specs.Header.{nodeWords}
-use Rattle.records.specs.Records.{childrenOf, namedOf, fieldsRule, parentRule, rootRight, usedUp}
-use Rattle.records.proofs.Passed.{Node, node-of, ranges as fields-ranges}
+use Rattle.records.specs.Records.{numberOfChildren, numberOfNamed, fieldsRule, parentRule, rootRight, usedUp}
+use Rattle.records.proofs.PassedRules.{Node, node-of, ranges as fields-ranges}
 use Rattle.tree.specs.Tree.{childAt, namedAt, entryNodes, entriesRule}
-use Rattle.tree.specs.Parts.{Counts, Fit}
+use Rattle.tree.specs.Parts.{EntriesOwned, Fit}
 use Rattle.tree.proofs.Members.{both-true, All}
 use Rattle.tree.proofs.Entries.{entry-each, child-container, named-container, counts}
-use Rattle.index.specs.Definitions.{goodDefinition, goodItem, firstItem, itemsOf, itemsBefore, itemsRight, itemsUsedUp, definitionText, itemTextOf}
+use Rattle.index.specs.Definitions.{goodDefinition, goodItem, firstItem, numberOfItems, itemsBefore, itemsRight, itemsUsedUp, definitionText, itemTextOf}
 use Rattle.draft.specs.Draft.{wholeEntries, draftNodeRule, draftChildRule, draftNamedRule, draftDefinitionRule, draftItemRule, tablesRule, relationRule, orderRule, shapeRule}
 
 -- ---- 19
@@ -112,7 +112,7 @@ module _ (s : Sections) (p : tablesRule s ≡ 0) where
 -- ---- what the tables give
 
 module _ (s : Sections) (t : Tables s) where
-  pub entries-counts : Counts s
+  pub entries-counts : EntriesOwned s
   entries-counts = counts s (t .some) (t .used)
 
   pub tables-fit : Fit s
@@ -134,27 +134,27 @@ module _ (s : Sections) (t : Tables s) where
   -- ---- the entries of container i
 
   module _ (i : ℕ) (h : i < nodeCount s) where
-    child-in : (j : ℕ) → j < childrenOf s i → f s i 3 + j < childCount s
-    unfolding childrenOf
+    child-in : (j : ℕ) → j < numberOfChildren s i → f s i 3 + j < childCount s
+    unfolding numberOfChildren
     child-in j k = go (child-container s i j k) k
       where
-        go : isContainer s i ≡ true → j < childrenOf s i → f s i 3 + j < childCount s
+        go : isContainer s i ≡ true → j < numberOfChildren s i → f s i 3 + j < childCount s
         go c q = let l : j < f s i 4 = rw c at q in omega (arith, tables-fit .ranges i h c .children)
 
-    named-in : (j : ℕ) → j < namedOf s i → f s i 5 + j < namedCount s
-    unfolding namedOf
+    named-in : (j : ℕ) → j < numberOfNamed s i → f s i 5 + j < namedCount s
+    unfolding numberOfNamed
     named-in j k = go (named-container s i j k) k
       where
-        go : isContainer s i ≡ true → j < namedOf s i → f s i 5 + j < namedCount s
+        go : isContainer s i ≡ true → j < numberOfNamed s i → f s i 5 + j < namedCount s
         go c q = let l : j < f s i 6 = rw c at q in omega (arith, tables-fit .ranges i h c .named)
 
-    pub child-at : (j : ℕ) → j < childrenOf s i → Node s (childAt s i j)
+    pub child-at : (j : ℕ) → j < numberOfChildren s i → Node s (childAt s i j)
     child-at j k = child-node (f s i 3 + j) (child-in j k)
 
-    pub named-text-at : (j : ℕ) → j < namedOf s i → goodText s (namedAt s i j 0) (namedAt s i j 1) ≡ true
+    pub named-text-at : (j : ℕ) → j < numberOfNamed s i → goodText s (namedAt s i j 0) (namedAt s i j 1) ≡ true
     named-text-at j k = t .named-texts (f s i 5 + j) (named-in j k)
 
-    pub named-at : (j : ℕ) → j < namedOf s i → Node s (namedAt s i j 2)
+    pub named-at : (j : ℕ) → j < numberOfNamed s i → Node s (namedAt s i j 2)
     named-at j k = named-node (f s i 5 + j) (named-in j k)
 
     pub entries-below : All (λ x. x < nodeCount s) (entryNodes s i)
@@ -164,12 +164,12 @@ module _ (s : Sections) (t : Tables s) where
 
   module _ (d : ℕ) (h : d < definitionCount s) where
     pub items-start : firstItem s d ≡ itemsBefore s d
-    items-start = eqb-true _ _ (both-true (leb (firstItem s d + itemsOf s d) (itemCount s)) _ (t .definitions d h .1) .1)
+    items-start = eqb-true _ _ (both-true (leb (firstItem s d + numberOfItems s d) (itemCount s)) _ (t .definitions d h .1) .1)
 
-    pub items-end : firstItem s d + itemsOf s d ≤ itemCount s
-    items-end = leb-true _ _ (both-true (leb (firstItem s d + itemsOf s d) (itemCount s)) _ (t .definitions d h .1) .0)
+    pub items-end : firstItem s d + numberOfItems s d ≤ itemCount s
+    items-end = leb-true _ _ (both-true (leb (firstItem s d + numberOfItems s d) (itemCount s)) _ (t .definitions d h .1) .0)
 
-    pub item-good : (j : ℕ) → j < itemsOf s d → goodItem s (firstItem s d + j) ≡ true
+    pub item-good : (j : ℕ) → j < numberOfItems s d → goodItem s (firstItem s d + j) ≡ true
     item-good j k = t .items (firstItem s d + j) (omega (arith, items-end))
 
   pub items-all : itemsBefore s (definitionCount s) ≡ itemCount s
@@ -183,7 +183,7 @@ pub record Shape (s : Sections) : Type 0 where
   pub parents : (i : ℕ) → i < nodeCount s → parentRule s i ≡ 0
   pub entries : (i : ℕ) → i < nodeCount s → entriesRule s i ≡ 0
   pub rising-definitions : (d : ℕ) → d < definitionCount s → rising (definitionText s) d ≡ true
-  pub rising-items : (d : ℕ) → d < definitionCount s → (j : ℕ) → j < itemsOf s d → rising (itemTextOf s d) j ≡ true
+  pub rising-items : (d : ℕ) → d < definitionCount s → (j : ℕ) → j < numberOfItems s d → rising (itemTextOf s d) j ≡ true
 
 pub shape : (s : Sections) → shapeRule s ≡ 0 → Shape s
 unfolding shapeRule relationRule orderRule

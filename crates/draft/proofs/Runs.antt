@@ -1,4 +1,4 @@
--- A run of tests that all must pass, as a loop makes them, and as a rule of refusals says it. Assumes nothing.
+-- A run of tests that all must pass, as a loop makes them, and as a rule of refusals says it.
 use Prim.Native.Nat.{ℕ, zero, suc, _+_, _≤_, _<_}
 use mathlib.Core.Path.{_≡_, refl, sym, _∙_}
 use mathlib.Core.List.{List}

@@ -1,4 +1,4 @@
--- The rules of a draft, numbers 19 to 22: sections without an index, in any numbering with root 0. Assumes nothing.
+-- The rules of a draft, numbers 19 to 22: sections without an index, in any numbering with root 0.
 use Prim.Native.Nat.{ℕ, zero, suc, _+_, _*_, _%_}
 use mathlib.Core.List.{List}
 use mathlib.Core.Bool.{Bool, true, false, _&&_, _||_, not}
@@ -12,7 +12,7 @@ use Rattle.image.specs.Sections.{Sections, nodeCount, childCount, namedCount, d
 use Rattle.records.specs.Records.{fieldsRule, parentRule, rootRight, usedUp, records}
 use Rattle.tree.specs.Tree.{entriesRule, readWalk, allSeen, Walked, trees}
 use Rattle.index.specs.Paths.{nameless, canonicalPath, paths}
-use Rattle.index.specs.Definitions.{goodDefinition, goodItem, itemsRight, itemsOf, itemsUsedUp, definitionText, itemTextOf, definitions}
+use Rattle.index.specs.Definitions.{goodDefinition, goodItem, itemsRight, numberOfItems, itemsUsedUp, definitionText, itemTextOf, definitions}
 
 -- ---- 19: the tables
 
@@ -65,7 +65,7 @@ unfoldable pub relationRule : Sections → ℕ → ℕ
 relationRule s i = countsAs 21 (parentRule s i) ▸ countsAs 21 (entriesRule s i)
 
 unfoldable pub orderRule : Sections → ℕ → ℕ
-orderRule s d = unless (rising (definitionText s) d) 21 ▸ firstOf (itemsOf s d) (λ j. unless (rising (itemTextOf s d) j) 21)
+orderRule s d = unless (rising (definitionText s) d) 21 ▸ firstOf (numberOfItems s d) (λ j. unless (rising (itemTextOf s d) j) 21)
 
 unfoldable pub shapeRule : Sections → ℕ
 shapeRule s = unless (rootRight s) 21 ▸ firstOf (nodeCount s) (relationRule s) ▸ firstOf (definitionCount s) (orderRule s)

@@ -1,4 +1,4 @@
--- The work words that a draft needs, compared with those that are lent. Assumes nothing.
+-- The work words that a draft needs, compared with those that are lent.
 use Prim.Native.Nat.{ℕ}
 use mathlib.Core.Bool.{cond}
 use lib.Dec.{leb}

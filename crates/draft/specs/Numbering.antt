@@ -1,4 +1,4 @@
--- The numbering of a written image: depth first in reading order. Assumes nothing.
+-- The numbering of a written image: depth first in reading order.
 use Prim.Native.Nat.{ℕ}
 use mathlib.Core.List.{List, reverse}
 use mathlib.Core.Bool.{cond}

@@ -1,25 +1,25 @@
--- What the code of row 21 reads, and what row 19 has shown of it before. Assumes nothing.
+-- What the code of row 21 reads, and what row 19 has shown of it before.
 use Prim.Native.Nat.{ℕ, _+_, _≤_, _<_}
 use mathlib.Core.Path.{_≡_}
 use mathlib.Core.List.{List, []}
 use mathlib.Core.Bool.{Bool, true, _&&_}
 use lib.Dec.{eqb}
 use Rattle.texts.specs.Text.{rising}
-use Rattle.image.specs.Sections.{Sections, nodeCount, namedCount, definitionCount, itemCount, parentOf, namedWord, goodText, textIn, isContainer, insideContainer}
+use Rattle.image.specs.Sections.{Sections, nodeCount, namedCount, definitionCount, itemCount, parentOf, namedWord, goodText, textOrEmpty, isContainer, insideContainer}
 use Rattle.image.specs.Entries.{textEntryOf, definitionOf}
 use Rattle.tree.specs.Parts.{Ranges}
-use Rattle.index.specs.Definitions.{goodDefinition, goodItem, firstItem, itemsOf}
+use Rattle.index.specs.Definitions.{goodDefinition, goodItem, firstItem, numberOfItems}
 use Rattle.draft.specs.Source.{draftOf}
 
 -- ---- texts, none where they are not inside the strings
 
 -- of the j-th entry of three words, from the first one of a run on
 unfoldable pub shownEntry : List ℕ → List ℕ → ℕ → ℕ → List ℕ
-shownEntry ws strings first j = textIn strings (textEntryOf ws (first + j) .offset) (textEntryOf ws (first + j) .len)
+shownEntry ws strings first j = textOrEmpty strings (textEntryOf ws (first + j) .offset) (textEntryOf ws (first + j) .len)
 
 -- of definition d
 unfoldable pub shownDefinition : List ℕ → List ℕ → ℕ → List ℕ
-shownDefinition ws strings d = textIn strings (definitionOf ws d .offset) (definitionOf ws d .len)
+shownDefinition ws strings d = textOrEmpty strings (definitionOf ws d .offset) (definitionOf ws d .len)
 
 -- ---- named entries
 
@@ -41,6 +41,6 @@ pub record TreePassed (s : Sections) : Type 0 where
 
 -- the items of definitions lie in their section, and all texts are good
 pub record ListsPassed (s : Sections) : Type 0 where
-  pub ranges : (d : ℕ) → d < definitionCount s → firstItem s d + itemsOf s d ≤ itemCount s
+  pub ranges : (d : ℕ) → d < definitionCount s → firstItem s d + numberOfItems s d ≤ itemCount s
   pub definitions : (d : ℕ) → d < definitionCount s → goodDefinition s d ≡ true
   pub items : (j : ℕ) → j < itemCount s → goodItem s j ≡ true

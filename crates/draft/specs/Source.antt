@@ -1,4 +1,4 @@
--- A draft's sections, out of its words and bytes: a draft has no index. Assumes nothing.
+-- A draft's sections, out of its words and bytes: a draft has no index.
 use Prim.Native.Nat.{ℕ}
 use mathlib.Core.Path.{_≡_}
 use mathlib.Core.List.{List, []}

@@ -6,7 +6,7 @@ ghost use lib.ListN.{length, getD};
 ghost use Rattle.laws.specs.Refusal.{firstOf};
 ghost use Rattle.laws.specs.Counted.{allOf};
 ghost use Rattle.texts.specs.Text.{before, rising};
-ghost use Rattle.image.specs.Sections.{nodeCount, definitionCount, textIn};
+ghost use Rattle.image.specs.Sections.{nodeCount, definitionCount, textOrEmpty};
 ghost use Rattle.tree.specs.Tree.{rightChild};
 ghost use Rattle.draft.specs.Source.{draftOf};
 ghost use Rattle.draft.specs.Draft.{tablesRule, relationRule, orderRule, shapeRule};
@@ -18,7 +18,7 @@ use texts::Order;
 
 // Whether the first of two texts of the strings comes before the second.
 fn comes_before(strings: &[u8], offset: u32, len: u32, next_offset: u32, next_len: u32) -> bool
-    ensures { λ r. ⌜ r ≡ before (textIn (now (strings .entry)) offset len) (textIn (now (strings .entry)) «next_offset» «next_len») ⌝ }
+    ensures { λ r. ⌜ r ≡ before (textOrEmpty (now (strings .entry)) offset len) (textOrEmpty (now (strings .entry)) «next_offset» «next_len») ⌝ }
 {
     let order = texts::compare(
         image::text_part(strings, offset, len),

@@ -6,7 +6,7 @@ ghost use Rattle.laws.specs.Refusal.{unless, _▸_, firstOf};
 ghost use Rattle.image.specs.Sections.{Sections, nodeCount, childCount, namedCount, definitionCount, itemCount, goodIn};
 ghost use Rattle.image.specs.Entries.{nodeIn};
 ghost use Rattle.records.specs.Records.{usedUp};
-ghost use Rattle.records.specs.Shown.{sumsBefore, insideAmong, follows};
+ghost use Rattle.records.specs.Shown.{sumsBefore, insideAmong, startsNext};
 ghost use Rattle.index.specs.Definitions.{itemsUsedUp};
 ghost use Rattle.draft.specs.Source.{NodesFrom, draftOf};
 ghost use Rattle.draft.specs.Draft.{wholeEntries, draftNodeRule, draftChildRule, draftNamedRule, draftDefinitionRule, draftItemRule, tablesRule};
@@ -142,7 +142,7 @@ fn named_rule(nodes: &[u32], named: &[u32], strings: &[u8]) -> u32
 
 // A definition, where the ones before it use so many of all the items: its text is good, and its items follow theirs.
 fn definition_rule(definition: Definition, used: usize, items: usize, strings: &[u8]) -> u32
-    ensures { λ r. ⌜ r ≡ (unless (goodIn (now (strings .entry)) (definition .offset) (definition .len)) 19 ▸ unless (follows (definition .first) (definition .count) used items) 19) ⌝ }
+    ensures { λ r. ⌜ r ≡ (unless (goodIn (now (strings .entry)) (definition .offset) (definition .len)) 19 ▸ unless (startsNext (definition .first) (definition .count) used items) 19) ⌝ }
 {
     if !image::good_text(strings, definition.offset, definition.len) {
         return BAD_DRAFT;

@@ -1,4 +1,4 @@
--- Small images and drafts that the tables speak of. Assumes nothing.
+-- Small images and drafts that the tables speak of.
 use Prim.Native.Nat.{ℕ, zero, suc, _+_, _*_}
 use mathlib.Core.List.{List, [], _∷_, _++_}
 use lib.ListN.{take, replicate}

@@ -1,4 +1,4 @@
--- The small example of each row of document 01's table of numbers, as one theorem. Assumes nothing.
+-- The small example of each row of document 01's table of numbers, as one theorem.
 use Prim.Native.Nat.{ℕ, zero, suc, _+_}
 use mathlib.Core.Path.{_≡_, refl}
 use mathlib.Core.List.{List, [], _∷_, _++_}
@@ -10,7 +10,7 @@ use Rattle.image.specs.Sections.{Sections}
 use Rattle.image.specs.Encoding.{imageOf, encodings}
 use Rattle.load.specs.Load.{loadRule, loads}
 use Rattle.views.specs.Children.{childQuery, foundNumber, childrens}
-use Rattle.encoder.specs.Encode.{encodeRule, encodes}
+use Rattle.draft_image.specs.Encode.{encodeRule, encodes}
 use Rattle.edges.specs.Examples.{smallestImage, containerWords, nodeWords, plainSections, rootNamed, withChild, withLists, examples}
 
 unfoldable pub list : List ℕ → List ℕ → List ℕ → Sections

@@ -1,4 +1,4 @@
--- The lines that document 01 marks P, as one theorem. Assumes nothing.
+-- The lines that document 01 marks P, as one theorem.
 use Prim.Native.Nat.{ℕ, zero, suc}
 use mathlib.Core.Path.{_≡_, refl}
 use mathlib.Core.List.{List, [], _∷_}
@@ -16,7 +16,7 @@ use Rattle.lookups.specs.Lookup.{listItem, lookups}
 use Rattle.walks.specs.Walk.{resolve, walks}
 use Rattle.views.specs.declared.Found.the-variants.{Node}
 use Rattle.lookups.specs.declared.ListItemAnswer.the-variants.{Item}
-use Rattle.encoder.specs.Encode.{encodeRule, imageFor, encodes}
+use Rattle.draft_image.specs.Encode.{encodeRule, imageFor, encodes}
 use Rattle.views.specs.declared.OptionalText.the-variants.{Present, Absent}
 use Rattle.edges.specs.Examples.{smallestImage, headerAlone, rootNamed, withChild, withDivert, withPlace3, withA, withLists, examples}
 

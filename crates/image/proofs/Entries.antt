@@ -1,5 +1,4 @@
 -- What the code reads out of a section's words are the words of that entry: of a node, a named entry, a definition, an item, an index entry.
--- Assumes nothing.
 use Prim.Native.Nat.{ℕ, _*_}
 use mathlib.Core.Path.{_≡_, ap, _∙_}
 use mathlib.Core.List.{List}

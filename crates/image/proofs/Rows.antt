@@ -1,4 +1,4 @@
--- Laws of rows 1 to 5 in the order of the code: the loop over the eight sections, the rows, the constructor's answer. Assumes nothing.
+-- Laws of rows 1 to 5 in the order of the code: the loop over the eight sections, the rows, the constructor's answer.
 use Prim.Native.Nat.{ℕ, zero, suc, _+_, _*_, _≤_, _<_}
 use mathlib.Core.Path.{_≡_, refl, sym, ap, _∙_}
 use mathlib.Core.Bool.{Bool, true, false, _&&_}

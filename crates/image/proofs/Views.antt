@@ -1,4 +1,4 @@
--- The sections of a view in bytes: what each is, and how many entries it has where it lies in the bytes. Assumes nothing.
+-- The sections of a view in bytes: what each is, and how many entries it has where it lies in the bytes.
 use Prim.Native.Nat.{ℕ, _+_, _*_, _/_, _≤_}
 use mathlib.Core.Path.{_≡_, refl, sym, _∙_}
 use mathlib.Core.List.{List}
@@ -69,7 +69,7 @@ pub record Inside (bs : List ℕ) (v : ImageView) : Type 0 where
   pub strings : Within bs (v .strings) 1
 
 -- the counts of a view are those of its sections
-pub record Counts (bs : List ℕ) (v : ImageView) : Type 0 where
+pub record SectionCounts (bs : List ℕ) (v : ImageView) : Type 0 where
   pub nodes : nodeCount (sectionsBy bs v) ≡ v .nodes .count
   pub children : childCount (sectionsBy bs v) ≡ v .children .count
   pub named : namedCount (sectionsBy bs v) ≡ v .named .count
@@ -83,7 +83,7 @@ pub record Counts (bs : List ℕ) (v : ImageView) : Type 0 where
 section-count : (bs : List ℕ) (s : Section) (n : ℕ) → 1 ≤ n → Within bs s (4 * n) → length (wordsOf (sectionBytes bs s (4 * n))) / n ≡ s .count
 section-count bs s n h w = entry-count (sectionBytes bs s (4 * n)) n (s .count) h (section-length bs s (4 * n) w)
 
-pub counts : (bs : List ℕ) (v : ImageView) → Inside bs v → Counts bs v
+pub counts : (bs : List ℕ) (v : ImageView) → Inside bs v → SectionCounts bs v
 unfolding sectionsIn
 counts bs v i =
     record {

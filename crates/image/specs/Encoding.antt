@@ -1,4 +1,4 @@
--- The bytes of an image: header and sections, one after the other, with the checksum. Assumes nothing.
+-- The bytes of an image: header and sections, one after the other, with the checksum.
 use Prim.Native.Nat.{ℕ, _+_}
 use mathlib.Core.List.{List, [], _∷_, _++_}
 use lib.ListN.{length, getD}

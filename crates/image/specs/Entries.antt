@@ -1,4 +1,4 @@
--- The words of one entry, as the code reads them out of a section's words. Assumes nothing.
+-- The words of one entry, as the code reads them out of a section's words.
 use Prim.Native.Nat.{ℕ, _+_, _*_}
 use mathlib.Core.List.{List}
 use lib.ListN.{getD}

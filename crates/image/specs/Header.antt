@@ -1,4 +1,4 @@
--- The header: the view that it gives, the sections that a view bounds in bytes, and rows 1 to 5. Assumes nothing.
+-- The header: the view that it gives, the sections that a view bounds in bytes, and rows 1 to 5.
 use Prim.Native.Nat.{ℕ, zero, suc, _+_, _*_}
 use mathlib.Core.List.{List, [], _∷_}
 use mathlib.Core.Bool.{Bool, cond, _&&_, not}

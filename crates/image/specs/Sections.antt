@@ -1,5 +1,4 @@
 -- The sections that an image and a draft both have: words of entries, payload and strings as bytes; their entries and texts.
--- Assumes nothing.
 use Prim.Native.Nat.{ℕ, _+_, _*_, _/_}
 use mathlib.Core.List.{List, []}
 use mathlib.Core.Bool.{Bool, cond, _&&_, _||_, not}
@@ -110,8 +109,8 @@ abbrev pub goodOptional : Sections → ℕ → ℕ → Bool
 goodOptional s at len = optionalIn (s .strings) at len
 
 -- the bytes of a text, none where it is not inside the strings
-unfoldable pub textIn : List ℕ → ℕ → ℕ → List ℕ
-textIn strings at len = cond (leb (at + len) (length strings)) (partAt strings at len) []
+unfoldable pub textOrEmpty : List ℕ → ℕ → ℕ → List ℕ
+textOrEmpty strings at len = cond (leb (at + len) (length strings)) (partAt strings at len) []
 
 -- ---- nodes
 
@@ -127,5 +126,5 @@ insideContainer s n = inside s n && isContainer s n
 
 -- names on an `unfolding` line what a computation with this module needs
 unfoldable pub sections : Unit {0}
-unfolding nodeWord childWord namedWord definitionWord itemWord indexWord partAt goodIn textIn utf8s
+unfolding nodeWord childWord namedWord definitionWord itemWord indexWord partAt goodIn textOrEmpty utf8s
 sections = tt

@@ -3,10 +3,11 @@ ghost use mathlib.Core.Path.{_≡_};
 ghost use Prim.Native.Nat.{_+_, _*_, _≤_};
 ghost use lib.ListN.{length, getD};
 ghost use Rattle.words.specs.Words.{wordsOf};
-ghost use Rattle.image.specs.Sections.{goodIn, optionalIn, textIn};
+ghost use Rattle.image.specs.Sections.{goodIn, optionalIn, textOrEmpty};
 ghost use Rattle.image.specs.Header.{sectionBytes, openedOf};
 ghost use Rattle.image.specs.Entries.{recordOf, textEntryOf, definitionOf};
 
+pub mod encoding;
 mod header;
 pub mod refusal;
 
@@ -77,11 +78,11 @@ impl ImageView {
     pub fn new(bytes: &[u8]) -> Opened
         ensures { λ r. ⌜ r ≡ openedOf (now (bytes .entry)) ⌝ }
     {
-        let refusal = header::refusal_of(bytes);
+        let refusal = crate::encoding::refusal_of(bytes);
         if refusal != 0 {
             return Opened::Refused(refusal);
         }
-        Opened::View(header::view_at(bytes))
+        Opened::View(crate::encoding::view_at(bytes))
     }
 }
 
@@ -187,7 +188,7 @@ pub fn definition_at(part: &[u8], j: usize) -> Definition
 
 // The bytes of a text, or none where it is not inside the strings. Whether they are UTF-8 is not asked.
 pub fn text_part(strings: &[u8], offset: u32, len: u32) -> &[u8]
-    ensures { λ r. ⌜ now r ≡ textIn (now (strings .entry)) offset len ⌝ }
+    ensures { λ r. ⌜ now r ≡ textOrEmpty (now (strings .entry)) offset len ⌝ }
 {
     let start = offset as usize;
     let end = start + len as usize;

@@ -1,4 +1,4 @@
--- The work words suffice for every image that is read, so that a load answers by the image alone. Assumes nothing.
+-- The work words suffice for every image that is read, so that a load answers by the image alone.
 use Prim.Native.Nat.{ℕ, zero, suc, _+_, _*_, _≤_, _<_}
 use mathlib.Core.Path.{_≡_, refl, sym, ap, _∙_}
 use mathlib.Core.List.{List}
@@ -12,12 +12,12 @@ use Rattle.laws.specs.Counted.{sumOf}
 use Rattle.laws.proofs.First.{first, second, pass}
 use Rattle.image.specs.declared.ImageView.{ImageView}
 use Rattle.image.specs.Header.{headerRule, headerLength, startBy, sectionAt, sizes, viewOf, sectionsOf}
-use Rattle.image.proofs.Opening.{Opens, opens}
+use Rattle.image.proofs.Header.{Opens, opens}
 use Rattle.image.proofs.Rows.{start-next}
 use Rattle.load.specs.Load.{checksumRule, sectionsRule, loadRule, loadWords, loadedBy, loadedOf}
 use Rattle.load.specs.declared.Loaded.{Loaded}
 use Rattle.load.specs.declared.Loaded.the-variants as Loaded
-use Rattle.load.proofs.Loading.{needed-is}
+use Rattle.load.proofs.Answers.{needed-is}
 use Rattle.image_check.specs.declared.Answer.{Answer}
 use Rattle.image_check.specs.declared.Answer.the-variants.{Accepted, Refused, Long}
 use Rattle.image_check.specs.Answer.{limit, mostWords, imageRule, answerBy, answerOf}

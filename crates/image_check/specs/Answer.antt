@@ -1,4 +1,4 @@
--- What the program says of its input. Assumes nothing.
+-- What the program says of its input.
 use Prim.Native.Nat.{ℕ, zero, suc}
 use mathlib.Core.List.{List}
 use mathlib.Core.Bool.{cond}

@@ -1,5 +1,5 @@
 -- Definitions and items where nothing is refused: what each is, that their texts are sorted and differ, and that sections alike in what is read are refused
--- alike. Assumes nothing.
+-- alike.
 use Prim.Native.Nat.{ℕ, _+_, _≤_, _<_}
 use mathlib.Core.Path.{_≡_}
 use mathlib.Core.List.{List}
@@ -12,10 +12,10 @@ use Rattle.words.specs.Words.{wordsOf}
 use Rattle.texts.specs.Text.{before, rising}
 use Rattle.image.specs.Sections.{Sections, definitionCount, itemCount, definitionWord, itemWord}
 use Rattle.image.proofs.Tests.{both-true}
-use Rattle.index.specs.Definitions.{definitionText, firstItem, itemsOf, itemText, itemTextOf, goodDefinition, goodItem, itemsBefore, itemsRight, itemRuleFrom, itemRule, definitionRule, itemsUsedUp, definitionsRule}
+use Rattle.index.specs.Definitions.{definitionText, firstItem, numberOfItems, itemText, itemTextOf, goodDefinition, goodItem, itemsBefore, itemsRight, itemRuleFrom, itemRule, definitionRule, itemsUsedUp, definitionsRule}
 use Rattle.index.specs.Parts.{definitionParts}
-use Rattle.index.proofs.Rising.{rising-before, rising-once, rising-like}
-use Rattle.index.proofs.Runs.{first-like, sum-like}
+use Rattle.index.proofs.RisingTexts.{rising-before, rising-once, rising-like}
+use Rattle.index.proofs.RuleRuns.{first-like, sum-like}
 
 -- ---- an item and a definition that pass
 
@@ -38,9 +38,9 @@ item-passes s first j e = rw (e .text, e .order)
 pub record Definition (s : Sections) (d : ℕ) : Type 0 where
   pub text : goodDefinition s d ≡ true
   pub order : rising (definitionText s) d ≡ true
-  pub inside : firstItem s d + itemsOf s d ≤ itemCount s
+  pub inside : firstItem s d + numberOfItems s d ≤ itemCount s
   pub start : firstItem s d ≡ itemsBefore s d
-  pub items : (j : ℕ) → j < itemsOf s d → Item s (firstItem s d) j
+  pub items : (j : ℕ) → j < numberOfItems s d → Item s (firstItem s d) j
 
 pub definition-passed : (s : Sections) (d : ℕ) → definitionRule s d ≡ 0 → Definition s d
 unfolding definitionRule
@@ -48,24 +48,24 @@ definition-passed s d p =
     let text = goodDefinition s d in
     let order = rising (definitionText s) d in
     let right = itemsRight s d in
-    let rest = firstOf (itemsOf s d) (itemRule s d) in
+    let rest = firstOf (numberOfItems s d) (itemRule s d) in
     let a = both (unless text 10) (unless order 17 ▸ unless right 11 ▸ rest) p in
     let b = both (unless order 17) (unless right 11 ▸ rest) (a .1) in
     let c = both (unless right 11) rest (b .1) in
-    let q = both-true (leb (firstItem s d + itemsOf s d) (itemCount s)) (eqb (firstItem s d) (itemsBefore s d)) (passed right 10 (c .0)) in
+    let q = both-true (leb (firstItem s d + numberOfItems s d) (itemCount s)) (eqb (firstItem s d) (itemsBefore s d)) (passed right 10 (c .0)) in
     record {
       text = passed text 9 (a .0);
       order = passed order 16 (b .0);
-      inside = leb-true (firstItem s d + itemsOf s d) (itemCount s) (q .0);
+      inside = leb-true (firstItem s d + numberOfItems s d) (itemCount s) (q .0);
       start = eqb-true (firstItem s d) (itemsBefore s d) (q .1);
-      items = λ j h. item-passed s (firstItem s d) j (first-all (itemsOf s d) (itemRule s d) (c .1) j h);
+      items = λ j h. item-passed s (firstItem s d) j (first-all (numberOfItems s d) (itemRule s d) (c .1) j h);
     }
 
 pub definition-passes : (s : Sections) (d : ℕ) → Definition s d → definitionRule s d ≡ 0
 unfolding definitionRule unless _▸_
 definition-passes s d e =
-    let items = first-of (itemsOf s d) (itemRule s d) (λ j h. item-passes s (firstItem s d) j (e .items j h)) in
-    rw (e .text, e .order, le-leb (firstItem s d + itemsOf s d) (itemCount s) (e .inside), eq-eqb (firstItem s d) (itemsBefore s d) (e .start), items)
+    let items = first-of (numberOfItems s d) (itemRule s d) (λ j h. item-passes s (firstItem s d) j (e .items j h)) in
+    rw (e .text, e .order, le-leb (firstItem s d + numberOfItems s d) (itemCount s) (e .inside), eq-eqb (firstItem s d) (itemsBefore s d) (e .start), items)
 
 -- ---- all of them
 
@@ -99,11 +99,11 @@ module _ (s : Sections) (e : Definitions s) where
 
   -- the same of the items of one definition
   module _ (d : ℕ) (h : d < definitionCount s) where
-    pub item-before : (j k : ℕ) → j < k → k < itemsOf s d → before (itemTextOf s d j) (itemTextOf s d k) ≡ true
-    item-before = rising-before (itemTextOf s d) (itemsOf s d) (λ j g. e .each d h .items j g .order)
+    pub item-before : (j k : ℕ) → j < k → k < numberOfItems s d → before (itemTextOf s d j) (itemTextOf s d k) ≡ true
+    item-before = rising-before (itemTextOf s d) (numberOfItems s d) (λ j g. e .each d h .items j g .order)
 
-    pub item-once : (j k : ℕ) → j < itemsOf s d → k < itemsOf s d → itemTextOf s d j ≡ itemTextOf s d k → j ≡ k
-    item-once = rising-once (itemTextOf s d) (itemsOf s d) (λ j g. e .each d h .items j g .order)
+    pub item-once : (j k : ℕ) → j < numberOfItems s d → k < numberOfItems s d → itemTextOf s d j ≡ itemTextOf s d k → j ≡ k
+    item-once = rising-once (itemTextOf s d) (numberOfItems s d) (λ j g. e .each d h .items j g .order)
 
 -- ---- sections with the same definitions, items and strings
 
@@ -129,13 +129,13 @@ module _ (s r : Sections) (items : s .items ≡ r .items) (strings : s .strings 
     definition-text-like d = rw (definition-word-like d 0, definition-word-like d 1, strings)
 
     pub before-like : (d : ℕ) → itemsBefore s d ≡ itemsBefore r d
-    before-like d = sum-like d (itemsOf s) (itemsOf r) (λ k. definition-word-like k 3)
+    before-like d = sum-like d (numberOfItems s) (numberOfItems r) (λ k. definition-word-like k 3)
 
     definition-like : (d : ℕ) → definitionRule s d ≡ definitionRule r d
     unfolding definitionRule
     definition-like d =
         rw (
-          first-like (itemsOf s d) (itemRuleFrom s (firstItem s d)) (itemRuleFrom r (firstItem s d)) (item-like (firstItem s d)),
+          first-like (numberOfItems s d) (itemRuleFrom s (firstItem s d)) (itemRuleFrom r (firstItem s d)) (item-like (firstItem s d)),
           rising-like (definitionText s) (definitionText r) definition-text-like d,
           before-like d,
           definition-word-like d 0,

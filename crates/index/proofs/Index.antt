@@ -1,5 +1,4 @@
 -- The index where nothing is refused: what each entry is, that its texts are sorted and differ, and that sections alike in what it reads are refused alike.
--- Assumes nothing.
 use Prim.Native.Nat.{ℕ, zero, suc, _/_, _<_}
 use mathlib.Core.Path.{_≡_, refl, sym, ap, _∙_}
 use mathlib.Core.List.{List, _∷_}
@@ -16,8 +15,8 @@ use Rattle.index.specs.Paths.{nameless, piece, pathFrom, canonicalPath, 
 use Rattle.index.specs.Index.{indexText, indexEntryRule, indexRule}
 use Rattle.index.specs.Parts.{indexParts, pathNodeOf}
 use Rattle.index.proofs.Paths.{fits-plain}
-use Rattle.index.proofs.Rising.{rising-before, rising-once, rising-like}
-use Rattle.index.proofs.Runs.{first-like}
+use Rattle.index.proofs.RisingTexts.{rising-before, rising-once, rising-like}
+use Rattle.index.proofs.RuleRuns.{first-like}
 
 -- ---- an entry that passes
 

@@ -1,6 +1,6 @@
 pub mod Suffix
-pub mod Runs
-pub mod Rising
+pub mod RuleRuns
+pub mod RisingTexts
 pub mod Paths
 pub mod Index
 pub mod Definitions

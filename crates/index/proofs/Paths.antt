@@ -1,5 +1,4 @@
 -- Paths step by step up to the root: what a comparison from the end of a text on sees at each node, and how far a path depends on its bound.
--- Assumes nothing.
 use Prim.Native.Nat.{ℕ, zero, suc, _+_, _-_, _≤_, _<_}
 use mathlib.Core.Path.{_≡_, refl, sym, ap, _∙_}
 use mathlib.Core.Logic.{_⊎_, inl, inr}

@@ -1,4 +1,4 @@
--- What the code reads out of the bytes of nodes, index, definitions and items, in the terms of the rules. Assumes nothing.
+-- What the code reads out of the bytes of nodes, index, definitions and items, in the terms of the rules.
 use Prim.Native.Nat.{ℕ, suc, _+_, _-_, _*_, _/_, _≤_, _<_}
 use mathlib.Core.Path.{_≡_, refl, sym, ap, _∙_}
 use mathlib.Core.List.{List, []}
@@ -24,10 +24,10 @@ use Rattle.image.specs.Entries.{textEntryOf, definitionOf}
 use Rattle.image.proofs.Entries.{index-entry, item-entry, definition-entry}
 use Rattle.index.specs.Paths.{noName, fits}
 use Rattle.index.specs.Index.{indexText, indexEntryRule, indexRule}
-use Rattle.index.specs.Definitions.{definitionText, itemText, itemsOf, itemsBefore, itemRuleFrom, definitionRule, itemsUsedUp, definitionsRule}
+use Rattle.index.specs.Definitions.{definitionText, itemText, numberOfItems, itemsBefore, itemRuleFrom, definitionRule, itemsUsedUp, definitionsRule}
 use Rattle.index.specs.Parts.{indexParts, definitionParts, pathNodeOf, entryTextFrom, definitionTextIn}
-use Rattle.index.proofs.Rising.{rising-next, rising-like}
-use Rattle.index.proofs.Runs.{run-stops}
+use Rattle.index.proofs.RisingTexts.{rising-next, rising-like}
+use Rattle.index.proofs.RuleRuns.{run-stops}
 use Rattle.index.proofs.Definitions.{definition-passed}
 
 -- ---- a text as far as the strings go
@@ -200,7 +200,7 @@ module _ (definitions items strings : List ℕ) (d : ℕ) where
       ∙ second (firstOf n (definitionRule parts)) (unless (eqb (itemsBefore parts n) (length items / 12)) 17) (ap (λ (k : ℕ). firstOf k (definitionRule parts)) e ∙ p)
       ∙ ap (λ (k : ℕ). unless (eqb k (length items / 12)) 17) (ap (itemsBefore parts) e ∙ sym u)
 
-  count-read : (w : ℕ) → w ≡ getD (wordsOf definitions) (d * 4 + 3) 0 → w ≡ itemsOf parts d
+  count-read : (w : ℕ) → w ≡ getD (wordsOf definitions) (d * 4 + 3) 0 → w ≡ numberOfItems parts d
   unfolding definitionWord
   count-read w e = e
 
@@ -212,5 +212,5 @@ module _ (definitions items strings : List ℕ) (d : ℕ) where
   used-inside used w u e p =
       let q = definition-passed parts d p in
       let n : itemCount parts ≡ length items / 12 = items-length items in
-      let k : w ≡ itemsOf parts d = count-read w e in
+      let k : w ≡ numberOfItems parts d = count-read w e in
       rw (u, k, ← q .start, ← n) (q .inside)

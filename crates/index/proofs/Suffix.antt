@@ -1,5 +1,4 @@
 -- A text against the end of another: what is left before an end that both have, and the texts that fit a path piece by piece from its end on.
--- Assumes nothing.
 use Prim.Native.Nat.{ℕ, _+_, _-_, _≤_, _<_}
 use mathlib.Core.Path.{_≡_, refl, sym, ap, _∙_}
 use mathlib.Core.Logic.{_⊎_, inl, inr}

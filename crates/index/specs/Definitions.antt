@@ -1,4 +1,4 @@
--- List definitions and their items. Assumes nothing.
+-- List definitions and their items.
 use Prim.Native.Nat.{ℕ, _+_}
 use mathlib.Core.List.{List}
 use mathlib.Core.Bool.{Bool, _&&_}
@@ -15,8 +15,8 @@ definitionText s d = textAt s (definitionWord s d 0) (definitionWord s d 1)
 abbrev pub firstItem : Sections → ℕ → ℕ
 firstItem s d = definitionWord s d 2
 
-abbrev pub itemsOf : Sections → ℕ → ℕ
-itemsOf s d = definitionWord s d 3
+abbrev pub numberOfItems : Sections → ℕ → ℕ
+numberOfItems s d = definitionWord s d 3
 
 abbrev pub itemText : Sections → ℕ → List ℕ
 itemText s j = textAt s (itemWord s j 0) (itemWord s j 1)
@@ -32,11 +32,11 @@ abbrev pub goodItem : Sections → ℕ → Bool
 goodItem s j = goodText s (itemWord s j 0) (itemWord s j 1)
 
 abbrev pub itemsBefore : Sections → ℕ → ℕ
-itemsBefore s d = sumOf d (itemsOf s)
+itemsBefore s d = sumOf d (numberOfItems s)
 
 -- the items are inside, and start where those before end
 abbrev pub itemsRight : Sections → ℕ → Bool
-itemsRight s d = leb (firstItem s d + itemsOf s d) (itemCount s) && eqb (firstItem s d) (itemsBefore s d)
+itemsRight s d = leb (firstItem s d + numberOfItems s d) (itemCount s) && eqb (firstItem s d) (itemsBefore s d)
 
 -- the rule of the j-th item from the first one of a definition on
 unfoldable pub itemRuleFrom : Sections → ℕ → ℕ → ℕ
@@ -51,7 +51,7 @@ definitionRule s d =
     unless (goodDefinition s d) 10
     ▸ unless (rising (definitionText s) d) 17
     ▸ unless (itemsRight s d) 11
-    ▸ firstOf (itemsOf s d) (itemRule s d)
+    ▸ firstOf (numberOfItems s d) (itemRule s d)
 
 unfoldable pub itemsUsedUp : Sections → Bool
 itemsUsedUp s = eqb (itemsBefore s (definitionCount s)) (itemCount s)

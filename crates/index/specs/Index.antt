@@ -1,4 +1,4 @@
--- The path index: the rules of its entries. Assumes nothing.
+-- The path index: the rules of its entries.
 use Prim.Native.Nat.{ℕ}
 use mathlib.Core.List.{List}
 use Rattle.laws.specs.Refusal.{unless, _▸_, firstOf, refusals}

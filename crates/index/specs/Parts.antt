@@ -1,4 +1,4 @@
--- The sections that the index and the definitions are made of, out of their bytes, and what is read out of them. Assumes nothing.
+-- The sections that the index and the definitions are made of, out of their bytes, and what is read out of them.
 use Prim.Native.Nat.{ℕ, _+_}
 use mathlib.Core.List.{List, []}
 use Rattle.words.specs.Words.{wordsOf}

@@ -1,4 +1,4 @@
--- The canonical path of a container, and the texts that fit it. Assumes nothing.
+-- The canonical path of a container, and the texts that fit it.
 use Prim.Native.Nat.{ℕ, zero, suc, _+_}
 use mathlib.Core.List.{List, [], _∷_, _++_}
 use mathlib.Core.Bool.{Bool, true, false, cond, _&&_, _||_, not}

@@ -1,5 +1,4 @@
 -- What a definition by tests gives, one test at a time, by the test that the code made: `search cases depth 12` closes a return's need.
--- Assumes nothing.
 use mathlib.Core.Path.{_≡_, refl, sym, _∙_}
 use mathlib.Core.Bool.{Bool, true, false, not, cond, _&&_, _||_}
 use Prim.Native.Nat.{ℕ, suc, _≤_, _<_}

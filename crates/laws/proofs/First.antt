@@ -1,4 +1,4 @@
--- Laws of refusals: what a loop that stops at the first refusal shows, and what 'nothing was refused' gives. Assumes nothing.
+-- Laws of refusals: what a loop that stops at the first refusal shows, and what 'nothing was refused' gives.
 use Prim.Native.Nat.{ℕ, zero, suc, _+_, _-_, _≤_, _<_}
 use mathlib.Core.Path.{_≡_, refl, sym, ap, _∙_, subst}
 use mathlib.Core.Bool.{Bool, true, false, _&&_}

@@ -1,4 +1,4 @@
--- Sums, tests and lists over the numbers below a count: one turn of a loop adds one term at the end. Assumes nothing.
+-- Sums, tests and lists over the numbers below a count: one turn of a loop adds one term at the end.
 use Prim.Native.Nat.{ℕ, zero, suc, _+_}
 use mathlib.Core.Bool.{Bool, true, false, cond, _&&_}
 use mathlib.Core.List.{List, [], _∷_, _++_}

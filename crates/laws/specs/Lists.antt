@@ -1,4 +1,4 @@
--- Lists: joined images, membership, the place of an element. Assumes nothing.
+-- Lists: joined images, membership, the place of an element.
 use Prim.Native.Nat.{ℕ, zero, suc, _<_}
 use mathlib.Core.Bool.{Bool, true, false, cond, _||_}
 use mathlib.Core.List.{List, [], _∷_, _++_, List·Memᴰ}

@@ -1,4 +1,4 @@
--- Rows 16 and 17 of a view's sections, out of the rules of their parts. Assumes nothing.
+-- Rows 16 and 17 of a view's sections, out of the rules of their parts.
 use Prim.Native.Nat.{ℕ}
 use mathlib.Core.Path.{_≡_, sym, ap, _∙_}
 use mathlib.Core.List.{List}

@@ -1,6 +1,6 @@
-pub mod Reading
-pub mod Looping
+pub mod SectionReads
+pub mod NodeLoop
 pub mod Rows
 pub mod Indexes
-pub mod Late
-pub mod Loading
+pub mod NumbersFrom8
+pub mod Answers

@@ -1,4 +1,4 @@
--- Rows 8 to 17 put together out of what the functions answer. Assumes nothing.
+-- Rows 8 to 17 put together out of what the functions answer.
 use Prim.Native.Nat.{ℕ, zero, suc, _+_, _*_, _/_, _≤_, _<_}
 use mathlib.Core.Path.{_≡_, refl, sym, ap, _∙_, subst}
 use mathlib.Core.Logic.{_⊎_, inl, inr, ⊎-elim}
@@ -34,7 +34,7 @@ use Rattle.load.specs.declared.nodes.Nodes.{Nodes}
 use Rattle.load.specs.declared.nodes.Nodes.the-variants.{Passed, Refused}
 use Rattle.load.specs.Nodes.{nodesBy, nodesOf}
 use Rattle.load.specs.Load.{leftoverRule, recordsRule, sectionsRule, loadWords}
-use Rattle.load.proofs.Reading.{ten}
+use Rattle.load.proofs.SectionReads.{ten}
 
 -- ---- row 13
 

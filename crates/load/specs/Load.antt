@@ -1,4 +1,4 @@
--- What a load answers: 0, or the number of the first rule that is broken; and the work words on return. Assumes nothing.
+-- What a load answers: 0, or the number of the first rule that is broken; and the work words on return.
 use Prim.Native.Nat.{ℕ, zero, suc, _+_}
 use mathlib.Core.List.{List, _++_}
 use mathlib.Core.Bool.{Bool, cond, _&&_}

@@ -1,4 +1,4 @@
--- What the loop over the nodes is told and gives. Assumes nothing.
+-- What the loop over the nodes is told and gives.
 use Prim.Native.Nat.{ℕ, zero, suc}
 use mathlib.Core.Path.{_≡_}
 use mathlib.Core.List.{List}

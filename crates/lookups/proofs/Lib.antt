@@ -1,3 +1,3 @@
-pub mod Halving
+pub mod HalvingSearch
 pub mod Lookups
 pub mod Plain

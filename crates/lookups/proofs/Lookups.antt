@@ -1,4 +1,4 @@
--- Look-ups by name, by the tests that the code makes: a place among entries, a named child, the last definition that answers. Assumes nothing.
+-- Look-ups by name, by the tests that the code makes: a place among entries, a named child, the last definition that answers.
 use Prim.Native.Nat.{ℕ, suc, _+_, _*_, _-_, _/_, _≤_, _<_}
 use mathlib.Core.Path.{_≡_, refl, sym, ap, _∙_}
 use mathlib.Core.List.{List, []}
@@ -22,12 +22,12 @@ use Rattle.image.specs.declared.NodeRecord.{NodeRecord}
 use Rattle.image.specs.declared.TextEntry.{TextEntry}
 use Rattle.image.specs.declared.Definition.{Definition}
 use Rattle.image.specs.declared.ImageView.{ImageView}
-use Rattle.image.specs.Sections.{Sections, definitionCount, itemCount, definitionWord, itemWord, textIn}
+use Rattle.image.specs.Sections.{Sections, definitionCount, itemCount, definitionWord, itemWord, textOrEmpty}
 use Rattle.image.specs.Entries.{textEntryOf, definitionOf, definitionIn}
 use Rattle.image.specs.Header.{sectionBytes, sectionsIn, sectionsBy}
 use Rattle.image.proofs.Entries.{definition-entry}
 use Rattle.image.proofs.Views.{named-by, strings-by}
-use Rattle.index.specs.Definitions.{firstItem, itemsOf}
+use Rattle.index.specs.Definitions.{firstItem, numberOfItems}
 use Rattle.views.specs.declared.Found.{Found}
 use Rattle.views.specs.declared.Found.the-variants as found
 use Rattle.lookups.specs.declared.ListItemAnswer.{ListItemAnswer}
@@ -40,7 +40,7 @@ use Rattle.views.specs.View.{signed}
 use Rattle.views.specs.Found.{containerFound}
 use Rattle.lookups.specs.Lookup.{placed, entryText, searched, namedBy, findNamed, itemIn, definitionName, placeIn, answers, listItemAt, listItemIn, lastItem, listItem, listParts}
 use Rattle.views.proofs.Reading.{triple-count, definition-count, no-container, a-container}
-use Rattle.lookups.proofs.Halving.{Searching, search-start, search-above, search-below, search-here, search-end, found-there}
+use Rattle.lookups.proofs.HalvingSearch.{Searching, search-start, search-above, search-below, search-here, search-end, found-there}
 
 -- ---- the place of a name among entries
 
@@ -57,15 +57,15 @@ pub halved-start : (part strings : List ℕ) (from count : ℕ) (name : List ℕ
 halved-start part strings from count name = record { inside = omega arith; left = search-start (textsFrom part strings from) name count }
 
 -- the order of an entry's text, as the code reads it
-entry-order : (part strings name : List ℕ) (k : ℕ) (e : TextEntry) → e ≡ textEntryOf (wordsOf part) k → (p : List ℕ) → p ≡ textIn strings (e .offset) (e .len)
+entry-order : (part strings name : List ℕ) (k : ℕ) (e : TextEntry) → e ≡ textEntryOf (wordsOf part) k → (p : List ℕ) → p ≡ textOrEmpty strings (e .offset) (e .len)
     → (o u : Order) → o ≡ orderOf p name → o ≡ u → orderOf (entryText (wordsOf part) strings k) name ≡ u
 unfolding textEntryOf
 entry-order part strings name k e he p hp o u ho hu =
-    sym (ho ∙ ap (λ (l : List ℕ). orderOf l name) (hp ∙ λ j. textIn strings (he j .offset) (he j .len))) ∙ hu
+    sym (ho ∙ ap (λ (l : List ℕ). orderOf l name) (hp ∙ λ j. textOrEmpty strings (he j .offset) (he j .len))) ∙ hu
 
 module _ {part strings : List ℕ} {from count : ℕ} {name : List ℕ} {lo hi : ℕ} (h : Halved part strings from count name lo hi) where
   module _ (l : lo < hi) (e : TextEntry) (he : e ≡ textEntryOf (wordsOf part) (from + (lo + (hi - lo) / 2))) (p : List ℕ)
-      (hp : p ≡ textIn strings (e .offset) (e .len)) (o : Order) (ho : o ≡ orderOf p name) where
+      (hp : p ≡ textOrEmpty strings (e .offset) (e .len)) (o : Order) (ho : o ≡ orderOf p name) where
     pub halved-above : o ≡ Less → Halved part strings from count name (lo + (hi - lo) / 2 + 1) hi
     halved-above u =
         record {
@@ -176,9 +176,9 @@ module _ (ds is ss : List ℕ) where
     told : x ≡ definitionIn parts d
     told = e ∙ definition-entry parts (wordsOf ds) d refl
 
-    module _ (p : List ℕ) (hp : p ≡ textIn ss (x .offset) (x .len)) (b : Bool) (hb : b ≡ (not given || same origin p)) where
+    module _ (p : List ℕ) (hp : p ≡ textOrEmpty ss (x .offset) (x .len)) (b : Bool) (hb : b ≡ (not given || same origin p)) where
       origin-told : b ≡ (not given || same origin (definitionName parts d))
-      origin-told = hb ∙ λ j. not given || same origin ((hp ∙ λ k. textIn ss (told k .offset) (told k .len)) j)
+      origin-told = hb ∙ λ j. not given || same origin ((hp ∙ λ k. textOrEmpty ss (told k .offset) (told k .len)) j)
 
       pub other-origin : not b ≡ true → none ≡ placeIn parts given origin name d
       unfolding placeIn
@@ -188,13 +188,13 @@ module _ (ds is ss : List ℕ) where
         pub place-outside : length is / 12 < x .first + x .count → none ≡ placeIn parts given origin name d
         unfolding placeIn itemIn
         place-outside l =
-            rw (← origin-told, not-false b y, triple-count is, lt-leb (firstItem parts d + itemsOf parts d) (length is / 12) (rw told at l))
+            rw (← origin-told, not-false b y, triple-count is, lt-leb (firstItem parts d + numberOfItems parts d) (length is / 12) (rw told at l))
 
         pub place-there : x .first + x .count ≤ length is / 12 → (r : Place) → placed r ≡ searched (wordsOf is) ss (x .first) (x .count) name
             → placed r ≡ placeIn parts given origin name d
         unfolding placeIn itemIn
         place-there l r q =
-            rw (← origin-told, not-false b y, triple-count is, le-leb (firstItem parts d + itemsOf parts d) (length is / 12) (rw told at l))
+            rw (← origin-told, not-false b y, triple-count is, le-leb (firstItem parts d + numberOfItems parts d) (length is / 12) (rw told at l))
             (q ∙ λ j. searched (wordsOf is) ss (told j .first) (told j .count) name)
 
   -- an item that is found is one of the section
@@ -203,9 +203,9 @@ module _ (ds is ss : List ℕ) where
   unfolding placeIn itemIn definitionWord
   item-bound given origin name d j e =
       let mine = chosen (not given || same origin (definitionName parts d)) (itemIn parts d name) j e in
-      let here = chosen (leb (firstItem parts d + itemsOf parts d) (itemCount parts)) (searched (wordsOf is) ss (firstItem parts d) (itemsOf parts d) name) j (mine .1) in
-      let last = place-below (wordsOf is) ss (firstItem parts d) (itemsOf parts d) name j (here .1) in
-      let inside = leb-true (firstItem parts d + itemsOf parts d) (itemCount parts) (here .0) in
+      let here = chosen (leb (firstItem parts d + numberOfItems parts d) (itemCount parts)) (searched (wordsOf is) ss (firstItem parts d) (numberOfItems parts d) name) j (mine .1) in
+      let last = place-below (wordsOf is) ss (firstItem parts d) (numberOfItems parts d) name j (here .1) in
+      let inside = leb-true (firstItem parts d + numberOfItems parts d) (itemCount parts) (here .0) in
       omega (arith, triple-count is)
 
   -- ---- the last definition that answers

@@ -1,4 +1,4 @@
--- On sections whose rules passed, the look-ups by name have their plain reading. Assumes nothing.
+-- On sections whose rules passed, the look-ups by name have their plain reading.
 use Prim.Native.Nat.{ℕ, zero, suc, _+_, _*_, _≤_, _<_}
 use mathlib.Core.Path.{_≡_, refl, sym, ap, _∙_, subst}
 use mathlib.Core.List.{List}
@@ -11,24 +11,24 @@ use borrow.Author.Tests.{le-leb}
 use Rattle.laws.specs.Counted.{lastOf}
 use Rattle.texts.specs.Text.{same, rising}
 use Rattle.texts.proofs.Text.{same-equal, equal-same}
-use Rattle.image.specs.Sections.{Sections, nodeCount, namedCount, definitionCount, itemCount, f, namedWord, definitionWord, itemWord, textIn, isContainer, inside, insideContainer}
+use Rattle.image.specs.Sections.{Sections, nodeCount, namedCount, definitionCount, itemCount, f, namedWord, definitionWord, itemWord, textOrEmpty, isContainer, inside, insideContainer}
 use Rattle.image.proofs.Parts.{good-part}
 use Rattle.image.proofs.Tests.{both-true}
-use Rattle.records.specs.Records.{namedOf}
+use Rattle.records.specs.Records.{numberOfNamed}
 use Rattle.tree.specs.Tree.{namedAt, namedText, entriesRule, treeRule}
 use Rattle.tree.specs.Parts.{Fit}
 use Rattle.tree.proofs.Entries.{NamedRight, named-pass}
-use Rattle.tree.proofs.Reading.{tree-right}
-use Rattle.index.specs.Definitions.{definitionText, firstItem, itemsOf, itemTextOf, definitionsRule}
-use Rattle.index.proofs.Rising.{rising-before}
+use Rattle.tree.proofs.PlainTree.{tree-right}
+use Rattle.index.specs.Definitions.{definitionText, firstItem, numberOfItems, itemTextOf, definitionsRule}
+use Rattle.index.proofs.RisingTexts.{rising-before}
 use Rattle.index.proofs.Definitions.{Definition, Definitions, definitions-passed}
 use Rattle.views.specs.declared.Found.the-variants as found
 use Rattle.lookups.specs.declared.ListItem.{ListItem}
 use Rattle.lookups.specs.declared.ListItemAnswer.the-variants as answer
 use Rattle.views.specs.View.{signed}
 use Rattle.lookups.specs.Lookup.{entryText, searched, foundAt, namedBy, findNamed, itemIn, isSome, definitionName, placeIn, answers, listItemAt, listItemIn, lastItem}
-use Rattle.lookups.specs.Plain.{Bears, Borne, NamedRead, Holds, LastHolds, ItemsRead}
-use Rattle.lookups.proofs.Halving.{Rising, found-there, there-found}
+use Rattle.lookups.specs.Plain.{HasName, NodeNamed, NamedLookup, Holds, LastHolds, ItemLookup}
+use Rattle.lookups.proofs.HalvingSearch.{Rising, found-there, there-found}
 
 -- ---- a search among entries whose texts are u 0, u 1, .. and rise
 
@@ -52,7 +52,7 @@ module _ (words strings : List ℕ) (from count : ℕ) (u : ℕ → List ℕ) (l
 
 -- ---- a named child
 
-named-entry-text : (s : Sections) (k : ℕ) → entryText (s .named) (s .strings) k ≡ textIn (s .strings) (namedWord s k 0) (namedWord s k 1)
+named-entry-text : (s : Sections) (k : ℕ) → entryText (s .named) (s .strings) k ≡ textOrEmpty (s .strings) (namedWord s k 0) (namedWord s k 1)
 unfolding namedWord
 named-entry-text s k = rw (add-zero (k * 3))
 
@@ -64,7 +64,7 @@ node-equal m n h = cc
 
 module _ (s : Sections) (i : ℕ) (box : insideContainer s i ≡ true) (range : f s i 5 + f s i 6 ≤ namedCount s) (passed : entriesRule s i ≡ 0) where
   each : (j : ℕ) → j < f s i 6 → NamedRight s i j
-  unfolding namedOf
+  unfolding numberOfNamed
   each j h = named-pass s i passed j (rw (both-true (inside s i) (isContainer s i) box .1) h)
 
   like : (j : ℕ) → j < f s i 6 → entryText (s .named) (s .strings) (f s i 5 + j) ≡ namedText s i j
@@ -81,24 +81,24 @@ module _ (s : Sections) (i : ℕ) (box : insideContainer s i ≡ true) (range : 
     unfolding findNamed namedBy namedWord
     by-place = rw (box, le-leb (f s i 5 + f s i 6) (namedCount s) range)
 
-    found-at : (x : Option ℕ) (n : ℕ) → place ≡ x → foundAt (λ j. namedAt s i j 2) x ≡ found.Node n → Borne s i name n
+    found-at : (x : Option ℕ) (n : ℕ) → place ≡ x → foundAt (λ j. namedAt s i j 2) x ≡ found.Node n → NodeNamed s i name n
     found-at none n e h = absurd (node-apart n (sym h))
     found-at (some j) n e h =
         let r = search-found (s .named) (s .strings) (f s i 5) (f s i 6) (namedText s i) like order name j e in
         record { entry = j; bears = record { place = r .0; text = r .1 }; node = node-equal (namedAt s i j 2) n h }
 
-    there-at : (j : ℕ) → Bears s i name j → findNamed s i name ≡ found.Node (namedAt s i j 2)
+    there-at : (j : ℕ) → HasName s i name j → findNamed s i name ≡ found.Node (namedAt s i j 2)
     there-at j b =
         by-place
         ∙ ap (foundAt (λ k. namedAt s i k 2)) (search-there (s .named) (s .strings) (f s i 5) (f s i 6) (namedText s i) like order name j (b .place) (b .text))
 
-    nowhere : (x : Option ℕ) → place ≡ x → ((j : ℕ) → Bears s i name j → ⊥) → foundAt (λ j. namedAt s i j 2) x ≡ found.NotFound
+    nowhere : (x : Option ℕ) → place ≡ x → ((j : ℕ) → HasName s i name j → ⊥) → foundAt (λ j. namedAt s i j 2) x ≡ found.NotFound
     nowhere none e h = refl
     nowhere (some j) e h =
         let r = search-found (s .named) (s .strings) (f s i 5) (f s i 6) (namedText s i) like order name j e in
         absurd (h j (record { place = r .0; text = r .1 }))
 
-  pub named-read : NamedRead s i
+  pub named-read : NamedLookup s i
   named-read =
       record {
         answered = λ name n h. found-at name (place name) n refl (sym (by-place name) ∙ h);
@@ -108,7 +108,7 @@ module _ (s : Sections) (i : ℕ) (box : insideContainer s i ≡ true) (range : 
       }
 
 -- of every container of a tree that passed
-pub tree-named-read : (s : Sections) → Fit s → treeRule s ≡ 0 → (i : ℕ) → i < nodeCount s → insideContainer s i ≡ true → NamedRead s i
+pub tree-named-read : (s : Sections) → Fit s → treeRule s ≡ 0 → (i : ℕ) → i < nodeCount s → insideContainer s i ≡ true → NamedLookup s i
 tree-named-read s fit p i h box =
     named-read s i box (fit .ranges i h (both-true (inside s i) (isContainer s i) box .1) .named) (tree-right s p i h .entries)
 
@@ -152,7 +152,7 @@ module _ (t : ℕ → Bool) where
 
 -- ---- a list item
 
-item-entry-text : (s : Sections) (k : ℕ) → entryText (s .items) (s .strings) k ≡ textIn (s .strings) (itemWord s k 0) (itemWord s k 1)
+item-entry-text : (s : Sections) (k : ℕ) → entryText (s .items) (s .strings) k ≡ textOrEmpty (s .strings) (itemWord s k 0) (itemWord s k 1)
 unfolding itemWord
 item-entry-text s k = rw (add-zero (k * 3))
 
@@ -167,17 +167,17 @@ module _ (s : Sections) (passed : Definitions s) (given : Bool) (origin name : L
     its : Definition s d
     its = passed .each d h
 
-    item-like : (j : ℕ) → j < itemsOf s d → entryText (s .items) (s .strings) (firstItem s d + j) ≡ itemTextOf s d j
+    item-like : (j : ℕ) → j < numberOfItems s d → entryText (s .items) (s .strings) (firstItem s d + j) ≡ itemTextOf s d j
     item-like j l =
         item-entry-text s (firstItem s d + j)
         ∙ good-part (s .strings) (itemWord s (firstItem s d + j) 0) (itemWord s (firstItem s d + j) 1) (its .items j l .text)
 
-    item-order : (j : ℕ) → j < itemsOf s d → rising (itemTextOf s d) j ≡ true
+    item-order : (j : ℕ) → j < numberOfItems s d → rising (itemTextOf s d) j ≡ true
     item-order j l = its .items j l .order
 
-    in-plain : itemIn s d name ≡ searched (s .items) (s .strings) (firstItem s d) (itemsOf s d) name
+    in-plain : itemIn s d name ≡ searched (s .items) (s .strings) (firstItem s d) (numberOfItems s d) name
     unfolding itemIn
-    in-plain = rw (le-leb (firstItem s d + itemsOf s d) (itemCount s) (its .inside))
+    in-plain = rw (le-leb (firstItem s d + numberOfItems s d) (itemCount s) (its .inside))
 
     name-plain : definitionName s d ≡ definitionText s d
     name-plain = good-part (s .strings) (definitionWord s d 0) (definitionWord s d 1) (its .text)
@@ -199,14 +199,14 @@ module _ (s : Sections) (passed : Definitions s) (given : Bool) (origin name : L
     unfolding placeIn
     place-holds j e =
         let r = chosen (not given || same origin (definitionName s d)) (itemIn s d name) j e in
-        let q = search-found (s .items) (s .strings) (firstItem s d) (itemsOf s d) (itemTextOf s d) item-like item-order name j (sym in-plain ∙ r .1) in
+        let q = search-found (s .items) (s .strings) (firstItem s d) (numberOfItems s d) (itemTextOf s d) item-like item-order name j (sym in-plain ∙ r .1) in
         record { definition = h; origin-text = may given (r .0); place = q .0; text = q .1 }
 
     pub holds-place : (j : ℕ) → Holds s given origin name d j → placeIn s given origin name d ≡ some j
     unfolding placeIn
     holds-place j k =
         rw (might given (k .origin-text))
-        (in-plain ∙ search-there (s .items) (s .strings) (firstItem s d) (itemsOf s d) (itemTextOf s d) item-like item-order name j (k .place) (k .text))
+        (in-plain ∙ search-there (s .items) (s .strings) (firstItem s d) (numberOfItems s d) (itemTextOf s d) item-like item-order name j (k .place) (k .text))
 
   holds-answers : (d j : ℕ) → Holds s given origin name d j → answers s given origin name d ≡ true
   holds-answers d j k = rw (holds-place d (k .definition) j k)
@@ -259,7 +259,7 @@ module _ (s : Sections) (passed : Definitions s) (given : Bool) (origin name : L
       at none q = refl
       at (some j) q = absurd (h d j (place-holds d (last-some (answers s given origin name) (definitionCount s) d e .below) j q))
 
-  pub items-read : ItemsRead s given origin name
+  pub items-read : ItemLookup s given origin name
   unfolding lastItem
   items-read =
       record {
@@ -269,5 +269,5 @@ module _ (s : Sections) (passed : Definitions s) (given : Bool) (origin name : L
       }
 
 -- of definitions that passed
-pub passed-items-read : (s : Sections) → definitionsRule s ≡ 0 → (given : Bool) (origin name : List ℕ) → ItemsRead s given origin name
+pub passed-items-read : (s : Sections) → definitionsRule s ≡ 0 → (given : Bool) (origin name : List ℕ) → ItemLookup s given origin name
 passed-items-read s p = items-read s (definitions-passed s p)

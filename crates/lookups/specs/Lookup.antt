@@ -1,5 +1,5 @@
 -- Look-ups by name: a named child, a list item. Both halve a range of texts; on rising texts that is the plain reading
--- (proofs/). Assumes nothing.
+-- (proofs/).
 use Prim.Native.Nat.{ℕ, zero, suc, _+_, _-_, _*_, _/_}
 use mathlib.Core.List.{List, []}
 use mathlib.Core.Bool.{Bool, true, false, cond, _||_, not}
@@ -13,9 +13,9 @@ use Rattle.texts.specs.declared.Order.the-variants.{Less, Equal, Greater}
 use Rattle.texts.specs.Text.{orderOf, same, texts}
 use Rattle.texts.specs.Dots.{hasDot, beforeDot, afterDot, dots}
 use Rattle.utf8.specs.White.{blank, blanks}
-use Rattle.image.specs.Sections.{Sections, definitionCount, itemCount, f, definitionWord, itemWord, textIn, insideContainer, sections}
+use Rattle.image.specs.Sections.{Sections, definitionCount, itemCount, f, definitionWord, itemWord, textOrEmpty, insideContainer, sections}
 use Rattle.image.specs.Header.{nodeWords}
-use Rattle.index.specs.Definitions.{firstItem, itemsOf}
+use Rattle.index.specs.Definitions.{firstItem, numberOfItems}
 use Rattle.lookups.specs.declared.Place.{Place}
 use Rattle.lookups.specs.declared.Place.the-variants as place
 use Rattle.views.specs.declared.Found.{Found}
@@ -48,7 +48,7 @@ placed place.Nowhere = none
 
 -- the text of entry k of a section of texts, none where it is not inside the strings
 abbrev pub entryText : List ℕ → List ℕ → ℕ → List ℕ
-entryText words strings k = textIn strings (getD words (k * 3) 0) (getD words (k * 3 + 1) 0)
+entryText words strings k = textOrEmpty strings (getD words (k * 3) 0) (getD words (k * 3 + 1) 0)
 
 -- the name's place among `count` entries, from entry `from` of a section of texts on
 unfoldable pub searched : List ℕ → List ℕ → ℕ → ℕ → List ℕ → Option ℕ
@@ -74,7 +74,7 @@ findNamed s i name = cond (insideContainer s i) (namedBy (s .named) (s .strings)
 -- the item's place among definition d's items, where d holds it. A range that is not inside holds none
 unfoldable pub itemIn : Sections → ℕ → List ℕ → Option ℕ
 itemIn s d name =
-    cond (leb (firstItem s d + itemsOf s d) (itemCount s)) (searched (s .items) (s .strings) (firstItem s d) (itemsOf s d) name) none
+    cond (leb (firstItem s d + numberOfItems s d) (itemCount s)) (searched (s .items) (s .strings) (firstItem s d) (numberOfItems s d) name) none
 
 abbrev pub isSome : Option ℕ → Bool
 isSome none = false
@@ -82,7 +82,7 @@ isSome (some j) = true
 
 -- the definition's name, none where it is not inside the strings
 abbrev pub definitionName : Sections → ℕ → List ℕ
-definitionName s d = textIn (s .strings) (definitionWord s d 0) (definitionWord s d 1)
+definitionName s d = textOrEmpty (s .strings) (definitionWord s d 0) (definitionWord s d 1)
 
 -- the item's place in definition d, where that is the origin that is given, if one is
 unfoldable pub placeIn : Sections → Bool → List ℕ → List ℕ → ℕ → Option ℕ

@@ -1,4 +1,4 @@
--- The commands and their names, one-to-one; the code's tables. Assumes nothing.
+-- The commands and their names, one-to-one; the code's tables.
 use Prim.Native.Nat.{ℕ, _%_, _<_}
 use mathlib.Core.Path.{_≡_, refl}
 use mathlib.Core.List.{List, [], _∷_}
@@ -15,8 +15,8 @@ use Rattle.names.specs.declared.control_command.CommandType.{CommandType
 use Rattle.names.specs.declared.control_command.CommandType.the-variants.{EvalStart, EvalOutput, EvalEnd, Duplicate, PopEvaluatedValue, PopFunction, PopTunnel, BeginString, EndString, NoOp, ChoiceCount, Turns, TurnsSince, ReadCount, Random, SeedRandom, VisitIndex, SequenceShuffleIndex, StartThread, Done, End, ListFromInt, ListRange, ListRandom, BeginTag, EndTag}
 use Rattle.names.specs.ControlCommand.{commandNumber, commandTypes}
 use Rattle.names.proofs.Distinct.{distinct, number-placed, place-number, compared-yes, compared-no}
-use Rattle.names.proofs.Numbered.{Numbered, inOrder, every, number-below}
-use Rattle.names.proofs.Packed.{lies, Lies, from-test}
+use Rattle.names.proofs.Numbers.{Numbered, inOrder, every, number-below}
+use Rattle.names.proofs.PackedNames.{lies, Lies, from-test}
 
 told : (c : CommandType) → elementAt commandTypes (commandNumber c) ≡ some c
 unfolding elementAt commandTypes

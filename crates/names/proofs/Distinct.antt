@@ -1,4 +1,4 @@
--- The number of a text in a list of names: its place, where the names are distinct. Assumes nothing.
+-- The number of a text in a list of names: its place, where the names are distinct.
 use Prim.Native.Nat.{ℕ, zero, suc, _<_}
 use mathlib.Core.Path.{_≡_, refl, sym}
 use mathlib.Core.List.{List, [], _∷_}

@@ -1,4 +1,4 @@
--- The hash of a text, as the code computes it. Assumes nothing.
+-- The hash of a text, as the code computes it.
 use Prim.Native.Nat.{ℕ, _+_, _-_, _*_, _%_}
 use mathlib.Core.Path.{_≡_, refl}
 use mathlib.Core.List.{List, [], _∷_}

@@ -1,8 +1,8 @@
 pub mod Distinct
-pub mod Numbered
-pub mod Spelled
-pub mod Copied
-pub mod Packed
+pub mod Numbers
+pub mod Spellings
+pub mod Copies
+pub mod PackedNames
 pub mod Hashes
 pub mod Commands
 pub mod Operators

@@ -1,4 +1,4 @@
--- The operators and their names, one-to-one; the code's tables. Assumes nothing.
+-- The operators and their names, one-to-one; the code's tables.
 use Prim.Native.Nat.{ℕ, _%_, _<_}
 use mathlib.Core.Path.{_≡_, refl}
 use mathlib.Core.List.{List, [], _∷_}
@@ -15,8 +15,8 @@ use Rattle.names.specs.declared.native_function_call.Op.{Op}
 use Rattle.names.specs.declared.native_function_call.Op.the-variants.{Add, Subtract, Divide, Multiply, Mod, Negate, Equal, Greater, Less, GreaterThanOrEquals, LessThanOrEquals, NotEquals, Not, And, Or, Min, Max, Pow, Floor, Ceiling, Int, Float, Has, Hasnt, Intersect, ListMin, ListMax, All, Count, ValueOfList, Invert}
 use Rattle.names.specs.NativeFunctionCall.{operatorNumber, ops}
 use Rattle.names.proofs.Distinct.{distinct, number-placed, place-number, compared-yes, compared-no}
-use Rattle.names.proofs.Numbered.{Numbered, inOrder, every, number-below}
-use Rattle.names.proofs.Packed.{lies, Lies, from-test}
+use Rattle.names.proofs.Numbers.{Numbered, inOrder, every, number-below}
+use Rattle.names.proofs.PackedNames.{lies, Lies, from-test}
 
 told : (c : Op) → elementAt ops (operatorNumber c) ≡ some c
 unfolding elementAt ops

@@ -1,4 +1,4 @@
--- The names of the 26 commands and the 31 operators; a name's number is its place in the list. Assumes nothing.
+-- The names of the 26 commands and the 31 operators; a name's number is its place in the list.
 use Prim.Native.Nat.{ℕ, zero, suc}
 use mathlib.Core.List.{List, [], _∷_}
 use mathlib.Core.Option.{Option, none, some, Option·map}

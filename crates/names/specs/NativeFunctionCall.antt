@@ -1,4 +1,4 @@
--- The operators, numbered in the order of their names. Assumes nothing.
+-- The operators, numbered in the order of their names.
 use Prim.Native.Nat.{ℕ}
 use mathlib.Core.List.{List, [], _∷_}
 use mathlib.Core.Option.{Option, none, some}

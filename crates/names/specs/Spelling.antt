@@ -1,4 +1,4 @@
--- A name as the code hands it back; what a name or a number stands for; the hash of a text. Assumes nothing.
+-- A name as the code hands it back; what a name or a number stands for; the hash of a text.
 use Prim.Native.Nat.{ℕ, zero, suc, _+_, _-_, _*_, _%_}
 use mathlib.Core.List.{List, [], _∷_, _++_}
 use mathlib.Core.Option.{Option, none, some}

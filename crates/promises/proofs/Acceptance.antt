@@ -1,4 +1,4 @@
--- Acceptance in plain words: a load with enough work words accepts exactly the bytes that break none of its rules. Assumes nothing.
+-- Acceptance in plain words: a load with enough work words accepts exactly the bytes that break none of its rules.
 use Prim.Native.Nat.{ℕ, _≤_, _<_}
 use mathlib.Core.Path.{_≡_}
 use mathlib.Core.List.{List}
@@ -11,12 +11,12 @@ use Rattle.laws.proofs.First.{both, then, passed, pass, first-all, first-of}
 use Rattle.image.specs.Sections.{Sections, nodeCount, indexCount, tagOf, inside}
 use Rattle.image.specs.Header.{headerRule, sectionsOf}
 use Rattle.image.proofs.Tests.{both-true}
-use Rattle.image.proofs.Opening.{Opens, opens, opens-of, view-counts, view-node}
+use Rattle.image.proofs.Header.{Opens, opens, opens-of, view-counts, view-node}
 use Rattle.records.specs.Records.{containersBefore, nodeRule, parentRule, fieldsRule, rootRight, usedUp}
-use Rattle.records.proofs.Passed.{root, used-up, used-up-of}
+use Rattle.records.proofs.PassedRules.{root, used-up, used-up-of}
 use Rattle.tree.specs.Tree.{childAt, namedAt, childRule, namedRule, treeRule}
 use Rattle.tree.proofs.Entries.{children-pass, named-pass, entries-pass}
-use Rattle.tree.proofs.Reading.{tree-right, right-tree}
+use Rattle.tree.proofs.PlainTree.{tree-right, right-tree}
 use Rattle.index.specs.Index.{indexRule}
 use Rattle.index.specs.Definitions.{definitionsRule}
 use Rattle.index.proofs.Index.{index-passed, index-passes}

@@ -1,15 +1,15 @@
--- Every named entry belongs to a container and every item to a definition; the entries of all sections lie inside. Assumes nothing.
+-- Every named entry belongs to a container and every item to a definition; the entries of all sections lie inside.
 use Prim.Native.Nat.{ℕ, _+_, _<_}
 use mathlib.Core.Path.{_≡_, sym, ap, _∙_, subst}
 use native.Mathlib.Omega.{arith}
 use Rattle.image.specs.Sections.{Sections, nodeCount, namedCount, definitionCount, itemCount, f, namedWord, itemWord}
-use Rattle.records.specs.Records.{namedOf}
+use Rattle.records.specs.Records.{numberOfNamed}
 use Rattle.tree.proofs.Entries.{named-container}
-use Rattle.index.specs.Definitions.{firstItem, itemsOf}
+use Rattle.index.specs.Definitions.{firstItem, numberOfItems}
 use Rattle.promises.specs.Rules.{NamedRight, ItemRight}
 use Rattle.promises.specs.Promises.{EntriesInside, TextInside}
-use Rattle.promises.proofs.Kept.{Kept}
-use Rattle.promises.proofs.Counting.{owner}
+use Rattle.promises.proofs.Premises.{Kept}
+use Rattle.promises.proofs.Counts.{owner}
 use Rattle.promises.proofs.Nodes.{text-inside, named-range}
 
 module _ (s : Sections) (g : Kept s) where
@@ -24,7 +24,7 @@ module _ (s : Sections) (g : Kept s) where
 
   pub named-owner : (j : ℕ) → j < namedCount s → NamedOwner j
   named-owner j h =
-      let o = owner (nodeCount s) (namedOf s) j (omega (arith, g .rules .named-used)) in
+      let o = owner (nodeCount s) (numberOfNamed s) j (omega (arith, g .rules .named-used)) in
       let c = named-container s (o .at) (o .place) (o .place-below) in
       record {
         i = o .at;
@@ -44,7 +44,7 @@ module _ (s : Sections) (g : Kept s) where
 
   pub item-owner : (j : ℕ) → j < itemCount s → ItemOwner j
   item-owner j h =
-      let o = owner (definitionCount s) (itemsOf s) j (omega (arith, g .rules .items-used)) in
+      let o = owner (definitionCount s) (numberOfItems s) j (omega (arith, g .rules .items-used)) in
       let q = g .rules .definitions (o .at) (o .at-below) in
       record {
         d = o .at;

@@ -1,4 +1,4 @@
--- The tests of texts, nodes and fields in plain words, both ways. Assumes nothing.
+-- The tests of texts, nodes and fields in plain words, both ways.
 use Prim.Native.Nat.{ℕ, _<_}
 use mathlib.Core.Path.{_≡_, refl, sym, _∙_}
 use mathlib.Core.Logic.{_≢_, _⊎_, inl, inr}
@@ -14,7 +14,7 @@ use Rattle.image.proofs.Tests.{both-true}
 use Rattle.image.proofs.Parts.{good, good-inside, optional-present, optional-absent, optional-half}
 use Rattle.records.specs.Fields.{Field, text, optional, command, operator, node, optionalNode, container, optionalContainer, plain, atMost, children, named, payload, wrong}
 use Rattle.records.specs.Records.{fieldsAt, listItems, listOrigins, listItemRule, listOriginRule, payloadRule, fieldRule, fieldsRule, parentRule}
-use Rattle.records.proofs.Passed.{node-of, parent, list-passed, text-passed, optional-passed, command-passed, operator-passed, node-passed, container-passed, optional-node-passed, optional-container-passed, at-most-passed, children-passed, named-passed, payload-passed, each-field, all-fields-pass}
+use Rattle.records.proofs.PassedRules.{node-of, parent, list-passed, text-passed, optional-passed, command-passed, operator-passed, node-passed, container-passed, optional-node-passed, optional-container-passed, at-most-passed, children-passed, named-passed, payload-passed, each-field, all-fields-pass}
 use Rattle.promises.specs.Rules.{TextRight, OptionalRight, NodeRight, ContainerRight, PayloadRight, FieldRight, ParentRight}
 
 -- ---- texts

@@ -1,4 +1,4 @@
--- Without a text that is a dot before its target's path, the index names each container exactly once. Assumes nothing.
+-- Without a text that is a dot before its target's path, the index names each container exactly once.
 use Prim.Native.Nat.{ℕ, _<_}
 use mathlib.Core.Path.{_≡_, sym, _∙_}
 use mathlib.Core.Bool.{true}
@@ -9,8 +9,8 @@ use Rattle.records.specs.Records.{containerOf}
 use Rattle.index.proofs.Index.{index-target}
 use Rattle.promises.specs.Promises.{NoDot, NamedOnce}
 use Rattle.promises.proofs.Acceptance.{right-sections}
-use Rattle.promises.proofs.Kept.{Kept}
-use Rattle.promises.proofs.Counting.{Different, each-hit}
+use Rattle.promises.proofs.Premises.{Kept}
+use Rattle.promises.proofs.Counts.{Different, each-hit}
 
 one-container : (s : Sections) (i : ℕ) → isContainer s i ≡ true → containerOf s i ≡ 1
 unfolding containerOf

@@ -1,8 +1,8 @@
 pub mod Fields
 pub mod Acceptance
-pub mod Kept
+pub mod Premises
 pub mod Views
-pub mod Counting
+pub mod Counts
 pub mod Nodes
 pub mod Entries
 pub mod Index

@@ -1,4 +1,4 @@
--- At each node of sections that keep the rules: parent steps, children, targets and texts. Assumes nothing.
+-- At each node of sections that keep the rules: parent steps, children, targets and texts.
 use Prim.Native.Nat.{ℕ, zero, suc, _+_, _*_, _≤_, _<_}
 use mathlib.Core.Path.{_≡_, refl, sym, ap, _∙_, subst}
 use mathlib.Core.Logic.{inl, inr}
@@ -13,15 +13,15 @@ use borrow.Author.Tests.{eqb-true}
 use Rattle.words.specs.Words.{NONE}
 use Rattle.image.specs.Sections.{Sections, nodeCount, childCount, namedCount, nodeWord, parentOf, tagOf, f, isContainer}
 use Rattle.records.specs.Fields.{kinds, kindOf, fields, Field, text, optional, command, operator, node, optionalNode, container, optionalContainer, plain, atMost, children, named, payload, wrong}
-use Rattle.records.specs.Records.{targetOf, fieldsAt, childrenOf, namedOf, childrenBefore, namedBefore}
-use Rattle.records.proofs.Passed.{target}
+use Rattle.records.specs.Records.{targetOf, fieldsAt, numberOfChildren, numberOfNamed, childrenBefore, namedBefore}
+use Rattle.records.proofs.PassedRules.{target}
 use Rattle.tree.specs.Reach.{climb}
-use Rattle.tree.proofs.Climbing.{tree-climbs}
+use Rattle.tree.proofs.ParentSteps.{tree-climbs}
 use Rattle.promises.specs.Rules.{TextRight, OptionalRight, FieldRight, ChildRight, NamedRight}
 use Rattle.promises.specs.Promises.{ReachesRoot, TargetInside, TextInside, FieldTexts, OrderedChild, NamedChild}
 use Rattle.promises.proofs.Fields.{right-fields}
 use Rattle.promises.proofs.Acceptance.{right-sections}
-use Rattle.promises.proofs.Kept.{Kept}
+use Rattle.promises.proofs.Premises.{Kept}
 
 -- ---- texts
 
@@ -114,11 +114,11 @@ module _ (s : Sections) (g : Kept s) where
       named-range = tagged 1 (eqb-true (tagOf s i) 1 c) named (List·Memᴰ·tail (List·Memᴰ·tail (List·Memᴰ·tail (List·Memᴰ·head refl))))
 
       pub child-right : (j : ℕ) → j < f s i 4 → ChildRight s i j
-      unfolding childrenOf
+      unfolding numberOfChildren
       child-right j k = g .rules .child i h j (rw c k)
 
       pub named-right : (j : ℕ) → j < f s i 6 → NamedRight s i j
-      unfolding namedOf
+      unfolding numberOfNamed
       named-right j k = g .rules .entry i h j (rw c k)
 
       pub ordered-child : (j : ℕ) → j < f s i 4 → OrderedChild s i j

@@ -1,4 +1,4 @@
--- What the queries answer on an accepted image. Assumes nothing.
+-- What the queries answer on an accepted image.
 use Prim.Native.Nat.{ℕ, zero, suc, _+_, _≤_, _<_}
 use mathlib.Core.Path.{_≡_, refl, sym, ap, _∙_, subst}
 use mathlib.Core.Logic.{_≢_}
@@ -25,7 +25,7 @@ use Rattle.promises.specs.Readers.{stepUp, ascend, ChildRead, NamedRead,
 use Rattle.promises.proofs.Fields.{right-node}
 use Rattle.promises.proofs.Views.{Seen, seen, shown-right}
 use Rattle.promises.proofs.Nodes.{reaches, child-range, named-range, child-right, named-right}
-use Rattle.promises.proofs.Kept.{Kept, load-kept, a-node}
+use Rattle.promises.proofs.Premises.{Kept, load-kept, a-node}
 use Rattle.promises.proofs.Whole.{right-whole, view-whole, view-read}
 
 -- ---- words that may be absent

@@ -1,16 +1,16 @@
--- Demand 3: what holds of every accepted image, at every node. Assumes nothing.
+-- Demand 3: what holds of every accepted image, at every node.
 use Prim.Native.Nat.{ℕ, _<_}
 use Rattle.image.specs.Sections.{Sections, nodeCount}
 use Rattle.image.specs.Header.{sectionsOf}
-use Rattle.promises.specs.Promises.{Stands, Sound, AcceptedSound}
-use Rattle.promises.proofs.Kept.{Kept, load-kept, a-node}
+use Rattle.promises.specs.Promises.{NodeSound, Sound, AcceptedSound}
+use Rattle.promises.proofs.Premises.{Kept, load-kept, a-node}
 use Rattle.promises.proofs.Views.{viewed}
 use Rattle.promises.proofs.Nodes.{reaches, target-inside, texts-inside, ordered-child, named-child}
 use Rattle.promises.proofs.Entries.{entries-inside}
 use Rattle.promises.proofs.Index.{named-once}
 
 module _ (s : Sections) (g : Kept s) where
-  pub stands : (i : ℕ) → i < nodeCount s → Stands s i
+  pub stands : (i : ℕ) → i < nodeCount s → NodeSound s i
   stands i h =
       record {
         viewed = viewed s i (a-node g i h) (g .rules .fields i h);

@@ -1,4 +1,4 @@
--- A node whose rules are kept has a view, whatever its kind. Assumes nothing.
+-- A node whose rules are kept has a view, whatever its kind.
 use Prim.Native.Nat.{ℕ, _+_, _/_, _≤_}
 use mathlib.Core.Path.{_≡_, refl, sym, ap, _∙_}
 use mathlib.Core.List.{List, List·Memᴰ, List·Memᴰ·head, List·Memᴰ·tail}
@@ -16,10 +16,10 @@ use Rattle.names.specs.Spelling.{namedIn}
 use Rattle.names.specs.ControlCommand.{commandNamed}
 use Rattle.names.specs.NativeFunctionCall.{operatorNamed}
 use Rattle.names.proofs.Distinct.{isSome, number-held}
-use Rattle.names.proofs.Numbered.{Numbered, unnamed-number}
+use Rattle.names.proofs.Numbers.{Numbered, unnamed-number}
 use Rattle.names.proofs.Commands.{commandsNumbered}
 use Rattle.names.proofs.Operators.{operatorsNumbered}
-use Rattle.image.specs.Sections.{Sections, parentOf, placeOf, tagOf, f, textAt, textIn}
+use Rattle.image.specs.Sections.{Sections, parentOf, placeOf, tagOf, f, textAt, textOrEmpty}
 use Rattle.image.specs.Entries.{nodeIn}
 use Rattle.image.proofs.Parts.{text-inside}
 use Rattle.records.specs.Fields.{Kind, Container, Choice, Command, Divert, Glue, Operator, Tag, BoolValue, IntValue, FloatValue, StringValue, ListValue, TargetValue, PointerValue, Assignment, Reference, Void, Unknown, Field, kindOf, fields}
@@ -69,7 +69,7 @@ module _ (s : Sections) (i : ℕ) where
 
   -- the text that is read is the one that was tested
   text-held : (names : List (List ℕ)) → TextRight s (f s i 0) (f s i 1) → holds names (textAt s (f s i 0) (f s i 1)) ≡ true
-      → holds names (textIn (s .strings) (f s i 0) (f s i 1)) ≡ true
+      → holds names (textOrEmpty (s .strings) (f s i 0) (f s i 1)) ≡ true
   text-held names t h = rw (text-inside (s .strings) (f s i 0) (f s i 1) (t .inside)) h
 
   kind-given : (k : Kind) → Right k → Given (kindView (s .strings) (length (s .payload)) (nodeIn s i) k)
@@ -78,14 +78,14 @@ module _ (s : Sections) (i : ℕ) where
   kind-given Choice r = tt
   kind-given Command r =
       let q = r _ (List·Memᴰ·head refl) in
-      with-text _ (q .0) (given-command (commandNamed (textIn (s .strings) (f s i 0) (f s i 1))) (held commandsNumbered _ (text-held commands (q .0) (q .1))))
+      with-text _ (q .0) (given-command (commandNamed (textOrEmpty (s .strings) (f s i 0) (f s i 1))) (held commandsNumbered _ (text-held commands (q .0) (q .1))))
   kind-given Divert r =
       let few : f s i 6 ≤ 23 = r _ (List·Memᴰ·tail (List·Memᴰ·tail (List·Memᴰ·tail (List·Memᴰ·tail (List·Memᴰ·head refl))))) in
       rw (le-leb (f s i 6 / 8) 2 (omega arith)) tt
   kind-given Glue r = tt
   kind-given Operator r =
       let q = r _ (List·Memᴰ·head refl) in
-      with-text _ (q .0) (given-operator (operatorNamed (textIn (s .strings) (f s i 0) (f s i 1))) (held operatorsNumbered _ (text-held operators (q .0) (q .1))))
+      with-text _ (q .0) (given-operator (operatorNamed (textOrEmpty (s .strings) (f s i 0) (f s i 1))) (held operatorsNumbered _ (text-held operators (q .0) (q .1))))
   kind-given Tag r = with-text _ (r _ (List·Memᴰ·head refl)) tt
   kind-given BoolValue r = tt
   kind-given IntValue r = tt

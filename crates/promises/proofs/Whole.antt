@@ -1,4 +1,4 @@
--- Texts and list values of a view whose node keeps the rules are handed back whole. Assumes nothing.
+-- Texts and list values of a view whose node keeps the rules are handed back whole.
 use Prim.Native.Nat.{ℕ, _+_, _*_, _/_, _≤_, _<_}
 use mathlib.Core.Path.{_≡_, refl, sym, ap, _∙_, subst}
 use mathlib.Core.Logic.{⊎-elim}
@@ -15,7 +15,7 @@ use Rattle.names.specs.declared.control_command.CommandType.{CommandType}
 use Rattle.names.specs.declared.native_function_call.Op.{Op}
 use Rattle.names.specs.ControlCommand.{commandNamed}
 use Rattle.names.specs.NativeFunctionCall.{operatorNamed}
-use Rattle.image.specs.Sections.{Sections, f, partAt, textIn, present}
+use Rattle.image.specs.Sections.{Sections, f, partAt, textOrEmpty, present}
 use Rattle.image.specs.Entries.{nodeIn}
 use Rattle.image.proofs.Tests.{both-true}
 use Rattle.image.proofs.Parts.{part-length, text-inside}
@@ -26,7 +26,7 @@ use Rattle.views.specs.declared.NodeKindView.{NodeKindView}
 use Rattle.views.specs.declared.KindAnswer.{KindAnswer}
 use Rattle.views.specs.declared.KindAnswer.the-variants as kindly
 use Rattle.views.specs.View.{signed, span, shown, optionalText, ofCommand, ofOperator, withText, kindView}
-use Rattle.views.specs.Children.{textQuery, textPart}
+use Rattle.views.specs.Children.{textQuery, shownText}
 use Rattle.views.specs.Lists.{listPart, itemEntryWord, originEntryWord, listEntry, listOrigin}
 use Rattle.promises.specs.Rules.{TextRight, PayloadRight}
 use Rattle.promises.specs.Readers.{Whole, textsIn, viewTexts, ItemRead, OriginRead, ListRead, viewLists}
@@ -35,7 +35,7 @@ use Rattle.promises.proofs.Views.{Right, shown-right}
 -- ---- texts
 
 pub shown-whole : (s : Sections) (at len : ℕ) → shown (length (s .strings)) at len ≡ true → Whole s (span at len)
-unfolding textQuery textPart
+unfolding textQuery shownText
 shown-whole s at len h =
     record {
       found = rw h;
@@ -105,10 +105,10 @@ module _ (s : Sections) (i : ℕ) where
   unfolding kindView
   kind-whole Container = optional-whole s (f s i 0) (f s i 1)
   kind-whole Choice = none-whole s
-  kind-whole Command = with-whole _ (λ e. command-whole s (commandNamed (textIn (s .strings) (f s i 0) (f s i 1))))
+  kind-whole Command = with-whole _ (λ e. command-whole s (commandNamed (textOrEmpty (s .strings) (f s i 0) (f s i 1))))
   kind-whole Divert = tested (leb (f s i 6 / 8) 2) _ (both-whole s _ _ (optional-whole s (f s i 0) (f s i 1)) (optional-whole s (f s i 3) (f s i 4)))
   kind-whole Glue = none-whole s
-  kind-whole Operator = with-whole _ (λ e. operator-whole s (operatorNamed (textIn (s .strings) (f s i 0) (f s i 1))))
+  kind-whole Operator = with-whole _ (λ e. operator-whole s (operatorNamed (textOrEmpty (s .strings) (f s i 0) (f s i 1))))
   kind-whole Tag = with-whole _ first-whole
   kind-whole BoolValue = none-whole s
   kind-whole IntValue = none-whole s
@@ -233,10 +233,10 @@ module _ (s : Sections) (i : ℕ) where
       (λ p m. subst (λ (x : Span). ListRead s x) (sym (List·Memᴰ·eq-of-singleton m)) (list-read s (f s i 0) (f s i 1) (r _ (List·Memᴰ·head refl) .1)))
   kind-read Container r = none-read s
   kind-read Choice r = none-read s
-  kind-read Command r = with-read _ (command-read s (commandNamed (textIn (s .strings) (f s i 0) (f s i 1))))
+  kind-read Command r = with-read _ (command-read s (commandNamed (textOrEmpty (s .strings) (f s i 0) (f s i 1))))
   kind-read Divert r = tested-read (leb (f s i 6 / 8) 2) _ (none-read s)
   kind-read Glue r = none-read s
-  kind-read Operator r = with-read _ (operator-read s (operatorNamed (textIn (s .strings) (f s i 0) (f s i 1))))
+  kind-read Operator r = with-read _ (operator-read s (operatorNamed (textOrEmpty (s .strings) (f s i 0) (f s i 1))))
   kind-read Tag r = with-read _ (none-read s)
   kind-read BoolValue r = none-read s
   kind-read IntValue r = none-read s

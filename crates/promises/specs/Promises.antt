@@ -1,4 +1,4 @@
--- Demand 3, 'nothing sticks', as types: what is claimed of every accepted image, at every node. Assumes nothing.
+-- Demand 3, 'nothing sticks', as types: what is claimed of every accepted image, at every node.
 use Prim.Native.Nat.{ℕ, suc, _+_, _≤_, _<_}
 use mathlib.Core.Path.{_≡_}
 use mathlib.Core.Logic.{_≢_}
@@ -79,7 +79,7 @@ pub record NamedChild (s : Sections) (i j : ℕ) : Type 0 where
 
 -- ---- a reader at node i
 
-pub record Stands (s : Sections) (i : ℕ) : Type 0 where
+pub record NodeSound (s : Sections) (i : ℕ) : Type 0 where
   -- the query gives a view and not 18
   pub viewed : viewNumber (nodeView s i) ≡ 0
   pub root : ReachesRoot s i
@@ -114,7 +114,7 @@ pub record NamedOnce (s : Sections) (i : ℕ) : Type 0 where
 -- ---- all of it
 
 pub record Sound (s : Sections) : Type 0 where
-  pub nodes : (i : ℕ) → i < nodeCount s → Stands s i
+  pub nodes : (i : ℕ) → i < nodeCount s → NodeSound s i
   pub entries : EntriesInside s
   pub index : NoDot s → (i : ℕ) → i < nodeCount s → isContainer s i ≡ true → NamedOnce s i
 

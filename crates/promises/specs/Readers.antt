@@ -1,4 +1,4 @@
--- What a reader of an accepted image can count on, by the answers of the queries. Assumes nothing.
+-- What a reader of an accepted image can count on, by the answers of the queries.
 use Prim.Native.Nat.{ℕ, zero, suc, _+_, _≤_, _<_}
 use mathlib.Core.Path.{_≡_}
 use mathlib.Core.List.{List, [], _∷_, _++_, List·Memᴰ}
@@ -31,7 +31,7 @@ use Rattle.views.specs.declared.TextAnswer.the-variants as text
 use Rattle.views.specs.declared.ListEntry.{ListEntry}
 use Rattle.views.specs.declared.EntryAnswer.the-variants as entry
 use Rattle.views.specs.View.{nodeView}
-use Rattle.views.specs.Children.{childCountOf, namedCountOf, childQuery, namedQuery, textQuery, textPart}
+use Rattle.views.specs.Children.{childCountOf, namedCountOf, childQuery, namedQuery, textQuery, shownText}
 use Rattle.views.specs.Lists.{listPart, listEntry, listOrigin}
 
 -- ---- texts
@@ -39,7 +39,7 @@ use Rattle.views.specs.Lists.{listPart, listEntry, listOrigin}
 -- a text is handed back whole: it is found, and its part of the strings has its length
 pub record Whole (s : Sections) (t : Span) : Type 0 where
   pub found : textQuery s t ≡ text.Text t
-  pub whole : length (textPart (s .strings) (t .offset) (t .len)) ≡ t .len
+  pub whole : length (shownText (s .strings) (t .offset) (t .len)) ≡ t .len
 
 -- the text, where there is one
 abbrev pub textsIn : OptionalText → List Span

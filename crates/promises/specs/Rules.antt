@@ -1,4 +1,4 @@
--- What a load asks of its bytes, rule by rule in plain words. Acceptance is exactly this (proofs/Acceptance). Assumes nothing.
+-- What a load asks of its bytes, rule by rule in plain words. Acceptance is exactly this (proofs/Acceptance).
 use Prim.Native.Nat.{ℕ, _+_, _*_, _≤_, _<_}
 use mathlib.Core.Path.{_≡_}
 use mathlib.Core.Logic.{_≢_, _⊎_}
@@ -12,14 +12,14 @@ use Rattle.names.specs.Names.{commands, operators}
 use Rattle.checksum.specs.Crc.{checksumOf}
 use Rattle.image.specs.Sections.{Sections, nodeCount, childCount, namedCount, definitionCount, itemCount, indexCount, parentOf, placeOf, tagOf, f, definitionWord, itemWord, indexWord, textAt}
 use Rattle.image.specs.Header.{sectionsOf}
-use Rattle.image.proofs.Opening.{Opens}
+use Rattle.image.proofs.Header.{Opens}
 use Rattle.records.specs.Fields.{Field, text, optional, command, operator, node, optionalNode, container, optionalContainer, plain, atMost, children, named, payload, wrong}
-use Rattle.records.specs.Records.{fieldsAt, childrenOf, namedOf, childrenBefore, namedBefore, payloadBefore, containersBefore, listItems, listOrigins, listItemWord, listOriginWord}
+use Rattle.records.specs.Records.{fieldsAt, numberOfChildren, numberOfNamed, childrenBefore, namedBefore, payloadBefore, containersBefore, listItems, listOrigins, listItemWord, listOriginWord}
 use Rattle.tree.specs.Tree.{childAt, namedAt, namedText}
 use Rattle.tree.specs.Reach.{Reached}
 use Rattle.index.specs.Paths.{fits}
 use Rattle.index.specs.Index.{indexText}
-use Rattle.index.specs.Definitions.{definitionText, firstItem, itemsOf, itemTextOf, itemsBefore}
+use Rattle.index.specs.Definitions.{definitionText, firstItem, numberOfItems, itemTextOf, itemsBefore}
 use Rattle.load.specs.Load.{loadWords, loadRule, Accepted}
 
 -- ---- texts and nodes
@@ -102,9 +102,9 @@ pub record ItemRight (s : Sections) (d j : ℕ) : Type 0 where
 pub record DefinitionRight (s : Sections) (d : ℕ) : Type 0 where
   pub text : TextRight s (definitionWord s d 0) (definitionWord s d 1)
   pub order : rising (definitionText s) d ≡ true
-  pub inside : firstItem s d + itemsOf s d ≤ itemCount s
+  pub inside : firstItem s d + numberOfItems s d ≤ itemCount s
   pub start : firstItem s d ≡ itemsBefore s d
-  pub items : (j : ℕ) → j < itemsOf s d → ItemRight s d j
+  pub items : (j : ℕ) → j < numberOfItems s d → ItemRight s d j
 
 -- ---- all rules
 
@@ -122,8 +122,8 @@ pub record SectionsRight (s : Sections) : Type 0 where
   pub index-used : containersBefore s (nodeCount s) ≡ indexCount s
   -- the tree
   pub reached : (i : ℕ) → i < nodeCount s → Reached s i
-  pub child : (i : ℕ) → i < nodeCount s → (j : ℕ) → j < childrenOf s i → ChildRight s i j
-  pub entry : (i : ℕ) → i < nodeCount s → (j : ℕ) → j < namedOf s i → NamedRight s i j
+  pub child : (i : ℕ) → i < nodeCount s → (j : ℕ) → j < numberOfChildren s i → ChildRight s i j
+  pub entry : (i : ℕ) → i < nodeCount s → (j : ℕ) → j < numberOfNamed s i → NamedRight s i j
   pub index : (j : ℕ) → j < indexCount s → IndexRight s j
   pub definitions : (d : ℕ) → d < definitionCount s → DefinitionRight s d
   pub items-used : itemsBefore s (definitionCount s) ≡ itemCount s

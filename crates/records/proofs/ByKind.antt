@@ -1,4 +1,4 @@
--- The rules by kind, over a record and the numbers around it, are those of the node that they show. Assumes nothing.
+-- The rules by kind, over a record and the numbers around it, are those of the node that they show.
 use Prim.Native.Nat.{ℕ, suc, _≤_, _<_}
 use mathlib.Core.Path.{_≡_, refl, sym, ap, _∙_, subst}
 use mathlib.Core.Logic.{_⊎_, inl, inr, ⊎-elim}

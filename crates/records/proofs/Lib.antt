@@ -2,4 +2,4 @@ pub mod Tests
 pub mod Texts
 pub mod Lists
 pub mod ByKind
-pub mod Passed
+pub mod PassedRules

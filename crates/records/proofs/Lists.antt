@@ -1,4 +1,4 @@
--- The payload of a list, by the words that the code reads and the tests that it makes. Assumes nothing.
+-- The payload of a list, by the words that the code reads and the tests that it makes.
 use Prim.Native.Nat.{ℕ, _+_, _*_, _≤_, _<_}
 use mathlib.Core.Path.{_≡_, refl, sym, ap, _∙_}
 use mathlib.Core.Bool.{Bool, true, false, not, _&&_}

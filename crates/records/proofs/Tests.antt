@@ -1,4 +1,4 @@
--- Tests of a field and chains of rules, one step at a time, by the test that the code made. Assumes nothing.
+-- Tests of a field and chains of rules, one step at a time, by the test that the code made.
 use Prim.Native.Nat.{ℕ, zero, suc, _+_, _≤_, _<_}
 use mathlib.Core.Path.{_≡_, refl, sym, _∙_}
 use mathlib.Core.Bool.{Bool, true, false, not, _&&_, _||_, true≢false}
@@ -8,7 +8,7 @@ use borrow.Author.Tests.{le-leb, lt-leb, eq-eqb, ne-eqb, not-true, not-false}
 use Rattle.laws.specs.Refusal.{unless, _▸_, firstOf}
 use Rattle.laws.proofs.First.{first, second, pass, fail, first-hit}
 use Rattle.words.specs.Words.{NONE, isNone}
-use Rattle.records.specs.Shown.{insideAmong, containerAmong, follows}
+use Rattle.records.specs.Shown.{insideAmong, containerAmong, startsNext}
 
 -- ---- a chain of rules
 
@@ -99,8 +99,8 @@ that-tag nodes n tag v h q = rw (eq-eqb tag 1 h) (q ∙ either-true (insideAmong
 
 -- ---- ranges
 
-pub past-end : (start count before all : ℕ) → all < start + count → false ≡ follows start count before all
+pub past-end : (start count before all : ℕ) → all < start + count → false ≡ startsNext start count before all
 past-end start count before all h = rw (lt-leb (start + count) all h)
 
-pub in-end : (start count before all : ℕ) → start + count ≤ all → eqb start before ≡ follows start count before all
+pub in-end : (start count before all : ℕ) → start + count ≤ all → eqb start before ≡ startsNext start count before all
 in-end start count before all h = rw (le-leb (start + count) all h)

@@ -1,4 +1,4 @@
--- The rule of a text alone, by the tests that the code made; known names. Assumes nothing.
+-- The rule of a text alone, by the tests that the code made; known names.
 use Prim.Native.Nat.{ℕ}
 use mathlib.Core.Path.{_≡_, refl, sym, ap, _∙_}
 use mathlib.Core.Bool.{Bool, true, false, not, cond}
@@ -13,7 +13,7 @@ use Rattle.names.specs.Spelling.{numbered}
 use Rattle.names.specs.declared.Number.{Number}
 use Rattle.names.specs.declared.Number.the-variants.{Known, Unknown}
 use Rattle.names.proofs.Distinct.{number-held}
-use Rattle.image.specs.Sections.{partAt, goodIn, textIn}
+use Rattle.image.specs.Sections.{partAt, goodIn, textOrEmpty}
 use Rattle.image.proofs.Parts.{good-part}
 use Rattle.records.specs.Shown.{textRule}
 use Rattle.records.proofs.Tests.{stop}
@@ -46,7 +46,7 @@ module _ (strings : List ℕ) (tag at len : ℕ) (p : Bool) (e : p ≡ goodIn st
 
   module _ (n : not p ≡ false) where
     -- the text's bytes
-    named-by : (name : List ℕ) → name ≡ textIn strings at len → name ≡ partAt strings at len
+    named-by : (name : List ℕ) → name ≡ textOrEmpty strings at len → name ≡ partAt strings at len
     named-by name h = h ∙ good-part strings at len (sym e ∙ not-false p n)
 
     after : textRule tag at len strings
@@ -57,7 +57,7 @@ module _ (strings : List ℕ) (tag at len : ℕ) (p : Bool) (e : p ≡ goodIn st
     pub text-any : (tag ≡ 3 → ⊥) → (tag ≡ 6 → ⊥) → 0 ≡ textRule tag at len strings
     text-any d f = sym (rw (ne-eqb tag 3 d, ne-eqb tag 6 f) at after)
 
-    module _ (name : List ℕ) (h : name ≡ textIn strings at len) (q : Bool) where
+    module _ (name : List ℕ) (h : name ≡ textOrEmpty strings at len) (q : Bool) where
       command-rule : tag ≡ 3 → q ≡ holds commands name → unless q 12 ≡ textRule tag at len strings
       command-rule t k = rw (k, named-by name h) (sym (rw (eq-eqb tag 3 t) at after))
 

@@ -1,4 +1,4 @@
--- The kinds of nodes by tag, and what each kind has in its fields. Assumes nothing.
+-- The kinds of nodes by tag, and what each kind has in its fields.
 use Prim.Native.Nat.{ℕ}
 use mathlib.Core.List.{List, [], _∷_}
 use lib.ListN.{getD}

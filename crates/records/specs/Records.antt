@@ -1,5 +1,4 @@
 -- The record rules: the rule of each field of a node, of its parent, of a list's payload; sums of the counts before; leftovers.
--- Assumes nothing.
 use Prim.Native.Nat.{ℕ, _+_, _*_}
 use mathlib.Core.List.{List, [], _∷_}
 use mathlib.Core.Bool.{Bool, cond, _&&_, _||_, not}
@@ -49,28 +48,28 @@ targetOf s i k = targetIn (nodeIn s i) k
 -- ---- counts of a node, and their sums over the nodes before
 
 -- ordered children, named children
-unfoldable pub childrenOf : Sections → ℕ → ℕ
-childrenOf s i = cond (isContainer s i) (f s i 4) 0
+unfoldable pub numberOfChildren : Sections → ℕ → ℕ
+numberOfChildren s i = cond (isContainer s i) (f s i 4) 0
 
-unfoldable pub namedOf : Sections → ℕ → ℕ
-namedOf s i = cond (isContainer s i) (f s i 6) 0
+unfoldable pub numberOfNamed : Sections → ℕ → ℕ
+numberOfNamed s i = cond (isContainer s i) (f s i 6) 0
 
 -- bytes of payload
-unfoldable pub payloadOf : Sections → ℕ → ℕ
-payloadOf s i = cond (eqb (tagOf s i) 12) (f s i 1) 0
+unfoldable pub payloadLengthOf : Sections → ℕ → ℕ
+payloadLengthOf s i = cond (eqb (tagOf s i) 12) (f s i 1) 0
 
 -- 1 for a container
 unfoldable pub containerOf : Sections → ℕ → ℕ
 containerOf s i = cond (isContainer s i) 1 0
 
 abbrev pub childrenBefore : Sections → ℕ → ℕ
-childrenBefore s i = sumOf i (childrenOf s)
+childrenBefore s i = sumOf i (numberOfChildren s)
 
 abbrev pub namedBefore : Sections → ℕ → ℕ
-namedBefore s i = sumOf i (namedOf s)
+namedBefore s i = sumOf i (numberOfNamed s)
 
 abbrev pub payloadBefore : Sections → ℕ → ℕ
-payloadBefore s i = sumOf i (payloadOf s)
+payloadBefore s i = sumOf i (payloadLengthOf s)
 
 abbrev pub containersBefore : Sections → ℕ → ℕ
 containersBefore s i = sumOf i (containerOf s)
@@ -155,5 +154,5 @@ usedUp s =
 
 -- names on an `unfolding` line what a computation with this module needs
 unfoldable pub records : Unit {0}
-unfolding targetIn childrenOf namedOf payloadOf containerOf listWord listItemRule listOriginRule payloadRule fieldRule firstField parentRule nodeRule rootRight usedUp schema sections names refusals counted words texts
+unfolding targetIn numberOfChildren numberOfNamed payloadLengthOf containerOf listWord listItemRule listOriginRule payloadRule fieldRule firstField parentRule nodeRule rootRight usedUp schema sections names refusals counted words texts
 records = tt

@@ -1,5 +1,5 @@
 -- What the rules are told of a node by value: its record, the counts of the sections, the sums of the counts before it, the tag of
--- its target; and the rules of each kind over these, as the code tests them. Assumes nothing.
+-- its target; and the rules of each kind over these, as the code tests them.
 use Prim.Native.Nat.{ℕ, _+_}
 use mathlib.Core.Path.{_≡_}
 use mathlib.Core.List.{List, []}
@@ -55,8 +55,8 @@ abbrev pub containerAmong : ℕ → ℕ → ℕ → Bool
 containerAmong nodes n tag = insideAmong nodes n && eqb tag 1
 
 -- a range begins where those before it end, and ends inside
-abbrev pub follows : ℕ → ℕ → ℕ → ℕ → Bool
-follows start count before all = leb (start + count) all && eqb start before
+abbrev pub startsNext : ℕ → ℕ → ℕ → ℕ → Bool
+startsNext start count before all = leb (start + count) all && eqb start before
 
 -- sections that have a payload and strings alone
 abbrev pub bytesOnly : List ℕ → List ℕ → Sections
@@ -68,8 +68,8 @@ bytesOnly payload strings =
 unfoldable pub containerRule : NodeRecord → Counts → Sums → List ℕ → ℕ
 containerRule r c u strings =
     unless (optionalIn strings (r .f0) (r .f1)) 10
-    ▸ unless (follows (r .f3) (r .f4) (u .children) (c .children)) 11
-    ▸ unless (follows (r .f5) (r .f6) (u .named) (c .named)) 11
+    ▸ unless (startsNext (r .f3) (r .f4) (u .children) (c .children)) 11
+    ▸ unless (startsNext (r .f5) (r .f6) (u .named) (c .named)) 11
 
 unfoldable pub choiceRule : NodeRecord → ℕ → ℕ → List ℕ → ℕ
 choiceRule r nodes tag strings = unless (optionalIn strings (r .f0) (r .f1)) 10 ▸ unless (containerAmong nodes (r .f2) tag) 9
@@ -103,6 +103,6 @@ unfoldable pub listRule : NodeRecord → Sums → List ℕ → List ℕ → ℕ
 listRule r u payload strings = unless (eqb (r .f0) (u .payload)) 11 ▸ payloadRule (bytesOnly payload strings) (r .f0) (r .f1)
 
 -- names on an `unfolding` line what a computation with this module needs
-unfoldable pub shown : Unit {0}
+unfoldable pub shownRecords : Unit {0}
 unfolding tagIn containerRule choiceRule divertRule textRule targetRule assignmentRule referenceRule listRule records refusals
-shown = tt
+shownRecords = tt

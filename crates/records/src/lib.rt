@@ -21,7 +21,7 @@ ghost use Rattle.image.specs.Sections.{Sections, tagOf, nodeCount};
 ghost use Rattle.image.specs.Entries.{nodeIn};
 ghost use Rattle.records.specs.Fields.{kindOf};
 ghost use Rattle.records.specs.Records.{targetIn, fieldsRule, parentRule, rootRight, usedUp};
-ghost use Rattle.records.specs.Shown.{Shows, ShowsParent, countsOf, sumsBefore, insideAmong, containerAmong, follows, containerRule, choiceRule, divertRule, textRule, targetRule, assignmentRule, referenceRule, listRule};
+ghost use Rattle.records.specs.Shown.{Shows, ShowsParent, countsOf, sumsBefore, insideAmong, containerAmong, startsNext, containerRule, choiceRule, divertRule, textRule, targetRule, assignmentRule, referenceRule, listRule};
 
 // How many nodes, ordered children and named children the sections have.
 pub struct Counts {
@@ -92,7 +92,7 @@ fn is_optional_container(nodes: usize, word: u32, tag: u32) -> bool
 
 // Whether a range begins where those before it end, and ends inside its section.
 fn is_next(start: u32, count: u32, before: usize, all: usize) -> bool
-    ensures { λ r. ⌜ r ≡ follows start count before all ⌝ }
+    ensures { λ r. ⌜ r ≡ startsNext start count before all ⌝ }
 {
     let from = start as usize;
     if all < from + count as usize {

@@ -1,4 +1,4 @@
--- A comparison of recorded words, word by word, and what a record says by it. Assumes nothing.
+-- A comparison of recorded words, word by word, and what a record says by it.
 use Prim.Native.Nat.{ℕ, _+_, _<_, _/_}
 use mathlib.Core.Path.{_≡_, refl, sym, ap, subst, _∙_}
 use mathlib.Core.List.{List, [], _∷_}

@@ -1,4 +1,4 @@
--- What a record says of a query's answer. Assumes nothing.
+-- What a record says of a query's answer.
 use Prim.Native.Nat.{ℕ, _+_}
 use mathlib.Core.List.{List}
 use mathlib.Core.Bool.{Bool, false, cond}

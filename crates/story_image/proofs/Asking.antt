@@ -1,4 +1,4 @@
--- What a query hands over under lent words of a view. Assumes nothing.
+-- What a query hands over under lent words of a view.
 use Prim.Native.Nat.{ℕ, _≤_, _<_}
 use mathlib.Core.Path.{_≡_, refl, sym, ap, _∙_}
 use mathlib.Core.List.{List}

@@ -1,4 +1,4 @@
--- A view written, and a load without work words. Assumes nothing.
+-- A view written, and a load without work words.
 use Prim.Native.Nat.{ℕ, zero, suc, _≤_, _<_}
 use mathlib.Core.Path.{_≡_, refl, sym, ap, _∙_}
 use mathlib.Core.List.{List, _++_}
@@ -14,7 +14,7 @@ use Rattle.image.specs.Header.{headerRule, viewOf, sectionsOf}
 use Rattle.load.specs.Load.{checksumRule, sectionsRule, loadRule, loadWords, loadedBy, loadedOf, loadedNumber, early, workAfter}
 use Rattle.load.specs.declared.Loaded.{Loaded}
 use Rattle.load.specs.declared.Loaded.the-variants.{View, Refused}
-use Rattle.load.proofs.Loading.{header-early, left-alone}
+use Rattle.load.proofs.Answers.{header-early, left-alone}
 use Rattle.story_image.specs.Exported.{wordsOfView, viewLength, lentWords, viewAfter}
 
 -- ---- the words of a view

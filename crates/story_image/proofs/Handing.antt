@@ -1,4 +1,4 @@
--- A written image handed over: number, length, output and work words. Assumes nothing.
+-- A written image handed over: number, length, output and work words.
 use Prim.Native.Nat.{ℕ, zero, suc, _≤_, _<_}
 use mathlib.Core.Path.{_≡_, refl, sym, ap, _∙_}
 use mathlib.Core.List.{List, [], _∷_}
@@ -13,7 +13,7 @@ use Rattle.image.specs.Header.{inkRight}
 use Rattle.image.specs.Sections.{Sections}
 use Rattle.draft.specs.Draft.{tablesRule, writeWords}
 use Rattle.draft.proofs.Rules.{tables}
-use Rattle.encoder.specs.Encode.{imageFor, encodeRule, outAfter, untouched, encodeWorkAfter}
+use Rattle.draft_image.specs.Encode.{imageFor, encodeRule, outAfter, untouched, encodeWorkAfter}
 use Rattle.writer.specs.declared.Encoded.{Encoded}
 use Rattle.writer.specs.declared.Encoded.the-variants.{Written, Refused}
 use Rattle.writer.specs.Answer.{encodedBy, encodedOf, encodedNumber}

@@ -1,4 +1,4 @@
--- The part of the image that a text's words bound is the text. Assumes nothing.
+-- The part of the image that a text's words bound is the text.
 use Prim.Native.Nat.{ℕ, zero, suc, _+_, _*_, _≤_}
 use mathlib.Core.Path.{_≡_, refl, sym, ap, _∙_}
 use mathlib.Core.List.{List, [], _∷_}
@@ -18,7 +18,7 @@ use Rattle.image.proofs.Tests.{both-true}
 use Rattle.views.specs.declared.Span.{Span}
 use Rattle.views.specs.declared.TextAnswer.the-variants as place
 use Rattle.views.specs.View.{shown}
-use Rattle.views.specs.Children.{textQuery, textPart}
+use Rattle.views.specs.Children.{textQuery, shownText}
 use Rattle.answers.specs.Handed.{partAnswer}
 
 abbrev some-flag : Option (List ℕ) → Bool
@@ -62,15 +62,15 @@ module _ (bs : List ℕ) (v : ImageView) (t : Span) where
       let none : t .len ≡ 0 = omega arith in
       empty bs section start (t .offset) (t .len) none
 
-  held : shown (length section) (t .offset) (t .len) ≡ true → partAt bs start (t .len) ≡ textPart section (t .offset) (t .len)
-  unfolding textPart
+  held : shown (length section) (t .offset) (t .len) ≡ true → partAt bs start (t .len) ≡ shownText section (t .offset) (t .len)
+  unfolding shownText
   held h =
       let inside = leb-true (t .offset + t .len) (length section) (both-true (present (t .offset) (t .len)) _ h .1) in
       rw h (held-by (leb (v .strings .offset + v .strings .count * 1) (length bs)) refl inside)
 
   -- what a query for a text hands over bounds the text's part of the image
   pub text-held : (from len : ℕ) → partAnswer (length bs) (v .strings .offset) (textQuery (sectionsBy bs v) t) ≡ some (from ∷ len ∷ [])
-      → partAt bs from len ≡ textPart (sectionsBy bs v .strings) (t .offset) (t .len)
+      → partAt bs from len ≡ shownText (sectionsBy bs v .strings) (t .offset) (t .len)
   unfolding textQuery sectionsIn
   text-held from len e = shown-by (shown (length section) (t .offset) (t .len)) refl e
     where
@@ -87,6 +87,6 @@ module _ (bs : List ℕ) (v : ImageView) (t : Span) where
 
       shown-by : (b : Bool) → shown (length section) (t .offset) (t .len) ≡ b
           → partAnswer (length bs) (v .strings .offset) (cond b (place.Text t) place.NotFound) ≡ some (from ∷ len ∷ [])
-          → partAt bs from len ≡ textPart section (t .offset) (t .len)
+          → partAt bs from len ≡ shownText section (t .offset) (t .len)
       shown-by true h e = sym (fits-by (leb (start + t .len) (length bs)) (leb start NONE) e) ∙ held h
       shown-by false h e = absurd (no-some e)

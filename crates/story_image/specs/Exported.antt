@@ -1,4 +1,4 @@
--- How answers are handed to C and Rust, in words. Assumes nothing.
+-- How answers are handed to C and Rust, in words.
 use Prim.Native.Nat.{ℕ, zero, suc, _+_, _*_}
 use mathlib.Core.List.{List, [], _∷_, _++_}
 use mathlib.Core.Bool.{cond}

@@ -1,4 +1,4 @@
--- How the length of a written image is handed over: in the first word that is lent for it. Assumes nothing.
+-- How the length of a written image is handed over: in the first word that is lent for it.
 use Prim.Native.Nat.{ℕ, zero, suc}
 use mathlib.Core.List.{List, _∷_}
 use mathlib.Core.Bool.{cond}

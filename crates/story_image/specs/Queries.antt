@@ -1,4 +1,4 @@
--- The words of each query on an image's bytes and the words of a view. Assumes nothing.
+-- The words of each query on an image's bytes and the words of a view.
 use Prim.Native.Nat.{ℕ}
 use mathlib.Core.List.{List}
 use mathlib.Core.Bool.{Bool}

@@ -4,7 +4,7 @@ ghost use mathlib.Core.Path.{_≡_};
 ghost use lib.ListN.{length};
 ghost use Rattle.draft.specs.Draft.{writeWords};
 ghost use Rattle.draft.specs.Source.{draftOf};
-ghost use Rattle.encoder.specs.Encode.{imageFor, encodeRule, outAfter, encodeWorkAfter};
+ghost use Rattle.draft_image.specs.Encode.{imageFor, encodeRule, outAfter, encodeWorkAfter};
 ghost use Rattle.writer.specs.Answer.{encodedNumber};
 ghost use Rattle.story_image.specs.Lengths.{wordsFor, lengthAfter};
 

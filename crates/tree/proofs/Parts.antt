@@ -1,12 +1,11 @@
 -- The tree's rule asks about nodes, children, named entries and strings only: for the sections of an image it is that of their parts.
--- Assumes nothing.
 use Prim.Native.Nat.{ℕ}
 use mathlib.Core.Path.{_≡_, refl, sym, ap, _∙_, subst}
 use mathlib.Core.List.{List, []}
 use Rattle.words.specs.Words.{wordsOf}
 use Rattle.image.specs.Header.{nodeWords}
 use Rattle.image.specs.Sections.{Sections, nodeWord, childWord, namedWord}
-use Rattle.records.specs.Records.{childrenOf, namedOf}
+use Rattle.records.specs.Records.{numberOfChildren, numberOfNamed}
 use Rattle.tree.specs.Tree.{childRule, namedRule, entriesRule, entryNodes, loadWalk, allSeen, treeRule}
 use Rattle.tree.specs.Parts.{partsOf, Fit}
 use Rattle.tree.specs.Work.{treeWords}
@@ -27,11 +26,11 @@ alone s =
     }
 
 rule-alone : (s : Sections) → treeRule (alone s) ≡ treeRule s
-unfolding treeRule loadWalk allSeen entriesRule childRule namedRule entryNodes childrenOf namedOf nodeWord childWord namedWord
+unfolding treeRule loadWalk allSeen entriesRule childRule namedRule entryNodes numberOfChildren numberOfNamed nodeWord childWord namedWord
 rule-alone s = refl
 
 fit-alone : (s : Sections) → Fit s → Fit (alone s)
-unfolding childrenOf namedOf nodeWord
+unfolding numberOfChildren numberOfNamed nodeWord
 fit-alone s g =
     record {
       counts = record { some = g .counts .some; children = g .counts .children; named = g .counts .named };

@@ -1,4 +1,4 @@
--- The rules of entries by the tests that the code makes, one at a time. Assumes nothing.
+-- The rules of entries by the tests that the code makes, one at a time.
 use Prim.Native.Nat.{ℕ, zero, suc, _+_, _*_, _-_, _/_, _≤_, _<_}
 use mathlib.Core.Path.{_≡_, refl, ap, _∙_}
 use mathlib.Core.List.{List, []}
@@ -18,9 +18,9 @@ use Rattle.image.specs.declared.TextEntry.{TextEntry}
 use Rattle.image.specs.Entries.{textEntryOf}
 use Rattle.image.proofs.Tests.{both-true}
 use Rattle.image.proofs.Parts.{good-part}
-use Rattle.image.specs.Sections.{Sections, nodeWord, parentOf, placeOf, inside, isContainer, insideContainer, goodText, goodIn, textIn, f, childWord, namedWord, childCount, namedCount}
+use Rattle.image.specs.Sections.{Sections, nodeWord, parentOf, placeOf, inside, isContainer, insideContainer, goodText, goodIn, textOrEmpty, f, childWord, namedWord, childCount, namedCount}
 use Rattle.tree.specs.Tree.{childAt, namedAt, namedText, rightChild, childRule, namedRule}
-use Rattle.tree.specs.Parts.{partsOf, LastGood, namedNode, shown, follows}
+use Rattle.tree.specs.Parts.{partsOf, LastGood, namedNode, shownName, follows}
 use Rattle.tree.proofs.Entries.{named-right}
 
 -- ---- a node in the bytes of the nodes
@@ -88,7 +88,7 @@ module _ (ms ss : List ℕ) (at place : ℕ) where
 
   pub follows-order : (last entry : TextEntry) (a b : List ℕ) (o : Order) → (place ≡ 0 → ⊥)
       → last ≡ textEntryOf (wordsOf ms) (at - 1) → entry ≡ textEntryOf (wordsOf ms) at
-      → a ≡ textIn ss (last .offset) (last .len) → b ≡ textIn ss (entry .offset) (entry .len) → o ≡ orderOf a b
+      → a ≡ textOrEmpty ss (last .offset) (last .len) → b ≡ textOrEmpty ss (entry .offset) (entry .len) → o ≡ orderOf a b
       → follows ms ss at place ≡ isLess o
   unfolding follows before textEntryOf
   follows-order last entry a b o d e k p q z = rw (ne-eqb place 0 d, z, p, q, e, k) refl
@@ -127,12 +127,12 @@ module _ (ns ms ss : List ℕ) (i j at : ℕ) (entry : TextEntry) where
 
     module _ (t : goodIn ss (entry .offset) (entry .len) ≡ true) where
       -- the text that is handed back for a good entry is its text
-      shown-is : (k n : ℕ) → n ≡ f here i 5 + k → goodText here (namedAt here i k 0) (namedAt here i k 1) ≡ true → shown ms ss n ≡ namedText here i k
+      shown-is : (k n : ℕ) → n ≡ f here i 5 + k → goodText here (namedAt here i k 0) (namedAt here i k 1) ≡ true → shownName ms ss n ≡ namedText here i k
       unfolding namedWord
       shown-is k n e g =
           let m = f here i 5 + k in
           let z : m * 3 ≡ m * 3 + 0 = omega arith in
-          ap (shown ms ss) e ∙ ap (λ (x : ℕ). textIn ss (getD (wordsOf ms) x 0) (getD (wordsOf ms) (m * 3 + 1) 0)) z
+          ap (shownName ms ss) e ∙ ap (λ (x : ℕ). textOrEmpty ss (getD (wordsOf ms) x 0) (getD (wordsOf ms) (m * 3 + 1) 0)) z
           ∙ good-part ss (namedAt here i k 0) (namedAt here i k 1) g
 
       order-is : follows ms ss at j ≡ rising (namedText here i) j

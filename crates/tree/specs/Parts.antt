@@ -1,5 +1,4 @@
 -- The sections that the tree is made of, out of their bytes, and what the record rules have shown of them before the tree is walked.
--- Assumes nothing.
 use Prim.Native.Nat.{ℕ, suc, _+_, _*_, _-_, _≤_, _<_}
 use mathlib.Core.Path.{_≡_}
 use mathlib.Core.List.{List, [], reverse}
@@ -9,7 +8,7 @@ use lib.Dec.{eqb}
 use Rattle.words.specs.Words.{wordsOf}
 use Rattle.texts.specs.Text.{before}
 use Rattle.image.specs.Header.{nodeWords}
-use Rattle.image.specs.Sections.{Sections, nodeCount, childCount, namedCount, f, isContainer, goodText, textIn}
+use Rattle.image.specs.Sections.{Sections, nodeCount, childCount, namedCount, f, isContainer, goodText, textOrEmpty}
 use Rattle.records.specs.Records.{childrenBefore, namedBefore}
 use Rattle.tree.specs.Tree.{childAt, namedAt, childRule, namedRule, entriesRule, entryNodes}
 use Rattle.tree.specs.Work.{Pushed, Entered}
@@ -30,7 +29,7 @@ partsOf nodes children named strings =
     }
 
 -- there is a node, and each entry belongs to one container
-pub record Counts (s : Sections) : Type 0 where
+pub record EntriesOwned (s : Sections) : Type 0 where
   pub some : 0 < nodeCount s
   pub children : childrenBefore s (nodeCount s) ≡ childCount s
   pub named : namedBefore s (nodeCount s) ≡ namedCount s
@@ -41,7 +40,7 @@ pub record Ranges (s : Sections) (i : ℕ) : Type 0 where
   pub named : f s i 5 + f s i 6 ≤ namedCount s
 
 pub record Fit (s : Sections) : Type 0 where
-  pub counts : Counts s
+  pub counts : EntriesOwned s
   pub ranges : (i : ℕ) → i < nodeCount s → isContainer s i ≡ true → Ranges s i
 
 -- the text of the entry before place j of container i is good
@@ -53,12 +52,12 @@ abbrev pub namedNode : Sections → ℕ → ℕ → ℕ
 namedNode s i j = namedAt s i j 2
 
 -- the text of entry j, none where it is not inside the strings
-abbrev pub shown : List ℕ → List ℕ → ℕ → List ℕ
-shown named strings j = textIn strings (getD (wordsOf named) (j * 3) 0) (getD (wordsOf named) (j * 3 + 1) 0)
+abbrev pub shownName : List ℕ → List ℕ → ℕ → List ℕ
+shownName named strings j = textOrEmpty strings (getD (wordsOf named) (j * 3) 0) (getD (wordsOf named) (j * 3 + 1) 0)
 
 -- the entry that stands at a place of its container, and at j in the section, has a text after that of the entry before it
 unfoldable pub follows : List ℕ → List ℕ → ℕ → ℕ → Bool
-follows named strings j place = eqb place 0 || before (shown named strings (j - 1)) (shown named strings j)
+follows named strings j place = eqb place 0 || before (shownName named strings (j - 1)) (shownName named strings j)
 
 -- ---- pushes, by the parts that each reads
 

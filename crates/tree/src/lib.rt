@@ -6,7 +6,7 @@ ghost use lib.ListN.{length, getD, drop, replicate};
 ghost use Rattle.laws.specs.Counted.{allOf};
 ghost use Rattle.image.specs.Sections.{nodeCount, childCount, namedCount, f, insideContainer};
 ghost use Rattle.tree.specs.Tree.{rightChild, namedRule, entryNodes, treeRule};
-ghost use Rattle.tree.specs.Work.{Loaded, treeWords, marked};
+ghost use Rattle.tree.specs.Work.{LoadWalkResult, treeWords, marked};
 ghost use Rattle.tree.specs.Parts.{partsOf, Fit, LastGood, follows, ChildrenPushed, NamedPushed, NodeEntered};
 use image::refusal;
 use texts::Order;
@@ -228,7 +228,7 @@ fn walk(
     requires { ⌜ count ≡ nodeCount (partsOf (now nodes) (now children) (now named) (now strings)) ⌝ }
     requires { ⌜ treeWords (partsOf (now nodes) (now children) (now named) (now strings)) ≤ length (now work) ⌝ }
     requires { ⌜ ((i : ℕ) → i < count → getD (now work) i 0 ≡ 0) ⌝ }
-    ensures { λ r. ⌜ Loaded (partsOf (now (nodes .entry)) (now (children .entry)) (now (named .entry)) (now (strings .entry))) (now (work .entry)) (now (work .exit)) r ⌝ }
+    ensures { λ r. ⌜ LoadWalkResult (partsOf (now (nodes .entry)) (now (children .entry)) (now (named .entry)) (now (strings .entry))) (now (work .entry)) (now (work .exit)) r ⌝ }
 {
     work[count] = 0;
     let mut depth = 1;

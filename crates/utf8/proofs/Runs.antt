@@ -1,4 +1,4 @@
--- Laws of texts that are one piece after the other: what a loop sees that goes from piece to piece. Assumes nothing.
+-- Laws of texts that are one piece after the other: what a loop sees that goes from piece to piece.
 use Prim.Native.Nat.{ℕ, zero, suc, _+_, _≤_, _<_}
 use mathlib.Core.Path.{_≡_, refl, sym, ap, _∙_}
 use mathlib.Core.List.{List, [], _∷_}

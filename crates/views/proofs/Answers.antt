@@ -1,4 +1,4 @@
--- What a query answers, by the entries that were found and the tests that were made. Assumes nothing.
+-- What a query answers, by the entries that were found and the tests that were made.
 use Prim.Native.Nat.{ℕ, _+_, _*_, _≤_, _<_}
 use mathlib.Core.Path.{_≡_, sym, ap, _∙_}
 use mathlib.Core.List.{List, []}
@@ -13,14 +13,14 @@ use Rattle.words.specs.Words.{wordAt, NONE}
 use Rattle.image.specs.declared.NodeRecord.{NodeRecord}
 use Rattle.image.specs.declared.TextEntry.{TextEntry}
 use Rattle.image.specs.declared.Definition.{Definition}
-use Rattle.image.specs.Sections.{Sections, f, namedWord, definitionWord, itemWord, inside, insideContainer, present, textIn}
+use Rattle.image.specs.Sections.{Sections, f, namedWord, definitionWord, itemWord, inside, insideContainer, present, textOrEmpty}
 use Rattle.image.specs.Entries.{nodeIn, definitionIn}
 use Rattle.image.proofs.Tests.{both-true}
 use Rattle.image.specs.declared.ImageView.{ImageView}
 use Rattle.image.specs.Header.{sectionBytes, sectionsBy}
 use Rattle.image.proofs.Parts.{text-inside}
 use Rattle.image.proofs.Views.{payload-by, strings-by}
-use Rattle.index.specs.Definitions.{itemsOf}
+use Rattle.index.specs.Definitions.{numberOfItems}
 use Rattle.views.specs.declared.Span.{Span}
 use Rattle.views.specs.declared.OptionalText.{OptionalText}
 use Rattle.views.specs.declared.NodeAnswer.{NodeAnswer}
@@ -43,7 +43,7 @@ use Rattle.views.specs.declared.entries.DefinitionFound.{DefinitionFound
 use Rattle.views.specs.declared.entries.DefinitionFound.the-variants as row
 use Rattle.views.specs.View.{signed, span, shown, optionalText, recordView, nodeView}
 use Rattle.views.specs.Found.{nodeFound, containerFound, childFound, namedFound, definitionFound, itemFound}
-use Rattle.views.specs.Children.{childCountOf, namedCountOf, childQuery, namedEntry, namedQuery, textQuery, textPart}
+use Rattle.views.specs.Children.{childCountOf, namedCountOf, childQuery, namedEntry, namedQuery, textQuery, shownText}
 use Rattle.views.specs.Lists.{listPart, listEntry, listOrigin, definitionQuery, itemEntry, itemQuery}
 use Rattle.views.proofs.Reading.{no-node, a-node, no-container, a-container, no-named, a-named, no-item, an-item, no-definition, a-definition}
 
@@ -200,35 +200,35 @@ module _ (s : Sections) (d j : ℕ) (r : DefinitionFound) (e : r ≡ definitionF
 
     pub items-past : x .count ≤ j → item.NotFound ≡ itemQuery s d j
     unfolding itemQuery
-    items-past l = rw (a-definition s d r e x h .0, le-ltb j (itemsOf s d) (rw (ap (λ (y : Definition). y .count) same-definition) at l))
+    items-past l = rw (a-definition s d r e x h .0, le-ltb j (numberOfItems s d) (rw (ap (λ (y : Definition). y .count) same-definition) at l))
 
     pub items-found : j < x .count → (a : ItemAnswer) → a ≡ itemEntry s (x .first + j) → a ≡ itemQuery s d j
     unfolding itemQuery
     items-found l a g =
-        rw (a-definition s d r e x h .0, lt-ltb j (itemsOf s d) (rw (ap (λ (y : Definition). y .count) same-definition) at l))
+        rw (a-definition s d r e x h .0, lt-ltb j (numberOfItems s d) (rw (ap (λ (y : Definition). y .count) same-definition) at l))
         (g ∙ λ k. itemEntry s (same-definition k .first + j))
 
 -- ---- the part of the strings that holds a text
 
 module _ (strings : List ℕ) (at len : ℕ) (b : Bool) (g : b ≡ shown (length strings) at len) where
-  pub part-shown : b ≡ true → (p : List ℕ) → p ≡ textIn strings at len → p ≡ textPart strings at len
-  unfolding textPart
+  pub part-shown : b ≡ true → (p : List ℕ) → p ≡ textOrEmpty strings at len → p ≡ shownText strings at len
+  unfolding shownText
   part-shown y p e =
       let inside = leb-true (at + len) (length strings) (both-true (present at len) (leb (at + len) (length strings)) (sym g ∙ y) .1) in
       rw (← g, y) (e ∙ text-inside strings at len inside)
 
-  pub part-hidden : b ≡ false → [] ≡ textPart strings at len
-  unfolding textPart
+  pub part-hidden : b ≡ false → [] ≡ shownText strings at len
+  unfolding shownText
   part-hidden n = rw (← g, n)
 
 -- of a view's strings; of its payload, which holds a list value
 module _ (bs : List ℕ) (v : ImageView) (t : Span) (part p : List ℕ) where
-  pub text-of : part ≡ sectionBytes bs (v .strings) 1 → p ≡ textPart part (t .offset) (t .len) → p ≡ textPart (sectionsBy bs v .strings) (t .offset) (t .len)
-  text-of q e = e ∙ λ j. textPart ((q ∙ sym (strings-by bs v)) j) (t .offset) (t .len)
+  pub text-of : part ≡ sectionBytes bs (v .strings) 1 → p ≡ shownText part (t .offset) (t .len) → p ≡ shownText (sectionsBy bs v .strings) (t .offset) (t .len)
+  text-of q e = e ∙ λ j. shownText ((q ∙ sym (strings-by bs v)) j) (t .offset) (t .len)
 
-  pub payload-of : part ≡ sectionBytes bs (v .payload) 1 → p ≡ textIn part (t .offset) (t .len) → p ≡ listPart (sectionsBy bs v) t
+  pub payload-of : part ≡ sectionBytes bs (v .payload) 1 → p ≡ textOrEmpty part (t .offset) (t .len) → p ≡ listPart (sectionsBy bs v) t
   unfolding listPart
-  payload-of q e = e ∙ λ j. textIn ((q ∙ sym (payload-by bs v)) j) (t .offset) (t .len)
+  payload-of q e = e ∙ λ j. textOrEmpty ((q ∙ sym (payload-by bs v)) j) (t .offset) (t .len)
 
 -- ---- whether a text is shown
 

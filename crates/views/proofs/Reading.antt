@@ -1,4 +1,4 @@
--- What the code reads of an entry is what there is: out of the bytes of a section, and what a found entry tells. Assumes nothing.
+-- What the code reads of an entry is what there is: out of the bytes of a section, and what a found entry tells.
 use Prim.Native.Nat.{ℕ, _/_, _≤_, _<_}
 use mathlib.Core.Path.{_≡_, refl, sym, ap, _∙_}
 use mathlib.Core.List.{List}

@@ -1,4 +1,4 @@
--- The decision over the tag's number answers what the record's kind shows. Assumes nothing.
+-- The decision over the tag's number answers what the record's kind shows.
 use Prim.Native.Nat.{ℕ, suc, _≤_, _<_}
 use mathlib.Core.Path.{_≡_, refl, sym, ap, _∙_}
 use mathlib.Core.Logic.{_⊎_, inl, inr, ⊎-elim}

@@ -1,4 +1,4 @@
--- Ordered and named children, counts, texts. Assumes nothing.
+-- Ordered and named children, counts, texts.
 use Prim.Native.Nat.{ℕ, _+_}
 use mathlib.Core.List.{List, []}
 use mathlib.Core.Bool.{cond, _&&_}
@@ -43,8 +43,8 @@ unfoldable pub textQuery : Sections → Span → TextAnswer
 textQuery s t = cond (shown (length (s .strings)) (t .offset) (t .len)) (text.Text t) text.NotFound
 
 -- the part of the strings that holds it; no part where the query finds none
-unfoldable pub textPart : List ℕ → ℕ → ℕ → List ℕ
-textPart strings at len = cond (shown (length strings) at len) (partAt strings at len) []
+unfoldable pub shownText : List ℕ → ℕ → ℕ → List ℕ
+shownText strings at len = cond (shown (length strings) at len) (partAt strings at len) []
 
 -- document 01's number for an answer
 abbrev pub foundNumber : Found → ℕ
@@ -65,5 +65,5 @@ textNumber text.NotFound = 18
 
 -- names on an `unfolding` line what a computation with this module needs
 unfoldable pub childrens : Unit {0}
-unfolding childCountOf namedCountOf childQuery namedEntry namedQuery textQuery textPart views sections
+unfolding childCountOf namedCountOf childQuery namedEntry namedQuery textQuery shownText views sections
 childrens = tt

@@ -1,4 +1,4 @@
--- Entries of the sections, where there are such: what the queries read. Assumes nothing.
+-- Entries of the sections, where there are such: what the queries read.
 use Prim.Native.Nat.{ℕ, _/_}
 use mathlib.Core.List.{List}
 use mathlib.Core.Bool.{cond}

@@ -1,12 +1,12 @@
--- The entries of a list value, from its payload and the strings; definitions and items by number. Assumes nothing.
+-- The entries of a list value, from its payload and the strings; definitions and items by number.
 use Prim.Native.Nat.{ℕ, _+_, _*_}
 use mathlib.Core.List.{List, []}
 use mathlib.Core.Bool.{cond, _&&_}
 use lib.ListN.{length}
 use lib.Dec.{leb, ltb}
 use Rattle.words.specs.Words.{wordAt, words}
-use Rattle.image.specs.Sections.{Sections, definitionCount, itemCount, definitionWord, itemWord, textIn, sections}
-use Rattle.index.specs.Definitions.{firstItem, itemsOf}
+use Rattle.image.specs.Sections.{Sections, definitionCount, itemCount, definitionWord, itemWord, textOrEmpty, sections}
+use Rattle.index.specs.Definitions.{firstItem, numberOfItems}
 use Rattle.views.specs.declared.Span.{Span}
 use Rattle.views.specs.declared.EntryAnswer.{EntryAnswer}
 use Rattle.views.specs.declared.EntryAnswer.the-variants as entry
@@ -29,7 +29,7 @@ originEntryWord payload j k = wordAt payload (8 + wordAt payload 0 * 20 + j * 8 
 
 -- the payload of a list value, none where it is not inside
 unfoldable pub listPart : Sections → Span → List ℕ
-listPart s t = textIn (s .payload) (t .offset) (t .len)
+listPart s t = textOrEmpty (s .payload) (t .offset) (t .len)
 
 -- item j: optional origin, name, value
 unfoldable pub listEntry : List ℕ → List ℕ → ℕ → EntryAnswer
@@ -47,7 +47,7 @@ listEntry payload strings j =
 
 -- the name of item j, none where there is no such item
 abbrev pub nameIn : List ℕ → EntryAnswer → List ℕ
-nameIn strings (entry.Entry e) = textIn strings (e .name .offset) (e .name .len)
+nameIn strings (entry.Entry e) = textOrEmpty strings (e .name .offset) (e .name .len)
 nameIn strings entry.NotFound = []
 
 unfoldable pub listEntryName : List ℕ → List ℕ → ℕ → List ℕ
@@ -66,7 +66,7 @@ listOrigin payload strings j =
 unfoldable pub definitionQuery : Sections → ℕ → DefinitionAnswer
 definitionQuery s d =
     cond (ltb d (definitionCount s) && shown (length (s .strings)) (definitionWord s d 0) (definitionWord s d 1))
-    (definition.Definition (record { name = span (definitionWord s d 0) (definitionWord s d 1); items = itemsOf s d })) definition.NotFound
+    (definition.Definition (record { name = span (definitionWord s d 0) (definitionWord s d 1); items = numberOfItems s d })) definition.NotFound
 
 -- item k of all
 unfoldable pub itemEntry : Sections → ℕ → ItemAnswer
@@ -76,7 +76,7 @@ itemEntry s k =
 
 -- the j-th item of definition d
 unfoldable pub itemQuery : Sections → ℕ → ℕ → ItemAnswer
-itemQuery s d j = cond (ltb d (definitionCount s) && ltb j (itemsOf s d)) (itemEntry s (firstItem s d + j)) item.NotFound
+itemQuery s d j = cond (ltb d (definitionCount s) && ltb j (numberOfItems s d)) (itemEntry s (firstItem s d + j)) item.NotFound
 
 -- document 01's number for an answer
 abbrev pub entryNumber : EntryAnswer → ℕ

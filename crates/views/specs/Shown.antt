@@ -1,4 +1,4 @@
--- What each part of the code answers for a kind: the clauses of `kindView` by the tag's number. Assumes nothing.
+-- What each part of the code answers for a kind: the clauses of `kindView` by the tag's number.
 use Prim.Native.Nat.{ℕ, _+_, _/_}
 use mathlib.Core.List.{List}
 use mathlib.Core.Bool.{cond}
@@ -6,7 +6,7 @@ use lib.Dec.{leb, eqb}
 use Rattle.names.specs.ControlCommand.{commandNamed}
 use Rattle.names.specs.NativeFunctionCall.{operatorNamed}
 use Rattle.image.specs.declared.NodeRecord.{NodeRecord}
-use Rattle.image.specs.Sections.{textIn}
+use Rattle.image.specs.Sections.{textOrEmpty}
 use Rattle.views.specs.declared.Span.{Span}
 use Rattle.views.specs.declared.ValueView.the-variants as value
 use Rattle.views.specs.declared.NodeKindView.the-variants as kind
@@ -37,8 +37,8 @@ listView payload start len = cond (leb (start + len) payload) (kindly.Kind (kind
 -- the kinds that are made of a text, by the tag
 unfoldable pub withName : ℕ → List ℕ → NodeRecord → Span → KindAnswer
 withName tag strings r t =
-    cond (eqb tag 3) (commandView (textIn strings (t .offset) (t .len)))
-    (cond (eqb tag 6) (operatorView (textIn strings (t .offset) (t .len)))
+    cond (eqb tag 3) (commandView (textOrEmpty strings (t .offset) (t .len)))
+    (cond (eqb tag 6) (operatorView (textOrEmpty strings (t .offset) (t .len)))
     (cond (eqb tag 7) (kindly.Kind (kind.Tag t))
     (cond (eqb tag 11) (kindly.Kind (kind.Value (value.String t)))
     (cond (eqb tag 13) (kindly.Kind (kind.Value (value.DivertTarget t)))

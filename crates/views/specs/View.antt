@@ -1,4 +1,4 @@
--- A node's view: its words turned into fields, as `node_view` does. Assumes nothing.
+-- A node's view: its words turned into fields, as `node_view` does.
 use Prim.Native.Nat.{ℕ, _+_, _/_, _%_}
 use mathlib.Core.List.{List}
 use mathlib.Core.Bool.{Bool, cond, _&&_, not}
@@ -16,7 +16,7 @@ use Rattle.names.specs.ControlCommand.{commandNamed}
 use Rattle.names.specs.NativeFunctionCall.{operatorNamed}
 use Rattle.names.specs.Names.{names}
 use Rattle.image.specs.declared.NodeRecord.{NodeRecord}
-use Rattle.image.specs.Sections.{Sections, present, textIn, inside, sections}
+use Rattle.image.specs.Sections.{Sections, present, textOrEmpty, inside, sections}
 use Rattle.image.specs.Entries.{nodeIn}
 use Rattle.records.specs.Fields.{Kind, Container, Choice, Command as Named, Divert, Glue, Operator as Operation, Tag, BoolValue, IntValue, FloatValue, StringValue, ListValue, TargetValue, PointerValue, Assignment, Reference, Void, Unknown, kindOf, schema}
 use Rattle.views.specs.declared.Span.{Span}
@@ -75,7 +75,7 @@ module _ (strings : List ℕ) (payload : ℕ) (r : NodeRecord) where
   textOf at len = optionalText (length strings) at len
 
   abbrev bytesOfSpan : Span → List ℕ
-  bytesOfSpan t = textIn strings (t .offset) (t .len)
+  bytesOfSpan t = textOrEmpty strings (t .offset) (t .len)
 
   abbrev texted : (Span → KindAnswer) → KindAnswer
   texted g = withText strings r g

@@ -1,7 +1,7 @@
 // Ordered and named children of a container, and texts.
 ghost use mathlib.Core.Path.{_≡_};
 ghost use Rattle.image.specs.Header.{sectionsBy};
-ghost use Rattle.views.specs.Children.{childCountOf, namedCountOf, childQuery, namedEntry, namedQuery, textQuery, textPart};
+ghost use Rattle.views.specs.Children.{childCountOf, namedCountOf, childQuery, namedEntry, namedQuery, textQuery, shownText};
 use crate::Count;
 use crate::Found;
 use crate::NamedAnswer;
@@ -103,7 +103,7 @@ pub fn text_answer(bytes: &[u8], view: ImageView, text: Span) -> TextAnswer
 
 // The part of the strings that holds a text, empty where the query finds none.
 pub fn shown_part(strings: &[u8], text: Span) -> &[u8]
-    ensures { λ r. ⌜ now r ≡ textPart (now (strings .entry)) (text .offset) (text .len) ⌝ }
+    ensures { λ r. ⌜ now r ≡ shownText (now (strings .entry)) (text .offset) (text .len) ⌝ }
 {
     if is_shown(strings.len(), text.offset, text.len) {
         image::text_part(strings, text.offset, text.len)
@@ -114,7 +114,7 @@ pub fn shown_part(strings: &[u8], text: Span) -> &[u8]
 
 // The part of the image that holds a text, empty where the query finds none.
 pub fn text(bytes: &[u8], view: ImageView, text: Span) -> &[u8]
-    ensures { λ r. ⌜ now r ≡ textPart (sectionsBy (now (bytes .entry)) view .strings) (text .offset) (text .len) ⌝ }
+    ensures { λ r. ⌜ now r ≡ shownText (sectionsBy (now (bytes .entry)) view .strings) (text .offset) (text .len) ⌝ }
 {
     shown_part(
         image::section_part(bytes, view.strings, ImageView::STRINGS_SIZE),

@@ -1,4 +1,4 @@
--- Laws of walks, by the tests that the code makes: a step, the loop over components, where a walk starts. Assumes nothing.
+-- Laws of walks, by the tests that the code makes: a step, the loop over components, where a walk starts.
 use Prim.Native.Nat.{ℕ, suc, _+_, _-_, _≤_, _<_}
 use mathlib.Core.Path.{_≡_, refl, sym, ap, _∙_}
 use mathlib.Core.List.{List, [], _∷_}

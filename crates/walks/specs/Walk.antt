@@ -1,4 +1,4 @@
--- A walk along a path. Assumes nothing.
+-- A walk along a path.
 use Prim.Native.Nat.{ℕ, _+_}
 use mathlib.Core.List.{List, [], _∷_}
 use mathlib.Core.Bool.{Bool, true, false, cond, _&&_, not}

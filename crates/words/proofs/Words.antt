@@ -1,4 +1,4 @@
--- Laws of words and their bytes: each gives back the other, lengths, ranges, words of a part. Assumes nothing.
+-- Laws of words and their bytes: each gives back the other, lengths, ranges, words of a part.
 use Prim.Native.Nat.{ℕ, zero, suc, _+_, _*_, _/_, _%_, _≤_, _<_, _^_}
 use mathlib.Core.Path.{_≡_, refl, sym, ap, _∙_}
 use mathlib.Core.Logic.{⊎-elim}

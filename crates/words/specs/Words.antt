@@ -1,4 +1,4 @@
--- Words: unsigned, 32 bits, little-endian; NONE. Assumes nothing.
+-- Words: unsigned, 32 bits, little-endian; NONE.
 use Prim.Native.Nat.{ℕ, _+_, _*_, _/_, _%_}
 use mathlib.Core.List.{List, [], _∷_, _++_}
 use mathlib.Core.Bool.{Bool, cond}

@@ -1,4 +1,6 @@
 // Little-endian words in bytes.
+pub mod output; // output.rt: words written into an output
+
 ghost use mathlib.Core.Path.{_≡_};
 ghost use mathlib.Core.List.{_++_};
 ghost use Prim.Native.Nat.{_+_, _≤_};

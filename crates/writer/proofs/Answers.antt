@@ -1,4 +1,4 @@
--- The writer's number, test by test in the order of the code. Assumes nothing.
+-- The writer's number, test by test in the order of the code.
 use Prim.Native.Nat.{ℕ, zero, suc, _<_}
 use mathlib.Core.Path.{_≡_, refl, sym, ap, _∙_}
 use mathlib.Core.Bool.{Bool, true, false, _&&_}
@@ -13,12 +13,12 @@ use Rattle.image.specs.Header.{inkRight, nodeWords}
 use Rattle.image.specs.Sections.{Sections}
 use Rattle.draft.specs.Draft.{tablesRule, writeWords, reachRule, shapeRule, pathsRule}
 use Rattle.draft.specs.Numbering.{numbering}
-use Rattle.encoder.specs.Strings.{uses}
-use Rattle.encoder.specs.Encode.{imageFor, draftRule, encodeRule, untouched}
-use Rattle.fill.specs.Length.{storedBytes, imageLength}
-use Rattle.fill.proofs.Sized.{length-is}
-use Rattle.fill.proofs.Known.{uses-fewer}
-use Rattle.writer.specs.Answer.{fits}
+use Rattle.draft_image.specs.Strings.{uses}
+use Rattle.draft_image.specs.Encode.{imageFor, draftRule, encodeRule, untouched}
+use Rattle.write_image.specs.Length.{storedBytes, imageLength}
+use Rattle.write_image.proofs.SectionLengths.{length-is}
+use Rattle.write_image.proofs.Premises.{uses-fewer}
+use Rattle.writer.specs.Answer.{fitsOutput}
 use Rattle.writer.proofs.Numbers.{reach-clears, shape-clears, paths-clear, room-clears, both-clear}
 
 -- the tests of 23 while the image is planned: a word can count the texts in use, and say how long the stored ones are
@@ -50,8 +50,8 @@ module _ (ink : ℕ) (s : Sections) (work room : ℕ) where
   rows : (x : ℕ) → ((reachRule s ▸ shapeRule s ▸ pathsRule s) ▸ x) ≡ (reachRule s ▸ shapeRule s ▸ pathsRule s ▸ x)
   rows x = onward _ _ _ ∙ ap (λ (r : ℕ). reachRule s ▸ r) (onward _ _ _)
 
-  no-room : NONE < length (imageFor ink s) → unless (fits ink s room) 23 ≡ 23
-  no-room h = fail (fits ink s room) 23 (go (leb (length (imageFor ink s)) room) (lt-leb (length (imageFor ink s)) NONE h))
+  no-room : NONE < length (imageFor ink s) → unless (fitsOutput ink s room) 23 ≡ 23
+  no-room h = fail (fitsOutput ink s room) 23 (go (leb (length (imageFor ink s)) room) (lt-leb (length (imageFor ink s)) NONE h))
     where
       go : (a : Bool) {b : Bool} → b ≡ false → (a && b) ≡ false
       go true f = f
@@ -59,7 +59,7 @@ module _ (ink : ℕ) (s : Sections) (work room : ℕ) where
 
   -- all tests in one row
   in-row : encodeRule ink s work room
-      ≡ (unless (inkRight ink) 3 ▸ tablesRule s ▸ unless (leb (writeWords s) work) 7 ▸ reachRule s ▸ shapeRule s ▸ pathsRule s ▸ unless (fits ink s room) 23)
+      ≡ (unless (inkRight ink) 3 ▸ tablesRule s ▸ unless (leb (writeWords s) work) 7 ▸ reachRule s ▸ shapeRule s ▸ pathsRule s ▸ unless (fitsOutput ink s room) 23)
   unfolding encodeRule draftRule
   in-row =
       onward _ _ _
@@ -72,33 +72,33 @@ module _ (ink : ℕ) (s : Sections) (work room : ℕ) where
   ink-wrong h = in-row ∙ first (unless (inkRight ink) 3) _ 2 (fail (inkRight ink) 3 h)
 
   module _ (h : inkRight ink ≡ true) where
-    after-ink : encodeRule ink s work room ≡ (tablesRule s ▸ unless (leb (writeWords s) work) 7 ▸ reachRule s ▸ shapeRule s ▸ pathsRule s ▸ unless (fits ink s room) 23)
+    after-ink : encodeRule ink s work room ≡ (tablesRule s ▸ unless (leb (writeWords s) work) 7 ▸ reachRule s ▸ shapeRule s ▸ pathsRule s ▸ unless (fitsOutput ink s room) 23)
     after-ink = in-row ∙ second (unless (inkRight ink) 3) _ (pass (inkRight ink) 3 h)
 
     pub tables-wrong : (tablesRule s ≡ 0 → ⊥) → encodeRule ink s work room ≡ tablesRule s
     tables-wrong d = after-ink ∙ stops (tablesRule s) _ d
 
     module _ (p : tablesRule s ≡ 0) where
-      after-tables : encodeRule ink s work room ≡ (unless (leb (writeWords s) work) 7 ▸ reachRule s ▸ shapeRule s ▸ pathsRule s ▸ unless (fits ink s room) 23)
+      after-tables : encodeRule ink s work room ≡ (unless (leb (writeWords s) work) 7 ▸ reachRule s ▸ shapeRule s ▸ pathsRule s ▸ unless (fitsOutput ink s room) 23)
       after-tables = after-ink ∙ second (tablesRule s) _ p
 
       pub words-few : leb (writeWords s) work ≡ false → encodeRule ink s work room ≡ 7
       words-few q = after-tables ∙ first (unless (leb (writeWords s) work) 7) _ 6 (fail _ 7 q)
 
       module _ (q : leb (writeWords s) work ≡ true) where
-        after-words : encodeRule ink s work room ≡ (reachRule s ▸ shapeRule s ▸ pathsRule s ▸ unless (fits ink s room) 23)
+        after-words : encodeRule ink s work room ≡ (reachRule s ▸ shapeRule s ▸ pathsRule s ▸ unless (fitsOutput ink s room) 23)
         after-words = after-tables ∙ second (unless (leb (writeWords s) work) 7) _ (pass _ 7 q)
 
         -- the work words are cleared, whatever is answered from here on
         pub cleared : untouched (encodeRule ink s work room) ≡ false
         cleared =
             ap untouched after-words
-            ∙ both-clear _ _ (reach-clears s) (both-clear _ _ (shape-clears s) (both-clear _ _ (paths-clear s) (room-clears (fits ink s room))))
+            ∙ both-clear _ _ (reach-clears s) (both-clear _ _ (shape-clears s) (both-clear _ _ (paths-clear s) (room-clears (fitsOutput ink s room))))
 
         module _ (ten : s .stride ≡ nodeWords) where
           -- an image has more bytes than it uses texts, and is longer than its strings
           too-long : reachRule s ≡ 0 → (b c : Bool) → leb (length (uses s (numbering s))) NONE ≡ b → leb (length (storedBytes s)) NONE ≡ c
-              → ((unless b 23 ▸ unless c 23) ≡ 0 → ⊥) → unless (fits ink s room) 23 ≡ (unless b 23 ▸ unless c 23)
+              → ((unless b 23 ▸ unless c 23) ≡ 0 → ⊥) → unless (fitsOutput ink s room) 23 ≡ (unless b 23 ▸ unless c 23)
           unfolding unless _▸_
           too-long r true true e f d = absurd (d refl)
           too-long r false c e f d =
@@ -108,13 +108,13 @@ module _ (ink : ℕ) (s : Sections) (work room : ℕ) where
           -- the plan's refusal
           pub plan-wrong : (planned s ≡ 0 → ⊥) → encodeRule ink s work room ≡ planned s
           plan-wrong d =
-              after-words ∙ sym (rows (unless (fits ink s room) 23))
-              ∙ alike (reachRule s ▸ shapeRule s ▸ pathsRule s) (lengthsRule s) (unless (fits ink s room) 23) (λ e. d (sym (rows _) ∙ e))
+              after-words ∙ sym (rows (unless (fitsOutput ink s room) 23))
+              ∙ alike (reachRule s ▸ shapeRule s ▸ pathsRule s) (lengthsRule s) (unless (fitsOutput ink s room) 23) (λ e. d (sym (rows _) ∙ e))
               (λ e. too-long (both _ _ e .0) (leb (length (uses s (numbering s))) NONE) (leb (length (storedBytes s)) NONE) refl refl)
               ∙ rows (lengthsRule s)
 
         -- the plan is made: what is left is the room
-        pub room-decides : planned s ≡ 0 → encodeRule ink s work room ≡ unless (fits ink s room) 23
+        pub room-decides : planned s ≡ 0 → encodeRule ink s work room ≡ unless (fitsOutput ink s room) 23
         room-decides e =
-            after-words ∙ sym (rows (unless (fits ink s room) 23))
+            after-words ∙ sym (rows (unless (fitsOutput ink s room) 23))
             ∙ second (reachRule s ▸ shapeRule s ▸ pathsRule s) _ (both _ _ (rows (lengthsRule s) ∙ e) .0)

@@ -1,8 +1,8 @@
 pub mod Numbers
 pub mod Answers
-pub mod Readying
+pub mod PlanToImage
 pub mod Outcomes
-pub mod Putting
-pub mod Writing
-pub mod Lending
-pub mod Promised
+pub mod ImageOutput
+pub mod PlannedImage
+pub mod WorkWords
+pub mod Promises

@@ -1,4 +1,4 @@
--- Which numbers the rules of a draft give: what holds of 0 and of a rule's number holds of its answer. Assumes nothing.
+-- Which numbers the rules of a draft give: what holds of 0 and of a rule's number holds of its answer.
 use Prim.Native.Nat.{ℕ, zero, suc}
 use mathlib.Core.Path.{_≡_, refl}
 use mathlib.Core.Bool.{Bool, true, false}
@@ -6,8 +6,8 @@ use native.Mathlib.Omega.{arith}
 use Rattle.laws.specs.Refusal.{unless, countsAs, _▸_, firstOf}
 use Rattle.image.specs.Sections.{Sections, nodeCount, childCount, namedCount, definitionCount, itemCount}
 use Rattle.draft.specs.Draft.{draftNodeRule, draftChildRule, draftNamedRule, draftDefinitionRule, draftItemRule, tablesRule, reachRule, relationRule, orderRule, shapeRule, pathRule, pathsRule}
-use Rattle.index.specs.Definitions.{itemsOf}
-use Rattle.encoder.specs.Encode.{untouched}
+use Rattle.index.specs.Definitions.{numberOfItems}
+use Rattle.draft_image.specs.Encode.{untouched}
 
 -- P holds of 0 and of k
 module _ (P : ℕ → Type 0) (k : ℕ) (none : P 0) (some : P k) where
@@ -90,7 +90,7 @@ module _ (s : Sections) where
       (of-both Cleared _ _
       (of-first Cleared refl (nodeCount s) (relationRule s) (λ i. of-both Cleared _ _ (of-count Cleared 21 refl refl _) (of-count Cleared 21 refl refl _)))
       (of-first Cleared refl (definitionCount s) (orderRule s)
-      (λ d. of-both Cleared _ _ (of-test Cleared 21 refl refl _) (of-first Cleared refl (itemsOf s d) _ (λ j. of-test Cleared 21 refl refl _)))))
+      (λ d. of-both Cleared _ _ (of-test Cleared 21 refl refl _) (of-first Cleared refl (numberOfItems s d) _ (λ j. of-test Cleared 21 refl refl _)))))
 
   pub paths-clear : untouched (pathsRule s) ≡ false
   unfolding Cleared pathsRule pathRule

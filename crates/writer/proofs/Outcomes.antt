@@ -1,4 +1,4 @@
--- What each end of the writer comes to: the answer, the output and the work words. Assumes nothing.
+-- What each end of the writer comes to: the answer, the output and the work words.
 use Prim.Native.Nat.{ℕ, zero, suc, _+_, _≤_, _<_}
 use mathlib.Core.Path.{_≡_, refl, sym, ap, _∙_, subst}
 use mathlib.Core.List.{List, [], _++_}
@@ -13,17 +13,17 @@ use Rattle.words.specs.Words.{NONE}
 use Rattle.image.specs.Header.{inkRight, nodeWords}
 use Rattle.image.specs.Sections.{Sections}
 use Rattle.draft.specs.Draft.{tablesRule, writeWords, reachRule}
-use Rattle.encoder.specs.Encode.{imageFor, encodeRule, outAfter, untouched, encodeWorkAfter}
-use Rattle.outputs.specs.Output.{over}
-use Rattle.plan.specs.declared.Uses.{Uses}
-use Rattle.plan.specs.Planned.{planRule, Prepared}
-use Rattle.fill.specs.declared.size.Size.{Size}
-use Rattle.fill.specs.declared.size.Size.the-variants.{Bytes, TooLong}
-use Rattle.fill.specs.Length.{lengthBy, sizeOf, imageLength, entriesOf}
-use Rattle.fill.proofs.Sized.{length-is}
+use Rattle.draft_image.specs.Encode.{imageFor, encodeRule, outAfter, untouched, encodeWorkAfter}
+use Rattle.words.specs.Output.{over}
+use Rattle.write_plan.specs.declared.Uses.{Uses}
+use Rattle.write_plan.specs.Planned.{planRule, Prepared}
+use Rattle.write_image.specs.declared.size.Size.{Size}
+use Rattle.write_image.specs.declared.size.Size.the-variants.{Bytes, TooLong}
+use Rattle.write_image.specs.Length.{lengthBy, sizeOf, imageLength, entriesOf}
+use Rattle.write_image.proofs.SectionLengths.{length-is}
 use Rattle.writer.specs.declared.Encoded.{Encoded}
 use Rattle.writer.specs.declared.Encoded.the-variants.{Written, Refused}
-use Rattle.writer.specs.Answer.{encodedBy, encodedOf, fits, Answered, WrittenWith}
+use Rattle.writer.specs.Answer.{encodedBy, encodedOf, fitsOutput, Answered, WrittenWith}
 use Rattle.writer.proofs.Answers.{ink-wrong, tables-wrong, words-few, cleared, plan-wrong, room-decides}
 use Rattle.writer.proofs.Numbers.{tables-leave}
 
@@ -69,31 +69,31 @@ module _ (ink : ℕ) (s : Sections) (z : s .stride ≡ nodeWords) (p : tablesRul
 
   -- an image that does not fit
   no-room : (a b : Bool) → leb (length image) (length out₀) ≡ a → leb (length image) NONE ≡ b → (a && b) ≡ false
-      → Answered ink s (unless (fits ink s (length out₀)) 23) out₀ out₀ (Refused 23)
-  no-room a b e f n = refused ink s (unless (fits ink s (length out₀)) 23) 23 out₀ (fail (fits ink s (length out₀)) 23 (rw (e, f) n)) (λ k. omega arith)
+      → Answered ink s (unless (fitsOutput ink s (length out₀)) 23) out₀ out₀ (Refused 23)
+  no-room a b e f n = refused ink s (unless (fitsOutput ink s (length out₀)) 23) 23 out₀ (fail (fitsOutput ink s (length out₀)) 23 (rw (e, f) n)) (λ k. omega arith)
 
-  pub image-long : NONE < imageLength s → Answered ink s (unless (fits ink s (length out₀)) 23) out₀ out₀ (Refused 23)
+  pub image-long : NONE < imageLength s → Answered ink s (unless (fitsOutput ink s (length out₀)) 23) out₀ out₀ (Refused 23)
   image-long h = by (leb (length image) (length out₀)) refl
     where
       long : leb (length image) NONE ≡ false
       long = lt-leb (length image) NONE (omega (arith, length-is ink s z p q))
 
-      by : (a : Bool) → leb (length image) (length out₀) ≡ a → Answered ink s (unless (fits ink s (length out₀)) 23) out₀ out₀ (Refused 23)
+      by : (a : Bool) → leb (length image) (length out₀) ≡ a → Answered ink s (unless (fitsOutput ink s (length out₀)) 23) out₀ out₀ (Refused 23)
       by true e = no-room true false e long refl
       by false e = no-room false false e long refl
 
-  pub image-short : imageLength s ≤ NONE → length out₀ < imageLength s → Answered ink s (unless (fits ink s (length out₀)) 23) out₀ out₀ (Refused 23)
+  pub image-short : imageLength s ≤ NONE → length out₀ < imageLength s → Answered ink s (unless (fitsOutput ink s (length out₀)) 23) out₀ out₀ (Refused 23)
   image-short g h =
       no-room false true (lt-leb (length image) (length out₀) (omega (arith, length-is ink s z p q))) (le-leb (length image) NONE (omega (arith, length-is ink s z p q)))
       refl
 
   pub image-put : (m : ℕ) (out : List ℕ) → imageLength s ≤ NONE → imageLength s ≤ length out₀ → m ≡ imageLength s → out ≡ over image out₀
-      → Answered ink s (unless (fits ink s (length out₀)) 23) out₀ out (Written m)
+      → Answered ink s (unless (fitsOutput ink s (length out₀)) 23) out₀ out (Written m)
   unfolding encodedBy outAfter
   image-put m out g h e o =
       let room : leb (length image) (length out₀) ≡ true = le-leb (length image) (length out₀) (omega (arith, length-is ink s z p q)) in
       let word : leb (length image) NONE ≡ true = le-leb (length image) NONE (omega (arith, length-is ink s z p q)) in
-      let r : unless (fits ink s (length out₀)) 23 ≡ 0 = pass (fits ink s (length out₀)) 23 (rw (room, word) refl) in
+      let r : unless (fitsOutput ink s (length out₀)) 23 ≡ 0 = pass (fitsOutput ink s (length out₀)) 23 (rw (room, word) refl) in
       record { answer = rw r (ap Written (e ∙ sym (length-is ink s z p q))); output = rw r o }
 
 -- ---- with the work words that a draft needs
@@ -109,7 +109,7 @@ module _ (ink : ℕ) (s : Sections) (z : s .stride ≡ nodeWords) (p : tablesRul
       refused ink s (encodeRule ink s work (length out₀)) k out₀ (plan-wrong ink s work (length out₀) i p (enough work h) z (λ q. d (sym e ∙ q)) ∙ e) d
 
   -- the room decides
-  pub plan-made : planRule s ≡ 0 → (out : List ℕ) (a : Encoded) → Answered ink s (unless (fits ink s (length out₀)) 23) out₀ out a → WrittenWith ink s out₀ out a
+  pub plan-made : planRule s ≡ 0 → (out : List ℕ) (a : Encoded) → Answered ink s (unless (fitsOutput ink s (length out₀)) 23) out₀ out a → WrittenWith ink s out₀ out a
   unfolding planRule
   plan-made e out a x work h =
       subst (λ (r : ℕ). Answered ink s r out₀ out a) (sym (room-decides ink s work (length out₀) i p (enough work h) e)) x

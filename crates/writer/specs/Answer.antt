@@ -1,4 +1,4 @@
--- What the writer answers: the length of the image, or the number of the first rule that is broken. Assumes nothing.
+-- What the writer answers: the length of the image, or the number of the first rule that is broken.
 use Prim.Native.Nat.{ℕ, zero, suc, _≤_}
 use mathlib.Core.Path.{_≡_}
 use mathlib.Core.List.{List}
@@ -8,7 +8,7 @@ use lib.Dec.{leb}
 use Rattle.words.specs.Words.{NONE}
 use Rattle.image.specs.Sections.{Sections}
 use Rattle.draft.specs.Draft.{writeWords}
-use Rattle.encoder.specs.Encode.{imageFor, encodeRule, outAfter, encodes}
+use Rattle.draft_image.specs.Encode.{imageFor, encodeRule, outAfter, encodes}
 use Rattle.writer.specs.declared.Encoded.{Encoded}
 use Rattle.writer.specs.declared.Encoded.the-variants.{Written, Refused}
 
@@ -29,8 +29,8 @@ encodedNumber (Refused r) = r
 -- ---- from step to step
 
 -- the image fits the output, and a word can say how long it is
-abbrev pub fits : ℕ → Sections → ℕ → Bool
-fits ink s room = leb (length (imageFor ink s)) room && leb (length (imageFor ink s)) NONE
+abbrev pub fitsOutput : ℕ → Sections → ℕ → Bool
+fitsOutput ink s room = leb (length (imageFor ink s)) room && leb (length (imageFor ink s)) NONE
 
 -- the answer and the output where the number is r
 pub record Answered (ink : ℕ) (s : Sections) (r : ℕ) (out₀ out : List ℕ) (a : Encoded) : Type 0 where

@@ -1,16 +1,16 @@
--- What is handed from the plan to the writing of an image. Assumes nothing.
+-- What is handed from the plan to the writing of an image.
 use Prim.Native.Nat.{ℕ, _+_, _*_, _-_}
 use mathlib.Core.Path.{_≡_}
 use mathlib.Core.List.{List}
 use lib.ListN.{length}
 use Rattle.image.specs.Sections.{Sections, nodeCount, childCount, namedCount, definitionCount, itemCount}
-use Rattle.keys.specs.declared.Tables.{Tables}
-use Rattle.sections.specs.declared.numbers.Numbers.{Numbers}
-use Rattle.plan.specs.declared.Layout.{Layout}
-use Rattle.plan.specs.declared.Uses.{Uses}
+use Rattle.write_text_keys.specs.declared.Tables.{Tables}
+use Rattle.write_numbering.specs.declared.numbers.Numbers.{Numbers}
+use Rattle.write_plan.specs.declared.Layout.{Layout}
+use Rattle.write_plan.specs.declared.Uses.{Uses}
 use Rattle.draft.specs.Draft.{tablesRule, writeWords}
-use Rattle.plan.specs.Planned.{layoutOf, planRule, Prepared}
-use Rattle.fill.specs.declared.size.Entries.{Entries}
+use Rattle.write_plan.specs.Planned.{layoutOf, planRule, Prepared}
+use Rattle.write_image.specs.declared.size.Entries.{Entries}
 
 -- where the tables lie, by a draft's counts and the work words that it needs
 abbrev pub layoutBy : ℕ → ℕ → ℕ → ℕ → ℕ → ℕ → Layout

@@ -1,5 +1,5 @@
 -- What holds of every draft that `encode` has written: demand 3 of the output up to the length reported, with no premise but that words
--- are words and bytes are bytes. Assumes nothing.
+-- are words and bytes are bytes.
 use Prim.Native.Nat.{ℕ, _≤_, _<_}
 use mathlib.Core.Path.{_≡_}
 use mathlib.Core.List.{List}
@@ -10,7 +10,7 @@ use Rattle.image.specs.Header.{nodeWords, sectionsOf}
 use Rattle.index.specs.Paths.{canonicalPath}
 use Rattle.load.specs.Load.{loadRule, loadWords}
 use Rattle.draft.specs.Numbering.{numbering, oldOf}
-use Rattle.encoder.specs.Encode.{imageFor, encodeRule, outAfter}
+use Rattle.draft_image.specs.Encode.{imageFor, encodeRule, outAfter}
 use Rattle.promises.specs.Promises.{Sound, NamedOnce}
 use Rattle.written.specs.Written.{DraftWords}
 use Rattle.written_views.specs.Views.{SameViews}

@@ -3,26 +3,26 @@ ghost use mathlib.Core.Path.{_≡_};
 ghost use lib.ListN.{length};
 ghost use Rattle.draft.specs.Source.{draftOf};
 ghost use Prim.Native.Nat.{_+_, _*_, _≤_};
-ghost use Rattle.writer.specs.Answer.{encodedOf, fits, Answered, WrittenWith};
+ghost use Rattle.writer.specs.Answer.{encodedOf, fitsOutput, Answered, WrittenWith};
 ghost use mathlib.Core.Bool.{true};
 ghost use Rattle.draft.specs.Draft.{tablesRule, writeWords};
 ghost use Rattle.image.specs.Header.{inkRight};
-ghost use Rattle.encoder.specs.Encode.{imageFor, encodeRule, outAfter, encodeWorkAfter};
+ghost use Rattle.draft_image.specs.Encode.{imageFor, encodeRule, outAfter, encodeWorkAfter};
 ghost use Rattle.laws.specs.Refusal.{unless};
 ghost use Rattle.writer.specs.Planned.{layoutBy, Drawn};
 use draft::Needed;
 use draft::tables;
-use fill::size;
-use fill::size::Entries;
-use fill::size::Size;
 use image::refusal::BAD_INK_VERSION;
 use image::refusal::NO_ROOM;
 use image::refusal::TOO_FEW_WORDS;
-use keys::Tables;
-use plan::Layout;
-use plan::Plan;
-use plan::Uses;
-use sections::numbers::Numbers;
+use write_image::size;
+use write_image::size::Entries;
+use write_image::size::Size;
+use write_numbering::numbers::Numbers;
+use write_plan::Layout;
+use write_plan::Plan;
+use write_plan::Uses;
+use write_text_keys::Tables;
 
 // The length of the image that was written, or document 01's number.
 pub enum Encoded {
@@ -68,7 +68,7 @@ fn put_image(
     out: &mut [u8],
 ) -> Encoded
     requires { ⌜ Drawn (draftOf (now nodes) (now children) (now named) (now definitions) (now items) (now payload) (now strings)) (now work) l uses ⌝ }
-    ensures { λ r. ⌜ Answered ink (draftOf (now (nodes .entry)) (now (children .entry)) (now (named .entry)) (now (definitions .entry)) (now (items .entry)) (now (payload .entry)) (now (strings .entry))) (unless (fits ink (draftOf (now (nodes .entry)) (now (children .entry)) (now (named .entry)) (now (definitions .entry)) (now (items .entry)) (now (payload .entry)) (now (strings .entry))) (length (now (out .entry)))) 23) (now (out .entry)) (now (out .exit)) r ⌝ }
+    ensures { λ r. ⌜ Answered ink (draftOf (now (nodes .entry)) (now (children .entry)) (now (named .entry)) (now (definitions .entry)) (now (items .entry)) (now (payload .entry)) (now (strings .entry))) (unless (fitsOutput ink (draftOf (now (nodes .entry)) (now (children .entry)) (now (named .entry)) (now (definitions .entry)) (now (items .entry)) (now (payload .entry)) (now (strings .entry))) (length (now (out .entry)))) 23) (now (out .entry)) (now (out .exit)) r ⌝ }
 {
     let entries = Entries {
         nodes: nodes.len() / 10,
@@ -97,7 +97,7 @@ fn put_image(
                 paths: l.paths,
                 lengths: l.lengths,
             };
-            fill::fill(
+            write_image::fill(
                 ink,
                 nodes,
                 children,
@@ -142,7 +142,7 @@ fn write(
         payload.len(),
         work.len(),
     );
-    match plan::prepare(
+    match write_plan::prepare(
         nodes,
         children,
         named,

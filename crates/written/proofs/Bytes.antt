@@ -1,4 +1,4 @@
--- The bytes of a written image are bytes, whatever the draft's words say. Assumes nothing.
+-- The bytes of a written image are bytes, whatever the draft's words say.
 use Prim.Native.Nat.{ℕ, zero, suc, _+_, _<_}
 use mathlib.Core.List.{List, [], _∷_, _++_, map}
 use mathlib.Core.Bool.{Bool, true, false, cond}
@@ -17,15 +17,15 @@ use Rattle.image.specs.Sections.{Sections, nodeCount, definitionCount, parentOf
 use Rattle.image.specs.Header.{magic}
 use Rattle.image.specs.Encoding.{sectionOut, bodyOf, headerWith, imageOf}
 use Rattle.records.specs.Fields.{Field, text, optional, command, operator, node, optionalNode, container, optionalContainer, plain, atMost, children, named, payload, wrong}
-use Rattle.records.specs.Records.{fieldsAt, namedOf, listItems, listOrigins, listItemWord, listOriginWord}
+use Rattle.records.specs.Records.{fieldsAt, numberOfNamed, listItems, listOrigins, listItemWord, listOriginWord}
 use Rattle.tree.specs.Tree.{namedText}
 use Rattle.tree.proofs.Members.{All, all-append}
 use Rattle.index.specs.Paths.{nameless, pieceOf, piece, joined, pathFrom}
-use Rattle.index.specs.Definitions.{itemsOf, itemTextOf}
+use Rattle.index.specs.Definitions.{numberOfItems, itemTextOf}
 use Rattle.draft.specs.Numbering.{numbering, oldOf}
-use Rattle.encoder.specs.Strings.{pathOf, byPath, textIf, listTexts, fieldTexts, nodeTexts, namedTexts, definitionTexts, uses, distinct, storedTexts}
-use Rattle.encoder.specs.Written.{listOut, payloadOut, writtenWith, written}
-use Rattle.encoder.specs.Encode.{imageFor}
+use Rattle.draft_image.specs.Strings.{pathOf, byPath, textIf, listTexts, fieldTexts, nodeTexts, namedTexts, definitionTexts, uses, distinct, storedTexts}
+use Rattle.draft_image.specs.Written.{listOut, payloadOut, writtenWith, written}
+use Rattle.draft_image.specs.Encode.{imageFor}
 use Rattle.written.specs.Written.{DraftWords, ImageBytes}
 use Rattle.written.proofs.Lists.{all-joined, all-below}
 use Rattle.written.proofs.Header.{eight}
@@ -157,9 +157,9 @@ module _ (s : Sections) (b : DraftWords s) where
       (each-append (nodes ++ entries) definitions
       (each-append nodes entries
       (each-join (nodeCount s) _ (λ j. each-flat (fieldTexts s (oldOf order j)) (fieldsAt s (oldOf order j)) (field-bytes (oldOf order j))))
-      (each-join (nodeCount s) _ (λ j. each-join (namedOf s (oldOf order j)) (λ k. namedText s (oldOf order j) k ∷ []) (λ k. (part-bytes _ _, tt)))))
+      (each-join (nodeCount s) _ (λ j. each-join (numberOfNamed s (oldOf order j)) (λ k. namedText s (oldOf order j) k ∷ []) (λ k. (part-bytes _ _, tt)))))
       (each-join (definitionCount s) _
-      (λ d. (part-bytes _ _, each-join (itemsOf s d) (λ j. itemTextOf s d j ∷ []) (λ j. (part-bytes _ _, tt))))))
+      (λ d. (part-bytes _ _, each-join (numberOfItems s d) (λ j. itemTextOf s d j ∷ []) (λ j. (part-bytes _ _, tt))))))
       (each-map (pathOf s order) (byPath s order) (λ j. path-bytes (nodeCount s) (oldOf order j)))
 
   strings-bytes : All Byte (written s .strings)

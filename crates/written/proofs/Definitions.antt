@@ -1,4 +1,4 @@
--- The list definitions of a written image and their items. Assumes nothing.
+-- The list definitions of a written image and their items.
 use Prim.Native.Nat.{ℕ, _+_, _≤_, _<_}
 use mathlib.Core.Path.{_≡_, sym, ap, _∙_}
 use mathlib.Core.List.{List}
@@ -11,11 +11,11 @@ use borrow.Author.Tests.{eqb-true, eq-eqb, le-leb, leb-true}
 use Rattle.laws.proofs.First.{pass, then, first-of}
 use Rattle.image.specs.Sections.{Sections, definitionCount, itemCount, definitionWord, itemWord}
 use Rattle.tree.proofs.Members.{both-true, and-true, sum-ext}
-use Rattle.index.specs.Definitions.{definitionText, firstItem, itemsOf, itemText, itemTextOf, goodItem, itemsBefore, itemRule, itemRuleFrom, definitionRule, itemsUsedUp, definitionsRule}
-use Rattle.encoder.specs.Strings.{offsetOf}
-use Rattle.encoder.specs.Written.{definitionOut, itemOut}
+use Rattle.index.specs.Definitions.{definitionText, firstItem, numberOfItems, itemText, itemTextOf, goodItem, itemsBefore, itemRule, itemRuleFrom, definitionRule, itemsUsedUp, definitionsRule}
+use Rattle.draft_image.specs.Strings.{offsetOf}
+use Rattle.draft_image.specs.Written.{definitionOut, itemOut}
 use Rattle.written.proofs.Texts.{good-utf8}
-use Rattle.encoder.proofs.Blocks.{w, definition-count, definition-word, item-count, item-word}
+use Rattle.draft_image.proofs.Blocks.{w, definition-count, definition-word, item-count, item-word}
 use Rattle.written.proofs.Fields.{Given}
 use Rattle.written.proofs.Rules.{good-at, text-at}
 use Rattle.written.proofs.Tree.{rising-same}
@@ -39,7 +39,7 @@ module _ {s : Sections} {order : List ℕ} {kept : List (List ℕ)} (g : Given s
     unfolding definitionOut
     first-item = definition-word s order kept d 2 h (omega arith)
 
-    pub items-of : itemsOf v d ≡ itemsOf s d
+    pub items-of : numberOfItems v d ≡ numberOfItems s d
     unfolding definitionOut
     items-of = definition-word s order kept d 3 h (omega arith)
 
@@ -47,18 +47,18 @@ module _ {s : Sections} {order : List ℕ} {kept : List (List ℕ)} (g : Given s
     definition-text = text-at g (definitionText s d) (definitionWord v d 0) (definitionWord v d 1) (g .stored .definition d h) at-word len-word
 
     -- the items are inside, and start where those before end
-    pub items-right : (firstItem s d + itemsOf s d ≤ itemCount s) × (firstItem s d ≡ itemsBefore s d)
+    pub items-right : (firstItem s d + numberOfItems s d ≤ itemCount s) × (firstItem s d ≡ itemsBefore s d)
     items-right =
-        let p = both-true (leb (firstItem s d + itemsOf s d) (itemCount s)) _ (g .taken .definitions d h .1) in
+        let p = both-true (leb (firstItem s d + numberOfItems s d) (itemCount s)) _ (g .taken .definitions d h .1) in
         (leb-true _ _ (p .0), eqb-true _ _ (p .1))
 
   items-before : (d : ℕ) → d ≤ definitionCount s → itemsBefore v d ≡ itemsBefore s d
-  items-before d h = sum-ext d (itemsOf v) (itemsOf s) (λ e q. items-of e (le-trans q h))
+  items-before d h = sum-ext d (numberOfItems v) (numberOfItems s) (λ e q. items-of e (le-trans q h))
 
   -- ---- the items of definition d
 
   module _ (d : ℕ) (h : d < definitionCount s) where
-    module _ (j : ℕ) (q : j < itemsOf s d) where
+    module _ (j : ℕ) (q : j < numberOfItems s d) where
       abbrev at : ℕ
       at = firstItem s d + j
 
@@ -84,7 +84,7 @@ module _ {s : Sections} {order : List ℕ} {kept : List (List ℕ)} (g : Given s
           ap (goodItem v) item-at
           ∙ good-at g (itemTextOf s d j) (itemWord v at 0) (itemWord v at 1) (g .stored .item d h j q) (good-utf8 s _ _ (g .taken .items at item-inside)) item-at-word item-len-word
 
-    item-kept : (j : ℕ) → j < itemsOf s d → itemRule v d j ≡ 0
+    item-kept : (j : ℕ) → j < numberOfItems s d → itemRule v d j ≡ 0
     unfolding itemRuleFrom
     item-kept j q =
         then _ _ (pass _ 17 (item-good j q))
@@ -99,9 +99,9 @@ module _ {s : Sections} {order : List ℕ} {kept : List (List ℕ)} (g : Given s
         (then _ _ (pass _ 17 (rising-same d (definitionText v) (definitionText s) (λ k l. definition-text k (omega arith)) (g .taken .rising-definitions d h)))
         (then _ _
         (pass _ 11 (and-true _ _
-        (le-leb (firstItem v d + itemsOf v d) (itemCount v) (omega (arith, first-item d h, items-of d h, item-count s order kept, items-right d h .0)))
+        (le-leb (firstItem v d + numberOfItems v d) (itemCount v) (omega (arith, first-item d h, items-of d h, item-count s order kept, items-right d h .0)))
         (eq-eqb _ _ (first-item d h ∙ items-right d h .1 ∙ sym (items-before d (omega arith))))))
-        (first-of (itemsOf v d) (itemRule v d) (λ j q. item-kept j (omega (arith, items-of d h))))))
+        (first-of (numberOfItems v d) (itemRule v d) (λ j q. item-kept j (omega (arith, items-of d h))))))
 
   items-used : itemsUsedUp v ≡ true
   unfolding itemsUsedUp

@@ -1,4 +1,4 @@
--- What the rules say of a draft that the writer takes, and of its numbering. Assumes nothing.
+-- What the rules say of a draft that the writer takes, and of its numbering.
 use Prim.Native.Nat.{ℕ, zero, _≤_, _<_}
 use mathlib.Core.Path.{_≡_}
 use mathlib.Core.Bool.{true}
@@ -15,12 +15,12 @@ use Rattle.records.specs.Records.{fieldsRule, parentRule, rootRight, usedUp}
 use Rattle.tree.specs.Tree.{entriesRule, readWalk}
 use Rattle.tree.proofs.Members.{both-true}
 use Rattle.tree.proofs.Numbers.{EachOnce}
-use Rattle.index.specs.Definitions.{goodDefinition, goodItem, itemsRight, itemsOf, itemsUsedUp, definitionText, itemTextOf}
+use Rattle.index.specs.Definitions.{goodDefinition, goodItem, itemsRight, numberOfItems, itemsUsedUp, definitionText, itemTextOf}
 use Rattle.draft.specs.Draft.{newPath, pathRule, pathsRule, tablesRule, reachRule, shapeRule}
 use Rattle.draft.specs.Numbering.{numbering}
 use Rattle.draft.proofs.Rules.{tables, shape}
-use Rattle.draft.proofs.Reached.{reached, numbered as draft-numbered}
-use Rattle.encoder.specs.Encode.{imageFor, draftRule, encodeRule}
+use Rattle.draft.proofs.ReachedNodes.{reached, numbered as draft-numbered}
+use Rattle.draft_image.specs.Encode.{imageFor, draftRule, encodeRule}
 
 pub record Taken (s : Sections) : Type 0 where
   pub some : zero < nodeCount s
@@ -34,7 +34,7 @@ pub record Taken (s : Sections) : Type 0 where
   pub parents : (i : ℕ) → i < nodeCount s → parentRule s i ≡ 0
   pub entries : (i : ℕ) → i < nodeCount s → entriesRule s i ≡ 0
   pub rising-definitions : (d : ℕ) → d < definitionCount s → rising (definitionText s) d ≡ true
-  pub rising-items : (d : ℕ) → d < definitionCount s → (j : ℕ) → j < itemsOf s d → rising (itemTextOf s d) j ≡ true
+  pub rising-items : (d : ℕ) → d < definitionCount s → (j : ℕ) → j < numberOfItems s d → rising (itemTextOf s d) j ≡ true
   pub paths : (i : ℕ) → i < nodeCount s → newPath s i ≡ true
 
 module _ (ink : ℕ) (s : Sections) (work room : ℕ) (p : encodeRule ink s work room ≡ 0) where

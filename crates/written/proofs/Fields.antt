@@ -1,5 +1,4 @@
 -- What is given of a draft, its numbering, its stored texts and the room; numbers there and back; the words of a written node.
--- Assumes nothing.
 use Prim.Native.Nat.{ℕ, suc, _+_, _*_, _≤_, _<_}
 use mathlib.Core.Path.{_≡_, refl, sym, ap, _∙_, subst}
 use mathlib.Core.List.{List, [], _∷_}
@@ -17,18 +16,18 @@ use Rattle.image.specs.Sections.{Sections, nodeCount, parentOf, placeOf, tagOf,
 use Rattle.image.specs.Header.{nodeWords}
 use Rattle.image.specs.Encoding.{startOf, sectionOut, imageOf}
 use Rattle.records.specs.Fields.{Kind, Container, Choice, Command, Divert, Glue, Operator, Tag, BoolValue, IntValue, FloatValue, StringValue, ListValue, TargetValue, PointerValue, Assignment, Reference, Void, Unknown, kinds, kindOf, fields, Field}
-use Rattle.records.specs.Records.{fieldsAt, childrenOf, namedOf, payloadOf}
+use Rattle.records.specs.Records.{fieldsAt, numberOfChildren, numberOfNamed, payloadLengthOf}
 use Rattle.draft.specs.Numbering.{oldOf, newOf}
-use Rattle.encoder.specs.Written.{fieldStart, fieldWords, putFields, moreWords, nodeOut, startIn}
+use Rattle.draft_image.specs.Written.{fieldStart, fieldWords, putFields, moreWords, nodeOut, startIn}
 use Rattle.written.specs.Written.{DraftWords}
 use Rattle.tree.proofs.Members.{both-true, and-true, sum-ext}
-use Rattle.encoder.proofs.Joined.{sum-below}
+use Rattle.draft_image.proofs.Joins.{sum-below}
 use Rattle.written.proofs.Lists.{not-of}
 use Rattle.tree.proofs.Numbers.{EachOnce, get-below, place-below, get-of-place, place-of-get}
 use Rattle.written.proofs.Header.{image-length}
 use Rattle.written.proofs.Draft.{Taken}
 use Rattle.written.proofs.Texts.{Stored}
-use Rattle.encoder.proofs.Blocks.{w, put-length, nodes-length, node-count, node-word}
+use Rattle.draft_image.proofs.Blocks.{w, put-length, nodes-length, node-count, node-word}
 
 -- the bytes of each section fit an image
 pub record Room (v : Sections) : Type 0 where
@@ -193,20 +192,20 @@ module _ {s : Sections} {order : List ℕ} {kept : List (List ℕ)} (g : Given s
   if-same true x y e = e refl
   if-same false x y e = refl
 
-  pub children-of : (j : ℕ) → j < nodeCount s → childrenOf v j ≡ childrenOf s (oldOf order j)
-  unfolding childrenOf fields fieldWords
+  pub children-of : (j : ℕ) → j < nodeCount s → numberOfChildren v j ≡ numberOfChildren s (oldOf order j)
+  unfolding numberOfChildren fields fieldWords
   children-of j h =
       rw (container-same j h)
       (if-same (isContainer s (oldOf order j)) (f v j 4) (f s (oldOf order j) 4) (λ e. container-reads j h e .1 .1 .0 .1 .0))
 
-  pub named-of : (j : ℕ) → j < nodeCount s → namedOf v j ≡ namedOf s (oldOf order j)
-  unfolding namedOf fields fieldWords
+  pub named-of : (j : ℕ) → j < nodeCount s → numberOfNamed v j ≡ numberOfNamed s (oldOf order j)
+  unfolding numberOfNamed fields fieldWords
   named-of j h =
       rw (container-same j h)
       (if-same (isContainer s (oldOf order j)) (f v j 6) (f s (oldOf order j) 6) (λ e. container-reads j h e .1 .1 .1 .0 .1 .0))
 
-  pub payload-of : (j : ℕ) → j < nodeCount s → payloadOf v j ≡ payloadOf s (oldOf order j)
-  unfolding payloadOf fields fieldWords
+  pub payload-of : (j : ℕ) → j < nodeCount s → payloadLengthOf v j ≡ payloadLengthOf s (oldOf order j)
+  unfolding payloadLengthOf fields fieldWords
   payload-of j h =
       rw (tag-word j h)
       (if-same (eqb (tagOf s (oldOf order j)) 12) (f v j 1) (f s (oldOf order j) 1) (λ e. list-reads j h e .0 .1 .0))

@@ -1,4 +1,4 @@
--- The bytes of an image give back its sections, and break none of the rules 1 to 6. Assumes nothing.
+-- The bytes of an image give back its sections, and break none of the rules 1 to 6.
 use Prim.Native.Nat.{ℕ, zero, suc, _+_, _*_, _^_, _≤_, _<_}
 use mathlib.Core.Path.{_≡_, refl, sym, ap, _∙_}
 use mathlib.Core.List.{List, _++_}
@@ -20,7 +20,7 @@ use Rattle.image.specs.Header.{magic, headerLength, version, nodeWords, section
 use Rattle.image.specs.Encoding.{countOf, sectionOut, startOf, bodyOf, headerWith, imageOf}
 use Rattle.load.specs.Load.{checksumRule}
 use Rattle.tree.proofs.Members.{and-true, all-so, sum-ext}
-use Rattle.encoder.proofs.Joined.{sum-below, join-length, join-part}
+use Rattle.draft_image.proofs.Joins.{sum-below, join-length, join-part}
 use Rattle.written.proofs.Lists.{not-of}
 
 -- one of eight

@@ -1,4 +1,4 @@
--- The path index of a written image: its texts are the containers' canonical paths, and rise. Assumes nothing.
+-- The path index of a written image: its texts are the containers' canonical paths, and rise.
 use Prim.Native.Nat.{ℕ, zero, suc, _+_, _<_}
 use mathlib.Core.Path.{_≡_, refl, sym, ap, _∙_}
 use mathlib.Core.Logic.{⊎-elim}
@@ -21,11 +21,11 @@ use Rattle.index.specs.Paths.{canonicalPath, fitsPath, fits}
 use Rattle.index.specs.Index.{indexText, indexEntryRule, indexRule}
 use Rattle.draft.specs.Draft.{newPath}
 use Rattle.draft.specs.Numbering.{oldOf}
-use Rattle.encoder.specs.Strings.{insertBy, sortBy, byPath, pathOf, offsetOf}
-use Rattle.encoder.specs.Written.{indexOut}
-use Rattle.encoder.proofs.ByPath.{sort-all, those-pass, path-node}
+use Rattle.draft_image.specs.Strings.{insertBy, sortBy, byPath, pathOf, offsetOf}
+use Rattle.draft_image.specs.Written.{indexOut}
+use Rattle.draft_image.proofs.IndexOrder.{sort-all, those-pass, path-node}
 use Rattle.written.proofs.Lists.{or-else}
-use Rattle.encoder.proofs.Blocks.{w, index-count, index-word}
+use Rattle.draft_image.proofs.Blocks.{w, index-count, index-word}
 use Rattle.written.proofs.Fields.{Given, counted, old-in, new-old, inside-written, container-same}
 use Rattle.written.proofs.Rules.{good-at, text-at}
 use Rattle.written.proofs.Tree.{rising-same}

@@ -1,4 +1,4 @@
--- Tests, and every element of a list. Assumes nothing.
+-- Tests, and every element of a list.
 use Prim.Native.Nat.{ℕ, zero, suc, _<_}
 use mathlib.Core.Path.{_≡_, refl, sym}
 use mathlib.Core.Logic.{⊎-elim}

@@ -1,4 +1,4 @@
--- Every draft that the writer takes is written as an image that a load accepts, and what that image holds. Assumes nothing.
+-- Every draft that the writer takes is written as an image that a load accepts, and what that image holds.
 use Prim.Native.Nat.{ℕ, _^_, _≤_, _<_}
 use mathlib.Core.Path.{_≡_, refl, sym, ap, _∙_, subst}
 use mathlib.Core.List.{List, _∷_}
@@ -18,14 +18,14 @@ use Rattle.tree.proofs.Members.{both-true, and-true}
 use Rattle.index.specs.Paths.{canonicalPath}
 use Rattle.load.specs.Load.{checksumRule, leftoverRule, recordsRule, sectionsRule, loadWords, loadRule}
 use Rattle.draft.specs.Numbering.{numbering}
-use Rattle.encoder.specs.Strings.{storedTexts}
-use Rattle.encoder.specs.Written.{written}
-use Rattle.encoder.specs.Encode.{imageFor, encodeRule}
-use Rattle.written.specs.Written.{DraftWords, WrittenLoads, WrittenAccepted, HeaderPasses, RoundTrip, SamePaths, IndexPaths, NoDot}
+use Rattle.draft_image.specs.Strings.{storedTexts}
+use Rattle.draft_image.specs.Written.{written}
+use Rattle.draft_image.specs.Encode.{imageFor, encodeRule}
+use Rattle.written.specs.Written.{DraftWords, WrittenLoads, WrittenAccepted, HeaderPasses, RoundTrip, SamePaths, IndexPaths, IndexHasNoDot}
 use Rattle.written.proofs.Header.{Whole, round-trip, header-passes, checksum-passes, image-length}
 use Rattle.written.proofs.Draft.{taken, numbered, ink-taken, image-fits}
 use Rattle.written.proofs.Texts.{stored}
-use Rattle.encoder.proofs.Blocks.{w, index-count}
+use Rattle.draft_image.proofs.Blocks.{w, index-count}
 use Rattle.written.proofs.Fields.{Given, roomy, counted}
 use Rattle.written.proofs.Rules.{root-kept, node-kept, used-up}
 use Rattle.written.proofs.Tree.{tree-kept}
@@ -126,7 +126,7 @@ pub index-paths : IndexPaths
 index-paths ink s work room ten words p =
     rw (back ink s work room ten words p) (λ k h. index-path (given ink s work room ten words p) k (omega (arith, index-count s (numbering s) (storedTexts s (numbering s)))))
 
-pub no-dot : NoDot
+pub no-dot : IndexHasNoDot
 no-dot ink s work room ten words p k h e = longer (sym (index-paths ink s work room ten words p k h) ∙ e)
   where
     longer : {t : List ℕ} → t ≡ dot ∷ t → ⊥

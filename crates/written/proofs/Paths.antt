@@ -1,4 +1,4 @@
--- Paths: the canonical path of a written container is that of the draft's, and is UTF-8. Assumes nothing.
+-- Paths: the canonical path of a written container is that of the draft's, and is UTF-8.
 use Prim.Native.Nat.{ℕ, zero, suc, _<_}
 use mathlib.Core.Path.{_≡_, refl, sym, ap, _∙_, subst}
 use mathlib.Core.List.{List, [], _∷_}
@@ -23,11 +23,11 @@ use Rattle.records.specs.Records.{fieldRule, firstField}
 use Rattle.tree.proofs.Members.{both-true}
 use Rattle.index.specs.Paths.{nameless, pieceOf, piece, joined, pathFrom, canonicalPath}
 use Rattle.draft.specs.Numbering.{oldOf}
-use Rattle.encoder.specs.Strings.{textIf, fieldTexts, offsetOf}
-use Rattle.encoder.specs.Written.{fieldWords}
+use Rattle.draft_image.specs.Strings.{textIf, fieldTexts, offsetOf}
+use Rattle.draft_image.specs.Written.{fieldWords}
 use Rattle.written.proofs.Lists.{or-else}
 use Rattle.written.proofs.Texts.{in-left, in-one, offset-inside, good-utf8, good-length}
-use Rattle.encoder.proofs.Blocks.{w}
+use Rattle.draft_image.proofs.Blocks.{w}
 use Rattle.written.proofs.Fields.{Given, counted, old-in, old-new, new-in, old-zero, new-zero, zero-old, place-word, container-reads}
 use Rattle.written.proofs.Payload.{strings-small}
 use Rattle.written.proofs.Rules.{text-at, parent-draft, parent-lt, parent-new}

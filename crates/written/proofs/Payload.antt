@@ -1,4 +1,4 @@
--- The payload as it is written: where a list's words stand, and that they are words. Assumes nothing.
+-- The payload as it is written: where a list's words stand, and that they are words.
 use Prim.Native.Nat.{ℕ, _+_, _*_, _^_, _<_}
 use mathlib.Core.Path.{_≡_, refl, sym, ap, _∙_, subst}
 use mathlib.Core.List.{List, [], _∷_, _++_}
@@ -15,15 +15,15 @@ use Rattle.words.specs.Words.{NONE, wordAt, bytesOf}
 use Rattle.words.proofs.Words.{word-at, word-below, words-of-bytes, length-bytes}
 use Rattle.image.specs.Sections.{Sections, nodeCount, tagOf, f, textAt, absent}
 use Rattle.records.specs.Fields.{kinds, kindOf, fields}
-use Rattle.records.specs.Records.{fieldRule, firstField, payloadRule, payloadOf, listWord, listItems, listOrigins, listItemWord}
+use Rattle.records.specs.Records.{fieldRule, firstField, payloadRule, payloadLengthOf, listWord, listItems, listOrigins, listItemWord}
 use Rattle.draft.specs.Numbering.{oldOf}
-use Rattle.encoder.specs.Strings.{offsetOf}
-use Rattle.encoder.specs.Written.{listItemOut, listOriginOut, listOut, payloadOut, writtenWith}
+use Rattle.draft_image.specs.Strings.{offsetOf}
+use Rattle.draft_image.specs.Written.{listItemOut, listOriginOut, listOut, payloadOut, writtenWith}
 use Rattle.tree.proofs.Members.{both-true, All, all-append}
-use Rattle.encoder.proofs.Joined.{join-read, join-len, even-read, even-len}
+use Rattle.draft_image.proofs.Joins.{join-read, join-len, even-read, even-len}
 use Rattle.written.proofs.Lists.{all-joined, all-below}
 use Rattle.written.proofs.Texts.{offset-le, text-short}
-use Rattle.encoder.proofs.Blocks.{w}
+use Rattle.draft_image.proofs.Blocks.{w}
 use Rattle.written.proofs.Fields.{Given, old-in}
 
 abbrev pub Small : ℕ → Type 0
@@ -136,38 +136,38 @@ module _ {s : Sections} {order : List ℕ} {kept : List (List ℕ)} (g : Given s
 
   -- ---- where it stands
 
-  payload-length : (i : ℕ) → i < nodeCount s → length (payloadOut s order kept i) ≡ payloadOf s i
-  unfolding payloadOut payloadOf
+  payload-length : (i : ℕ) → i < nodeCount s → length (payloadOut s order kept i) ≡ payloadLengthOf s i
+  unfolding payloadOut payloadLengthOf
   payload-length i h = go (eqb (tagOf s i) 12) refl
     where
       go : (b : Bool) → eqb (tagOf s i) 12 ≡ b → length (cond b (bytesOf (listOut s order kept (f s i 0))) []) ≡ cond b (f s i 1) 0
       go true e = omega (arith, length-bytes (listOut s order kept (f s i 0)), list-length s order kept (f s i 0), list-size i h e)
       go false e = refl
 
-  pub payload-count : length (w s order kept .payload) ≡ sumOf (nodeCount s) (λ j. payloadOf s (oldOf order j))
+  pub payload-count : length (w s order kept .payload) ≡ sumOf (nodeCount s) (λ j. payloadLengthOf s (oldOf order j))
   unfolding w writtenWith
   payload-count =
-      join-len (nodeCount s) (λ j. payloadOut s order kept (oldOf order j)) (λ j. payloadOf s (oldOf order j))
+      join-len (nodeCount s) (λ j. payloadOut s order kept (oldOf order j)) (λ j. payloadLengthOf s (oldOf order j))
       (λ m h. payload-length (oldOf order m) (old-in g m h))
 
   -- byte k of the payload of node j
-  payload-byte : (j k : ℕ) → j < nodeCount s → k < payloadOf s (oldOf order j)
-      → getD (w s order kept .payload) (sumOf j (λ m. payloadOf s (oldOf order m)) + k) 0 ≡ getD (payloadOut s order kept (oldOf order j)) k 0
+  payload-byte : (j k : ℕ) → j < nodeCount s → k < payloadLengthOf s (oldOf order j)
+      → getD (w s order kept .payload) (sumOf j (λ m. payloadLengthOf s (oldOf order m)) + k) 0 ≡ getD (payloadOut s order kept (oldOf order j)) k 0
   unfolding w writtenWith
   payload-byte j k h q =
-      join-read (nodeCount s) (λ m. payloadOut s order kept (oldOf order m)) (λ m. payloadOf s (oldOf order m))
+      join-read (nodeCount s) (λ m. payloadOut s order kept (oldOf order m)) (λ m. payloadLengthOf s (oldOf order m))
       (λ m i. payload-length (oldOf order m) (old-in g m i)) j k h q
 
   -- word q of the list of node j
   pub payload-word : (j q : ℕ) → j < nodeCount s → eqb (tagOf s (oldOf order j)) 12 ≡ true → q < length (listOut s order kept (f s (oldOf order j) 0))
-      → listWord (w s order kept) (sumOf j (λ m. payloadOf s (oldOf order m))) (4 * q) ≡ getD (listOut s order kept (f s (oldOf order j) 0)) q 0
+      → listWord (w s order kept) (sumOf j (λ m. payloadLengthOf s (oldOf order m))) (4 * q) ≡ getD (listOut s order kept (f s (oldOf order j) 0)) q 0
   unfolding listWord
   payload-word j q h e r =
       let i = oldOf order j in
       let out = listOut s order kept (f s i 0) in
-      let at = sumOf j (λ m. payloadOf s (oldOf order m)) in
+      let at = sumOf j (λ m. payloadLengthOf s (oldOf order m)) in
       let pay = w s order kept .payload in
-      let size : payloadOf s i ≡ 4 * length out = sym (payload-length i (old-in g j h)) ∙ ap length (payload-list i (old-in g j h) e) ∙ length-bytes out in
+      let size : payloadLengthOf s i ≡ 4 * length out = sym (payload-length i (old-in g j h)) ∙ ap length (payload-list i (old-in g j h) e) ∙ length-bytes out in
       let word : wordAt pay (at + 4 * q) ≡ wordAt (bytesOf out) (4 * q) = word-same pay (bytesOf out) (at + 4 * q) (4 * q)
       (λ k z. here pay (at + 4 * q + k) (at + (4 * q + k)) (omega arith) ∙ payload-byte j (4 * q + k) h (omega arith)
       ∙ ap (λ (l : List ℕ). getD l (4 * q + k) 0) (payload-list i (old-in g j h) e)) in

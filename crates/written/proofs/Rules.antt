@@ -1,4 +1,4 @@
--- The record rules hold of every written node. Assumes nothing.
+-- The record rules hold of every written node.
 use Prim.Native.Nat.{ℕ, _+_, _*_, _<_}
 use mathlib.Core.Path.{_≡_, refl, sym, ap, _∙_}
 use mathlib.Core.List.{List, [], _∷_, _++_}
@@ -17,15 +17,15 @@ use Rattle.names.specs.Names.{commands, operators}
 use Rattle.utf8.specs.Utf8.{utf8}
 use Rattle.image.specs.Sections.{Sections, nodeCount, childCount, namedCount, parentOf, placeOf, tagOf, f, textAt, goodText, absent, goodOptional, inside, isContainer, insideContainer}
 use Rattle.records.specs.Fields.{Field, text, optional, command, operator, node, optionalNode, container, optionalContainer, plain, atMost, children, named, payload, wrong, Unknown, kinds, kindOf, fields}
-use Rattle.records.specs.Records.{fieldsAt, childrenOf, namedOf, payloadOf, listWord, listItems, listOrigins, listItemWord, listOriginWord, listItemRule, listOriginRule, payloadRule, fieldRule, firstField, fieldsRule, parentRule, nodeRule, rootRight, usedUp}
+use Rattle.records.specs.Records.{fieldsAt, numberOfChildren, numberOfNamed, payloadLengthOf, listWord, listItems, listOrigins, listItemWord, listOriginWord, listItemRule, listOriginRule, payloadRule, fieldRule, firstField, fieldsRule, parentRule, nodeRule, rootRight, usedUp}
 use Rattle.draft.specs.Numbering.{oldOf, newOf}
-use Rattle.encoder.specs.Strings.{textIf, listTexts, fieldTexts, offsetOf}
-use Rattle.encoder.specs.Written.{fieldStart, fieldWords, listItemOut, listOriginOut, listOut, writtenWith}
+use Rattle.draft_image.specs.Strings.{textIf, listTexts, fieldTexts, offsetOf}
+use Rattle.draft_image.specs.Written.{fieldStart, fieldWords, listItemOut, listOriginOut, listOut, writtenWith}
 use Rattle.tree.proofs.Members.{both-true, and-true, or-left, or-right, all-of, sum-ext}
-use Rattle.encoder.proofs.Joined.{sum-below}
+use Rattle.draft_image.proofs.Joins.{sum-below}
 use Rattle.written.proofs.Lists.{or-else, not-of}
 use Rattle.written.proofs.Texts.{in-left, in-right, in-one, in-join, good-utf8, text-back, text-good}
-use Rattle.encoder.proofs.Blocks.{w, child-count, named-count}
+use Rattle.draft_image.proofs.Blocks.{w, child-count, named-count}
 use Rattle.written.proofs.Fields.{Given, counted, old-in, old-new, new-in, old-zero, zero-old, inside-lt, new-is, inside-new, parent-word, place-word, tag-word, Reads, ReadsAll, reads, container-same, children-of, named-of, payload-of, start-is, sum-written}
 use Rattle.written.proofs.Payload.{strings-small, list-length, list-item, list-origin, list-right, list-size, payload-count, payload-word}
 
@@ -123,7 +123,7 @@ module _ {s : Sections} {order : List ℕ} {kept : List (List ℕ)} (g : Given s
     from = f s (oldOf order j) 0
 
     abbrev to : ℕ
-    to = sumOf j (λ m. payloadOf s (oldOf order m))
+    to = sumOf j (λ m. payloadLengthOf s (oldOf order m))
 
     pub items-same : listItems v to ≡ listItems s from
     items-same = payload-word g j 0 h e (omega (arith, list-length s order kept from)) ∙ (unfold listOut in refl)
@@ -191,8 +191,8 @@ module _ {s : Sections} {order : List ℕ} {kept : List (List ℕ)} (g : Given s
       list-kept =
           let right = list-right g (oldOf order j) (old-in g j h) e in
           let size = list-size g (oldOf order j) (old-in g j h) e in
-          let pays : payloadOf s (oldOf order j) ≡ f s (oldOf order j) 1 = unfold payloadOf in rw e refl in
-          let below = sum-below j (nodeCount s) (λ m. payloadOf s (oldOf order m)) h in
+          let pays : payloadLengthOf s (oldOf order j) ≡ f s (oldOf order j) 1 = unfold payloadLengthOf in rw e refl in
+          let below = sum-below j (nodeCount s) (λ m. payloadLengthOf s (oldOf order m)) h in
           then _ _
           (pass _ 11 (and-true _ _
           (and-true _ _ (le-leb (to + f s (oldOf order j) 1) (length (v .payload)) (omega (arith, payload-count g)))
@@ -244,12 +244,12 @@ module _ {s : Sections} {order : List ℕ} {kept : List (List ℕ)} (g : Given s
     abbrev i : ℕ
     i = oldOf order j
 
-    pub children-are : eqb (tagOf s i) 1 ≡ true → f s i 4 ≡ childrenOf s i
-    unfolding childrenOf
+    pub children-are : eqb (tagOf s i) 1 ≡ true → f s i 4 ≡ numberOfChildren s i
+    unfolding numberOfChildren
     children-are e = rw e refl
 
-    pub named-are : eqb (tagOf s i) 1 ≡ true → f s i 6 ≡ namedOf s i
-    unfolding namedOf
+    pub named-are : eqb (tagOf s i) 1 ≡ true → f s i 6 ≡ numberOfNamed s i
+    unfolding numberOfNamed
     named-are e = rw e refl
 
     -- a known name
@@ -286,11 +286,11 @@ module _ {s : Sections} {order : List ℕ} {kept : List (List ℕ)} (g : Given s
           r .0,
           r .1 .0,
           children-are z,
-          start-is g (childrenOf s) j h,
+          start-is g (numberOfChildren s) j h,
           child-count s order kept,
-          sum-below j (nodeCount s) (λ m. childrenOf s (oldOf order m)) h,
+          sum-below j (nodeCount s) (λ m. numberOfChildren s (oldOf order m)) h,
         )))
-        (eq-eqb _ _ (r .0 ∙ sym (sum-written g (childrenOf v) (childrenOf s) (children-of g) j h))))
+        (eq-eqb _ _ (r .0 ∙ sym (sum-written g (numberOfChildren v) (numberOfChildren s) (children-of g) j h))))
     field-kept named z r l p =
         pass _ 11 (and-true _ _
         (le-leb (f v j 5 + f v j 6) (namedCount v)
@@ -299,14 +299,14 @@ module _ {s : Sections} {order : List ℕ} {kept : List (List ℕ)} (g : Given s
           r .0,
           r .1 .0,
           named-are z,
-          start-is g (namedOf s) j h,
+          start-is g (numberOfNamed s) j h,
           named-count s order kept,
-          sum-below j (nodeCount s) (λ m. namedOf s (oldOf order m)) h,
+          sum-below j (nodeCount s) (λ m. numberOfNamed s (oldOf order m)) h,
         )))
-        (eq-eqb _ _ (r .0 ∙ sym (sum-written g (namedOf v) (namedOf s) (named-of g) j h))))
+        (eq-eqb _ _ (r .0 ∙ sym (sum-written g (numberOfNamed v) (numberOfNamed s) (named-of g) j h))))
     field-kept payload z r l p =
-        then _ _ (pass _ 11 (eq-eqb _ _ (r .0 ∙ sym (sum-written g (payloadOf v) (payloadOf s) (payload-of g) j h))))
-        (ap (λ (x : ℕ). payloadRule v x (f v j 1)) (r .0 ∙ start-is g (payloadOf s) j h) ∙ ap (payloadRule v (sumOf j (λ m. payloadOf s (oldOf order m)))) (r .1 .0)
+        then _ _ (pass _ 11 (eq-eqb _ _ (r .0 ∙ sym (sum-written g (payloadLengthOf v) (payloadLengthOf s) (payload-of g) j h))))
+        (ap (λ (x : ℕ). payloadRule v x (f v j 1)) (r .0 ∙ start-is g (payloadLengthOf s) j h) ∙ ap (payloadRule v (sumOf j (λ m. payloadLengthOf s (oldOf order m)))) (r .1 .0)
         ∙ list-kept j h z l)
     field-kept wrong z r l p = p
 
@@ -346,14 +346,14 @@ module _ {s : Sections} {order : List ℕ} {kept : List (List ℕ)} (g : Given s
   all-before : (a b : ℕ → ℕ) → ((j : ℕ) → j < nodeCount s → a j ≡ b (oldOf order j)) → sumOf (nodeCount v) a ≡ sumOf (nodeCount s) (λ j. b (oldOf order j))
   all-before a b e = ap (λ (n : ℕ). sumOf n a) (counted g) ∙ sum-ext (nodeCount s) a (λ j. b (oldOf order j)) e
 
-  pub children-used : sumOf (nodeCount v) (childrenOf v) ≡ childCount v
-  children-used = all-before (childrenOf v) (childrenOf s) (children-of g) ∙ sym (child-count s order kept)
+  pub children-used : sumOf (nodeCount v) (numberOfChildren v) ≡ childCount v
+  children-used = all-before (numberOfChildren v) (numberOfChildren s) (children-of g) ∙ sym (child-count s order kept)
 
-  pub named-used : sumOf (nodeCount v) (namedOf v) ≡ namedCount v
-  named-used = all-before (namedOf v) (namedOf s) (named-of g) ∙ sym (named-count s order kept)
+  pub named-used : sumOf (nodeCount v) (numberOfNamed v) ≡ namedCount v
+  named-used = all-before (numberOfNamed v) (numberOfNamed s) (named-of g) ∙ sym (named-count s order kept)
 
   pub used-up : usedUp v ≡ true
   unfolding usedUp
   used-up =
       and-true _ _ (and-true _ _ (eq-eqb _ _ children-used) (eq-eqb _ _ named-used))
-      (eq-eqb _ _ (all-before (payloadOf v) (payloadOf s) (payload-of g) ∙ sym (payload-count g)))
+      (eq-eqb _ _ (all-before (payloadLengthOf v) (payloadLengthOf s) (payload-of g) ∙ sym (payload-count g)))

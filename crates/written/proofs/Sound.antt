@@ -1,9 +1,9 @@
--- Demand 3 of every written image: a load accepts it, so what holds of accepted images holds of it. Assumes nothing.
+-- Demand 3 of every written image: a load accepts it, so what holds of accepted images holds of it.
 use Prim.Native.Nat.{_≤_}
 use native.Mathlib.Omega.{arith}
 use Rattle.image.specs.Header.{sectionsOf}
 use Rattle.load.specs.Load.{loadWords}
-use Rattle.encoder.specs.Encode.{imageFor}
+use Rattle.draft_image.specs.Encode.{imageFor}
 use Rattle.promises.proofs.Sound.{accepted-sound}
 use Rattle.written.specs.Written.{WrittenSound, WrittenIndexOnce}
 use Rattle.written.proofs.Loads.{written-loads, no-dot}

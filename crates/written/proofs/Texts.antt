@@ -1,4 +1,4 @@
--- The stored texts: every text in use is stored, and is found again at its offset. Assumes nothing.
+-- The stored texts: every text in use is stored, and is found again at its offset.
 use Prim.Native.Nat.{ℕ, zero, suc, _+_, _≤_, _<_, zero-le}
 use mathlib.Core.Path.{_≡_, refl, sym, ap, _∙_, subst}
 use mathlib.Core.List.{List, [], _∷_, _++_, map}
@@ -17,11 +17,11 @@ use Rattle.texts.specs.Text.{same, holds}
 use Rattle.texts.proofs.Text.{same-self, same-equal}
 use Rattle.utf8.specs.Utf8.{utf8}
 use Rattle.image.specs.Sections.{Sections, nodeCount, definitionCount, partAt, textAt, present, goodIn, goodText}
-use Rattle.records.specs.Records.{namedOf}
+use Rattle.records.specs.Records.{numberOfNamed}
 use Rattle.tree.specs.Tree.{namedText}
-use Rattle.index.specs.Definitions.{definitionText, itemsOf, itemTextOf}
+use Rattle.index.specs.Definitions.{definitionText, numberOfItems, itemTextOf}
 use Rattle.draft.specs.Numbering.{oldOf}
-use Rattle.encoder.specs.Strings.{byPath, pathOf, nodeTexts, namedTexts, definitionTexts, uses, distinct, storedTexts, offsetOf}
+use Rattle.draft_image.specs.Strings.{byPath, pathOf, nodeTexts, namedTexts, definitionTexts, uses, distinct, storedTexts, offsetOf}
 use Rattle.tree.proofs.Members.{both-true, and-true, or-left, or-right}
 
 -- ---- texts that a list holds
@@ -163,9 +163,9 @@ module _ (w : Sections) (kept : List (List ℕ)) (e : w .strings ≡ flatMap (λ
 
 pub record Stored (s : Sections) (order : List ℕ) (kept : List (List ℕ)) : Type 0 where
   pub nodes : (j : ℕ) → j < nodeCount s → (t : List ℕ) → holds (nodeTexts s (oldOf order j)) t ≡ true → holds kept t ≡ true
-  pub named : (j : ℕ) → j < nodeCount s → (k : ℕ) → k < namedOf s (oldOf order j) → holds kept (namedText s (oldOf order j) k) ≡ true
+  pub named : (j : ℕ) → j < nodeCount s → (k : ℕ) → k < numberOfNamed s (oldOf order j) → holds kept (namedText s (oldOf order j) k) ≡ true
   pub definition : (d : ℕ) → d < definitionCount s → holds kept (definitionText s d) ≡ true
-  pub item : (d : ℕ) → d < definitionCount s → (j : ℕ) → j < itemsOf s d → holds kept (itemTextOf s d j) ≡ true
+  pub item : (d : ℕ) → d < definitionCount s → (j : ℕ) → j < numberOfItems s d → holds kept (itemTextOf s d j) ≡ true
   pub index : (k : ℕ) → k < length (byPath s order) → holds kept (pathOf s order (getD (byPath s order) k 0)) ≡ true
 
 module _ (s : Sections) (order : List ℕ) where
@@ -206,11 +206,11 @@ module _ (s : Sections) (order : List ℕ) where
         named = λ j h k q.
             let t = namedText s (oldOf order j) k in
             by-named t (in-join (nodeCount s) j (λ m. namedTexts s (oldOf order m)) t h
-            (in-join (namedOf s (oldOf order j)) k (λ m. namedText s (oldOf order j) m ∷ []) t q (in-one t)));
-        definition = λ d h. by-definitions (definitionText s d) (in-join (definitionCount s) d (definitionTexts s) (definitionText s d) h (in-head (definitionText s d) (joinOf (itemsOf s d) (λ m. itemTextOf s d m ∷ []))));
+            (in-join (numberOfNamed s (oldOf order j)) k (λ m. namedText s (oldOf order j) m ∷ []) t q (in-one t)));
+        definition = λ d h. by-definitions (definitionText s d) (in-join (definitionCount s) d (definitionTexts s) (definitionText s d) h (in-head (definitionText s d) (joinOf (numberOfItems s d) (λ m. itemTextOf s d m ∷ []))));
         item = λ d h j q.
             let t = itemTextOf s d j in
             by-definitions t (in-join (definitionCount s) d (definitionTexts s) t h
-            (or-right (same t (definitionText s d)) _ (in-join (itemsOf s d) j (λ m. itemTextOf s d m ∷ []) t q (in-one t))));
+            (or-right (same t (definitionText s d)) _ (in-join (numberOfItems s d) j (λ m. itemTextOf s d m ∷ []) t q (in-one t))));
         index = λ k h. by-index (pathOf s order (getD (byPath s order) k 0)) (in-map k (byPath s order) (pathOf s order) h);
       }

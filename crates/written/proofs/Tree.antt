@@ -1,4 +1,4 @@
--- The tree of a written image: the rules of its entries hold, and its entries reach every node. Assumes nothing.
+-- The tree of a written image: the rules of its entries hold, and its entries reach every node.
 use Prim.Native.Nat.{ℕ, zero, suc, _+_, _≤_, _<_}
 use mathlib.Core.Path.{_≡_, refl, sym, ap, _∙_, subst}
 use mathlib.Core.List.{List, [], _∷_, _++_}
@@ -12,18 +12,18 @@ use Rattle.laws.proofs.First.{then, pass}
 use Rattle.texts.specs.Text.{rising}
 use Rattle.image.specs.Sections.{Sections, nodeCount, parentOf, placeOf, f, childWord, namedWord}
 use Rattle.records.specs.Fields.{fields}
-use Rattle.records.specs.Records.{childrenOf, namedOf}
+use Rattle.records.specs.Records.{numberOfChildren, numberOfNamed}
 use Rattle.tree.specs.Tree.{childAt, namedAt, namedText, childRule, namedRule, entriesRule, readWalk, treeRule}
 use Rattle.tree.specs.Reach.{Reached, root, child, named}
 use Rattle.tree.proofs.Members.{and-true, all-at}
 use Rattle.tree.proofs.Entries.{children-pass, named-pass, entries-pass, child-container, named-container}
 use Rattle.tree.proofs.Numbers.{read-reached}
-use Rattle.tree.proofs.Reading.{right-tree}
+use Rattle.tree.proofs.PlainTree.{right-tree}
 use Rattle.draft.specs.Numbering.{oldOf, newOf}
-use Rattle.encoder.specs.Strings.{textWords}
-use Rattle.encoder.specs.Written.{fieldWords}
+use Rattle.draft_image.specs.Strings.{textWords}
+use Rattle.draft_image.specs.Written.{fieldWords}
 use Rattle.written.proofs.Texts.{good-utf8}
-use Rattle.encoder.proofs.Blocks.{w, child-word, named-word}
+use Rattle.draft_image.proofs.Blocks.{w, child-word, named-word}
 use Rattle.written.proofs.Fields.{Given, counted, old-in, old-new, new-in, new-old, new-zero, new-is, parent-word, place-word, container-reads, children-of, named-of, start-is}
 use Rattle.written.proofs.Rules.{good-at, text-at, node-at, container-at, children-used, named-used}
 
@@ -42,19 +42,19 @@ module _ {s : Sections} {order : List ℕ} {kept : List (List ℕ)} (g : Given s
     abbrev i : ℕ
     i = oldOf order j
 
-    pub child-at : (m : ℕ) → m < childrenOf s i → childAt v j m ≡ newOf order (childAt s i m)
+    pub child-at : (m : ℕ) → m < numberOfChildren s i → childAt v j m ≡ newOf order (childAt s i m)
     child-at m q = ap (λ (x : ℕ). childWord v (x + m)) first-child ∙ child-word s order kept j m h q
       where
-        first-child : f v j 3 ≡ sumOf j (λ k. childrenOf s (oldOf order k))
-        first-child = unfold fields fieldWords in (container-reads g j h (child-container s i m q) .1 .1 .0 .0 ∙ start-is g (childrenOf s) j h)
+        first-child : f v j 3 ≡ sumOf j (λ k. numberOfChildren s (oldOf order k))
+        first-child = unfold fields fieldWords in (container-reads g j h (child-container s i m q) .1 .1 .0 .0 ∙ start-is g (numberOfChildren s) j h)
 
-    pub named-at : (m k : ℕ) → m < namedOf s i → k < 3 → namedAt v j m k ≡ getD (textWords kept (namedText s i m) ++ (newOf order (namedAt s i m 2) ∷ [])) k 0
+    pub named-at : (m k : ℕ) → m < numberOfNamed s i → k < 3 → namedAt v j m k ≡ getD (textWords kept (namedText s i m) ++ (newOf order (namedAt s i m 2) ∷ [])) k 0
     named-at m k q r = ap (λ (x : ℕ). namedWord v (x + m) k) first-named ∙ named-word s order kept j m k h q r
       where
-        first-named : f v j 5 ≡ sumOf j (λ o. namedOf s (oldOf order o))
-        first-named = unfold fields fieldWords in (container-reads g j h (named-container s i m q) .1 .1 .1 .0 .0 ∙ start-is g (namedOf s) j h)
+        first-named : f v j 5 ≡ sumOf j (λ o. numberOfNamed s (oldOf order o))
+        first-named = unfold fields fieldWords in (container-reads g j h (named-container s i m q) .1 .1 .1 .0 .0 ∙ start-is g (numberOfNamed s) j h)
 
-    named-text : (m : ℕ) → m < namedOf s i → namedText v j m ≡ namedText s i m
+    named-text : (m : ℕ) → m < numberOfNamed s i → namedText v j m ≡ namedText s i m
     named-text m q =
         text-at g (namedText s i m) (namedAt v j m 0) (namedAt v j m 1) (g .stored .named j h m q) (named-at m 0 q (omega arith)) (named-at m 1 q (omega arith))
 
@@ -65,7 +65,7 @@ module _ {s : Sections} {order : List ℕ} {kept : List (List ℕ)} (g : Given s
         ∙ ap (λ (y : ℕ). newOf order (parentOf s y)) (old-new g x q) ∙ ap (newOf order) p
         ∙ new-is g i (old-in g j h) ∙ new-old g j h
 
-    child-kept : (m : ℕ) → m < childrenOf s i → childRule v j m ≡ 0
+    child-kept : (m : ℕ) → m < numberOfChildren s i → childRule v j m ≡ 0
     unfolding childRule
     child-kept m q =
         let x = childAt s i m in
@@ -77,7 +77,7 @@ module _ {s : Sections} {order : List ℕ} {kept : List (List ℕ)} (g : Given s
         (ap (placeOf v) (child-at m q ∙ new-is g x (r .below)) ∙ place-word g (placeIn order x) (new-in g x (r .below))
         ∙ ap (placeOf s) (old-new g x (r .below)) ∙ r .place)))
 
-    named-kept : (m : ℕ) → m < namedOf s i → namedRule v j m ≡ 0
+    named-kept : (m : ℕ) → m < numberOfNamed s i → namedRule v j m ≡ 0
     unfolding namedRule
     named-kept m q =
         let x = namedAt s i m 2 in
@@ -95,18 +95,18 @@ module _ {s : Sections} {order : List ℕ} {kept : List (List ℕ)} (g : Given s
 
   -- ---- what the draft's entries lead to, the image's do
 
-  child-reached : (i j : ℕ) → i < nodeCount s → j < childrenOf s i → Reached v (placeIn order i) → Reached v (newOf order (childAt s i j))
+  child-reached : (i j : ℕ) → i < nodeCount s → j < numberOfChildren s i → Reached v (placeIn order i) → Reached v (newOf order (childAt s i j))
   child-reached i j h q r =
       let k = new-in g i h in
       let back = old-new g i h in
-      let z : j < childrenOf s (oldOf order (placeIn order i)) = subst (λ (x : ℕ). j < childrenOf s x) (sym back) q in
+      let z : j < numberOfChildren s (oldOf order (placeIn order i)) = subst (λ (x : ℕ). j < numberOfChildren s x) (sym back) q in
       child (placeIn order i) j r (omega (arith, children-of g (placeIn order i) k)) (sym (child-at (placeIn order i) k j z ∙ ap (λ (x : ℕ). newOf order (childAt s x j)) back))
 
-  named-reached : (i j : ℕ) → i < nodeCount s → j < namedOf s i → Reached v (placeIn order i) → Reached v (newOf order (namedAt s i j 2))
+  named-reached : (i j : ℕ) → i < nodeCount s → j < numberOfNamed s i → Reached v (placeIn order i) → Reached v (newOf order (namedAt s i j 2))
   named-reached i j h q r =
       let k = new-in g i h in
       let back = old-new g i h in
-      let z : j < namedOf s (oldOf order (placeIn order i)) = subst (λ (x : ℕ). j < namedOf s x) (sym back) q in
+      let z : j < numberOfNamed s (oldOf order (placeIn order i)) = subst (λ (x : ℕ). j < numberOfNamed s x) (sym back) q in
       named (placeIn order i) j r (omega (arith, named-of g (placeIn order i) k))
       (sym (named-at (placeIn order i) k j 2 z (omega arith) ∙ ap (λ (x : ℕ). newOf order (namedAt s x j 2)) back))
 

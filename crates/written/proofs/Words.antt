@@ -1,4 +1,4 @@
--- The words of the written sections are words, and the sections are whole entries. Assumes nothing.
+-- The words of the written sections are words, and the sections are whole entries.
 use Prim.Native.Nat.{ℕ, _+_, _*_, _^_, _≤_, _<_}
 use mathlib.Core.Path.{_≡_, sym, ap, _∙_}
 use mathlib.Core.List.{List, [], _∷_}
@@ -13,19 +13,19 @@ use Rattle.image.specs.Sections.{Sections, nodeCount, definitionCount, itemCoun
 use Rattle.image.specs.Header.{nodeWords}
 use Rattle.image.specs.Encoding.{startOf}
 use Rattle.records.specs.Fields.{Field, text, optional, command, operator, node, optionalNode, container, optionalContainer, plain, atMost, children, named, payload, wrong}
-use Rattle.records.specs.Records.{fieldsAt, childrenOf, namedOf, payloadOf}
+use Rattle.records.specs.Records.{fieldsAt, numberOfChildren, numberOfNamed, payloadLengthOf}
 use Rattle.tree.specs.Tree.{childAt, namedAt}
 use Rattle.tree.proofs.Members.{All, all-append}
 use Rattle.draft.specs.Numbering.{oldOf, newOf}
-use Rattle.encoder.specs.Strings.{byPath, pathOf}
-use Rattle.encoder.specs.Written.{fieldStart, fieldWords, putFields, moreWords, nodeOut, childrenOut, namedOut, definitionOut, itemOut, indexOut, startIn, writtenWith}
-use Rattle.encoder.proofs.Joined.{sum-below}
+use Rattle.draft_image.specs.Strings.{byPath, pathOf}
+use Rattle.draft_image.specs.Written.{fieldStart, fieldWords, putFields, moreWords, nodeOut, childrenOut, namedOut, definitionOut, itemOut, indexOut, startIn, writtenWith}
+use Rattle.draft_image.proofs.Joins.{sum-below}
 use Rattle.written.proofs.Lists.{all-joined, all-sets, all-below}
 use Rattle.tree.proofs.Places.{place-le}
 use Rattle.written.proofs.Header.{Whole}
 use Rattle.written.proofs.Draft.{taken, numbered}
 use Rattle.written.proofs.Texts.{stored, offset-inside}
-use Rattle.encoder.proofs.Blocks.{w, nodes-length, child-count, named-whole, definitions-whole, items-whole, index-whole}
+use Rattle.draft_image.proofs.Blocks.{w, nodes-length, child-count, named-whole, definitions-whole, items-whole, index-whole}
 use Rattle.written.proofs.Fields.{Given, counted, few, start-is}
 use Rattle.written.proofs.Payload.{Small, offset-small, text-small, cond-small, strings-small, payload-count}
 use Rattle.written.proofs.Index.{index-node}
@@ -76,9 +76,9 @@ module _ {s : Sections} {order : List ℕ} {kept : List (List ℕ)} (g : Given s
     field-small (optionalContainer k) = (new-small (f s i k), tt)
     field-small (plain k) = (node-small i _, tt)
     field-small (atMost k n) = (node-small i _, tt)
-    field-small children = (start-small (childrenOf s) (omega (arith, child-count s order kept, g .room .children)), (node-small i _, tt))
-    field-small named = (start-small (namedOf s) (omega (arith, named-whole s order kept, g .room .named)), (node-small i _, tt))
-    field-small payload = (start-small (payloadOf s) (omega (arith, payload-count g, g .room .payload)), (node-small i _, tt))
+    field-small children = (start-small (numberOfChildren s) (omega (arith, child-count s order kept, g .room .children)), (node-small i _, tt))
+    field-small named = (start-small (numberOfNamed s) (omega (arith, named-whole s order kept, g .room .named)), (node-small i _, tt))
+    field-small payload = (start-small (payloadLengthOf s) (omega (arith, payload-count g, g .room .payload)), (node-small i _, tt))
     field-small wrong = tt
 
     put-small : (ws : List ℕ) (xs : List Field) → All Small ws → All Small (putFields s order kept i ws xs)

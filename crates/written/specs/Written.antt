@@ -1,4 +1,4 @@
--- What holds of the image of every draft that the writer takes: the statements. Assumes nothing.
+-- What holds of the image of every draft that the writer takes: the statements.
 use Prim.Native.Nat.{ℕ, _^_, _≤_, _<_}
 use mathlib.Core.Path.{_≡_}
 use mathlib.Core.List.{_∷_}
@@ -11,8 +11,8 @@ use Rattle.index.specs.Paths.{canonicalPath}
 use Rattle.index.specs.Index.{indexText}
 use Rattle.load.specs.Load.{loadRule, loadWords, Accepted}
 use Rattle.draft.specs.Numbering.{numbering, oldOf}
-use Rattle.encoder.specs.Written.{written}
-use Rattle.encoder.specs.Encode.{imageFor, encodeRule}
+use Rattle.draft_image.specs.Written.{written}
+use Rattle.draft_image.specs.Encode.{imageFor, encodeRule}
 use Rattle.promises.specs.Promises.{Sound, NamedOnce}
 
 -- the words of a draft are words, its bytes are bytes: what slices of u32 and u8 hold
@@ -67,8 +67,8 @@ IndexPaths =
     → indexText (sectionsOf (imageFor ink s)) k ≡ canonicalPath (sectionsOf (imageFor ink s)) (indexWord (sectionsOf (imageFor ink s)) k 2))
 
 -- so that none is a dot before it
-abbrev pub NoDot : Type 0
-NoDot =
+abbrev pub IndexHasNoDot : Type 0
+IndexHasNoDot =
     Written (λ ink s. (k : ℕ) → k < indexCount (sectionsOf (imageFor ink s))
     → indexText (sectionsOf (imageFor ink s)) k ≡ dot ∷ canonicalPath (sectionsOf (imageFor ink s)) (indexWord (sectionsOf (imageFor ink s)) k 2) → ⊥)
 

@@ -1,4 +1,4 @@
--- Kinds of which the fields are the same are shown the same. Assumes nothing.
+-- Kinds of which the fields are the same are shown the same.
 use Prim.Native.Nat.{ℕ, _+_, _/_}
 use mathlib.Core.Path.{_≡_, refl, sym, ap, _∙_, subst}
 use mathlib.Core.List.{List, [], _∷_}
@@ -12,7 +12,7 @@ use Rattle.names.specs.declared.control_command.CommandType.{CommandType}
 use Rattle.names.specs.declared.native_function_call.Op.{Op}
 use Rattle.names.specs.ControlCommand.{commandNamed}
 use Rattle.names.specs.NativeFunctionCall.{operatorNamed}
-use Rattle.image.specs.Sections.{Sections, f, present, textAt, textIn}
+use Rattle.image.specs.Sections.{Sections, f, present, textAt, textOrEmpty}
 use Rattle.image.specs.Entries.{nodeIn}
 use Rattle.image.proofs.Tests.{both-true}
 use Rattle.image.proofs.Parts.{text-inside}
@@ -29,7 +29,7 @@ use Rattle.views.specs.View.{signed, odd, span, shown, optionalText, optionalWo
 use Rattle.written_views.specs.Views.{renumbered, SameText, SameKind, SameField}
 
 -- the bytes of a text that is shown
-shown-text : (s : Sections) (at len : ℕ) → shown (length (s .strings)) at len ≡ true → textIn (s .strings) at len ≡ textAt s at len
+shown-text : (s : Sections) (at len : ℕ) → shown (length (s .strings)) at len ≡ true → textOrEmpty (s .strings) at len ≡ textAt s at len
 shown-text s at len h = text-inside (s .strings) at len (leb-true (at + len) (length (s .strings)) (both-true (present at len) _ h .1))
 
 module _ (s t : Sections) (order : List ℕ) where
@@ -82,7 +82,7 @@ module _ (s t : Sections) (order : List ℕ) where
     unfolding withText
     with-same g h e q = rw (e .drafted, e .written) q
 
-    bytes-same : SameText s t a b → textIn (t .strings) (f t j 0) (f t j 1) ≡ textIn (s .strings) (f s i 0) (f s i 1)
+    bytes-same : SameText s t a b → textOrEmpty (t .strings) (f t j 0) (f t j 1) ≡ textOrEmpty (s .strings) (f s i 0) (f s i 1)
     bytes-same e = shown-text t (f t j 0) (f t j 1) (e .written) ∙ e .bytes ∙ sym (shown-text s (f s i 0) (f s i 1) (e .drafted))
 
     module _ (words : (n : ℕ) → optionalWord (newOf order n) ≡ renumbered order (optionalWord n)) where

@@ -1,4 +1,4 @@
--- The list definitions of a written image and their items are those of its draft. Assumes nothing.
+-- The list definitions of a written image and their items are those of its draft.
 use Prim.Native.Nat.{ℕ, zero, suc, _+_, _-_, _<_}
 use mathlib.Core.Path.{_≡_, refl, ap, _∙_, subst}
 use mathlib.Core.List.{List}
@@ -10,15 +10,15 @@ use lib.Dec.{ltb}
 use borrow.Author.Tests.{eqb-true, lt-ltb, ltb-true, ltb-false}
 use Rattle.laws.specs.Counted.{sumOf}
 use Rattle.image.specs.Sections.{Sections, definitionCount, itemCount, definitionWord, itemWord}
-use Rattle.index.specs.Definitions.{firstItem, itemsOf, itemsBefore, itemsUsedUp}
-use Rattle.encoder.specs.Written.{itemOut}
+use Rattle.index.specs.Definitions.{firstItem, numberOfItems, itemsBefore, itemsUsedUp}
+use Rattle.draft_image.specs.Written.{itemOut}
 use Rattle.views.specs.declared.DefinitionView.{DefinitionView}
 use Rattle.views.specs.declared.DefinitionAnswer.the-variants as definition
 use Rattle.views.specs.declared.ItemView.{ItemView}
 use Rattle.views.specs.declared.ItemAnswer.the-variants as item
 use Rattle.views.specs.View.{signed, span, shown}
 use Rattle.views.specs.Lists.{definitionQuery, itemEntry, itemQuery}
-use Rattle.encoder.proofs.Blocks.{w, definition-count, item-count, item-word}
+use Rattle.draft_image.proofs.Blocks.{w, definition-count, item-count, item-word}
 use Rattle.written.proofs.Fields.{Given}
 use Rattle.written.proofs.Definitions.{at-word, len-word, first-item, items-of, items-right, item-inside, item-at-word, item-len-word}
 use Rattle.written_views.specs.Views.{SameText, SameItem, SameDefinition}
@@ -28,7 +28,7 @@ use Rattle.written_views.proofs.Texts.{text-same}
 
 module _ (s : Sections) where
   abbrev definitionAt : ℕ → DefinitionView
-  definitionAt d = record { name = span (definitionWord s d 0) (definitionWord s d 1); items = itemsOf s d }
+  definitionAt d = record { name = span (definitionWord s d 0) (definitionWord s d 1); items = numberOfItems s d }
 
   definition-found : (d : ℕ) → d < definitionCount s → shown (length (s .strings)) (definitionWord s d 0) (definitionWord s d 1) ≡ true
       → definitionQuery s d ≡ definition.Definition (definitionAt d)
@@ -42,9 +42,9 @@ module _ (s : Sections) where
   unfolding itemEntry
   item-found k h e = rw (lt-ltb k (itemCount s) h, e)
 
-  item-query : (d k : ℕ) → d < definitionCount s → k < itemsOf s d → itemQuery s d k ≡ itemEntry s (firstItem s d + k)
+  item-query : (d k : ℕ) → d < definitionCount s → k < numberOfItems s d → itemQuery s d k ≡ itemEntry s (firstItem s d + k)
   unfolding itemQuery
-  item-query d k h q = rw (lt-ltb d (definitionCount s) h, lt-ltb k (itemsOf s d) q)
+  item-query d k h q = rw (lt-ltb d (definitionCount s) h, lt-ltb k (numberOfItems s d) q)
 
 -- a number below a sum is in one of its terms
 record Located (n : ℕ) (b : ℕ → ℕ) (k : ℕ) : Type 0 where
@@ -74,7 +74,7 @@ module _ {s : Sections} {order : List ℕ} {kept : List (List ℕ)} (g : Given s
   -- ---- items
 
   -- the j-th item of definition d, by its number among all
-  item-same : (d : ℕ) → (h : d < definitionCount s) → (j : ℕ) → j < itemsOf s d → SameItem s t (itemEntry s (firstItem s d + j)) (itemEntry t (firstItem s d + j))
+  item-same : (d : ℕ) → (h : d < definitionCount s) → (j : ℕ) → j < numberOfItems s d → SameItem s t (itemEntry s (firstItem s d + j)) (itemEntry t (firstItem s d + j))
   unfolding itemOut
   item-same d h j q =
       let k = firstItem s d + j in
@@ -96,7 +96,7 @@ module _ {s : Sections} {order : List ℕ} {kept : List (List ℕ)} (g : Given s
   unfolding itemsUsedUp
   each-item-same k h =
       let used = eqb-true (itemsBefore s (definitionCount s)) (itemCount s) (g .taken .items-used) in
-      let l = located (definitionCount s) (itemsOf s) k (omega arith) in
+      let l = located (definitionCount s) (numberOfItems s) k (omega arith) in
       subst (λ (m : ℕ). SameItem s t (itemEntry s m) (itemEntry t m)) (omega (arith, l .at, items-right g (l .term) (l .below) .1))
       (item-same (l .term) (l .below) (l .rest) (l .within))
 
@@ -106,7 +106,7 @@ module _ {s : Sections} {order : List ℕ} {kept : List (List ℕ)} (g : Given s
     h-there : d < definitionCount t
     h-there = omega (arith, definition-count s order kept)
 
-    query-same : (j : ℕ) → j < itemsOf s d → SameItem s t (itemQuery s d j) (itemQuery t d j)
+    query-same : (j : ℕ) → j < numberOfItems s d → SameItem s t (itemQuery s d j) (itemQuery t d j)
     query-same j q =
         let same = item-same d h j q in
         record {

@@ -1,4 +1,4 @@
--- The fields of each node of a written image are those of the draft's node. Assumes nothing.
+-- The fields of each node of a written image are those of the draft's node.
 use Prim.Native.Nat.{ℕ, _+_, _<_}
 use mathlib.Core.Path.{_≡_, sym, _∙_, subst}
 use mathlib.Core.Logic.{⊎-elim}
@@ -10,13 +10,13 @@ use Rattle.laws.proofs.First.{both, passed}
 use Rattle.texts.specs.Text.{holds}
 use Rattle.image.specs.Sections.{Sections, nodeCount, tagOf, f}
 use Rattle.records.specs.Fields.{Field, text, optional, command, operator, node, optionalNode, container, optionalContainer, plain, atMost, children, named, payload, wrong}
-use Rattle.records.specs.Records.{fieldsAt, payloadOf, fieldRule, firstField}
+use Rattle.records.specs.Records.{fieldsAt, payloadLengthOf, fieldRule, firstField}
 use Rattle.tree.proofs.Members.{both-true}
 use Rattle.draft.specs.Numbering.{oldOf}
-use Rattle.encoder.specs.Strings.{fieldTexts}
-use Rattle.encoder.specs.Written.{fieldStart, fieldWords}
+use Rattle.draft_image.specs.Strings.{fieldTexts}
+use Rattle.draft_image.specs.Written.{fieldStart, fieldWords}
 use Rattle.written.proofs.Texts.{in-left, in-right, in-one}
-use Rattle.encoder.proofs.Blocks.{w}
+use Rattle.draft_image.proofs.Blocks.{w}
 use Rattle.written.proofs.Fields.{Given, old-in, Reads, ReadsAll, reads, start-is}
 use Rattle.written.proofs.Rules.{suits, all-suit, suited}
 use Rattle.written_views.specs.Views.{SameField}
@@ -49,7 +49,7 @@ module _ {s : Sections} {order : List ℕ} {kept : List (List ℕ)} (g : Given s
   field-same (atMost k n) z r l p = r .0
   field-same children z r l p = r .1 .0
   field-same named z r l p = r .1 .0
-  field-same payload z r l p = list-same g j h z l (f t j 0) (f t j 1) (r .0 ∙ start-is g (payloadOf s) j h) (r .1 .0)
+  field-same payload z r l p = list-same g j h z l (f t j 0) (f t j 1) (r .0 ∙ start-is g (payloadLengthOf s) j h) (r .1 .0)
   field-same wrong z r l p = let q : _≡_ {A = ℕ} 12 0 = p in omega arith
 
   all-same : (xs : List Field) → all-suit (tagOf s i) xs ≡ true → ReadsAll g j i xs

@@ -1,4 +1,4 @@
--- The list values of a written image are those of its draft. Assumes nothing.
+-- The list values of a written image are those of its draft.
 use Prim.Native.Nat.{ℕ, _+_, _*_, _<_}
 use mathlib.Core.Path.{_≡_, refl, sym, ap, _∙_, subst}
 use mathlib.Core.List.{List, [], _∷_}
@@ -11,10 +11,10 @@ use Rattle.laws.specs.Counted.{sumOf}
 use Rattle.words.specs.Words.{wordAt}
 use Rattle.texts.specs.Text.{holds}
 use Rattle.image.specs.Sections.{Sections, nodeCount, tagOf, f, textAt}
-use Rattle.records.specs.Records.{payloadOf, listItems, listOrigins, listItemWord, listOriginWord}
+use Rattle.records.specs.Records.{payloadLengthOf, listItems, listOrigins, listItemWord, listOriginWord}
 use Rattle.draft.specs.Numbering.{oldOf}
-use Rattle.encoder.specs.Strings.{textIf, listTexts}
-use Rattle.encoder.specs.Written.{listItemOut, listOriginOut}
+use Rattle.draft_image.specs.Strings.{textIf, listTexts}
+use Rattle.draft_image.specs.Written.{listItemOut, listOriginOut}
 use Rattle.views.specs.declared.Span.{Span}
 use Rattle.views.specs.declared.ListEntry.{ListEntry}
 use Rattle.views.specs.declared.EntryAnswer.the-variants as entry
@@ -26,7 +26,7 @@ use Rattle.promises.proofs.Fields.{payload-right, right-text, right-optional}
 use Rattle.promises.proofs.Views.{shown-right}
 use Rattle.promises.proofs.Whole.{part-long, items-are, origins-are, item-word, origin-word}
 use Rattle.written.proofs.Texts.{in-left, in-right, in-one}
-use Rattle.encoder.proofs.Blocks.{w}
+use Rattle.draft_image.proofs.Blocks.{w}
 use Rattle.written.proofs.Fields.{Given, old-in}
 use Rattle.written.proofs.Payload.{list-right}
 use Rattle.written.proofs.Rules.{items-same, origins-same, item-words, origin-words, item-text, origin-text, list-kept}
@@ -93,7 +93,7 @@ module _ {s : Sections} {order : List ℕ} {kept : List (List ℕ)} (g : Given s
   from = f s (oldOf order j) 0
 
   abbrev to : ℕ
-  to = sumOf j (λ m. payloadOf s (oldOf order m))
+  to = sumOf j (λ m. payloadLengthOf s (oldOf order m))
 
   abbrev size : ℕ
   size = f s (oldOf order j) 1

@@ -1,4 +1,4 @@
--- Each node of a written image is shown as the draft's node, with the draft's children. Assumes nothing.
+-- Each node of a written image is shown as the draft's node, with the draft's children.
 use Prim.Native.Nat.{ℕ, _+_, _≤_, _<_}
 use mathlib.Core.Path.{_≡_, refl, sym, ap, _∙_, subst}
 use mathlib.Core.List.{List}
@@ -10,12 +10,12 @@ use Rattle.image.specs.Sections.{Sections, nodeCount, childCount, namedCount, p
 use Rattle.image.specs.Entries.{nodeIn}
 use Rattle.image.proofs.Tests.{both-true}
 use Rattle.records.specs.Fields.{Kind, fields, kindOf}
-use Rattle.records.specs.Records.{namedOf}
-use Rattle.records.proofs.Passed.{ranges}
+use Rattle.records.specs.Records.{numberOfNamed}
+use Rattle.records.proofs.PassedRules.{ranges}
 use Rattle.tree.specs.Tree.{childAt, namedAt}
 use Rattle.tree.proofs.Entries.{named-pass}
 use Rattle.draft.specs.Numbering.{oldOf}
-use Rattle.encoder.specs.Written.{fieldWords}
+use Rattle.draft_image.specs.Written.{fieldWords}
 use Rattle.views.specs.declared.KindAnswer.{KindAnswer}
 use Rattle.views.specs.declared.KindAnswer.the-variants as kindly
 use Rattle.views.specs.declared.Found.the-variants as found
@@ -27,7 +27,7 @@ use Rattle.views.specs.Children.{childCountOf, namedCountOf, childQuery, namedE
 use Rattle.promises.specs.Rules.{NodeRight}
 use Rattle.promises.proofs.Fields.{fields-right, right-node}
 use Rattle.promises.proofs.Views.{Seen, seen}
-use Rattle.encoder.proofs.Blocks.{w}
+use Rattle.draft_image.proofs.Blocks.{w}
 use Rattle.written.proofs.Fields.{Given, counted, few, old-in, parent-word, place-word, tag-word, container-same, container-reads}
 use Rattle.written.proofs.Rules.{children-are, named-are, node-fields}
 use Rattle.written.proofs.Tree.{child-at, named-at}
@@ -130,7 +130,7 @@ module _ {s : Sections} {order : List ℕ} {kept : List (List ℕ)} (g : Given s
     named-same q =
         let from = ranges s i (is-container c) (g .taken .fields i (old-in g j h)) in
         let to = ranges t j (both-true (inside t j) (isContainer t j) there .1) (node-fields g j h) in
-        let z : k < namedOf s i = omega (arith, named-are g j h (is-container c)) in
+        let z : k < numberOfNamed s i = omega (arith, named-are g j h (is-container c)) in
         let name : SameText s t (span (namedAt s i k 0) (namedAt s i k 1)) (span (namedAt t j k 0) (namedAt t j k 1))
         = text-same g (namedAt s i k 0) (namedAt s i k 1) (namedAt t j k 0) (namedAt t j k 1) (named-pass s i (g .taken .entries i (old-in g j h)) k z .text)
         (g .stored .named j h k z) (named-at g j h k 0 z (omega arith)) (named-at g j h k 1 z (omega arith)) in

@@ -1,4 +1,4 @@
--- The texts and the node numbers of a written image are those of its draft. Assumes nothing.
+-- The texts and the node numbers of a written image are those of its draft.
 use Prim.Native.Nat.{ℕ, _+_}
 use mathlib.Core.Path.{_≡_, refl, sym, ap, _∙_}
 use mathlib.Core.List.{List, [], _∷_}
@@ -14,13 +14,13 @@ use Rattle.utf8.specs.Utf8.{utf8}
 use Rattle.image.specs.Sections.{Sections, textAt, partAt, present, absent, goodIn, goodText, goodOptional}
 use Rattle.tree.proofs.Members.{both-true}
 use Rattle.draft.specs.Numbering.{oldOf, newOf}
-use Rattle.encoder.specs.Strings.{textIf, offsetOf}
+use Rattle.draft_image.specs.Strings.{textIf, offsetOf}
 use Rattle.views.specs.declared.OptionalWord.the-variants as word
 use Rattle.views.specs.View.{span, shown, optionalText, optionalWord}
 use Rattle.written.proofs.Lists.{or-else}
 use Rattle.tree.proofs.Places.{place-le}
 use Rattle.written.proofs.Texts.{in-one, good-utf8, good-length}
-use Rattle.encoder.proofs.Blocks.{w}
+use Rattle.draft_image.proofs.Blocks.{w}
 use Rattle.written.proofs.Fields.{Given, few, new-is, new-in, old-in, old-new, new-old, new-zero}
 use Rattle.written.proofs.Rules.{good-at, text-at}
 use Rattle.written_views.specs.Views.{renumbered, Renumbers, SameText, SameOptional}

@@ -1,4 +1,4 @@
--- What a reader sees of every written image is what its draft says. Assumes nothing.
+-- What a reader sees of every written image is what its draft says.
 use Prim.Native.Nat.{ℕ}
 use mathlib.Core.Path.{refl, sym, subst}
 use mathlib.Core.List.{List}
@@ -7,8 +7,8 @@ use Rattle.image.specs.Sections.{Sections}
 use Rattle.image.specs.Header.{viewOf}
 use Rattle.load.specs.Load.{loadedOf}
 use Rattle.draft.specs.Numbering.{numbering}
-use Rattle.encoder.specs.Encode.{imageFor}
-use Rattle.encoder.proofs.Blocks.{w, definition-count, item-count}
+use Rattle.draft_image.specs.Encode.{imageFor}
+use Rattle.draft_image.proofs.Blocks.{w, definition-count, item-count}
 use Rattle.written.proofs.Fields.{Given, counted}
 use Rattle.written.proofs.Loads.{given, back, written-loads}
 use Rattle.written_views.specs.Views.{SameViews, WrittenViews, WrittenReads}

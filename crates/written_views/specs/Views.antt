@@ -1,6 +1,6 @@
 -- What a reader sees of a written image is what its author wrote: the statements. s is the draft, t the image, order the numbering:
 -- the image's node j is the draft's node `oldOf order j`, the draft's node i the image's `newOf order i`. Both sides are read by the
--- definitions that the contracts of the queries cite. Assumes nothing.
+-- definitions that the contracts of the queries cite.
 use Prim.Native.Nat.{ℕ, _+_, _≤_, _<_}
 use mathlib.Core.Path.{_≡_}
 use mathlib.Core.List.{List, List·Memᴰ}
@@ -16,7 +16,7 @@ use Rattle.index.specs.Definitions.{firstItem}
 use Rattle.load.specs.declared.Loaded.the-variants.{View}
 use Rattle.load.specs.Load.{loadWords, loadedOf}
 use Rattle.draft.specs.Numbering.{numbering, oldOf, newOf}
-use Rattle.encoder.specs.Encode.{imageFor}
+use Rattle.draft_image.specs.Encode.{imageFor}
 use Rattle.views.specs.declared.Span.{Span}
 use Rattle.views.specs.declared.OptionalText.{OptionalText}
 use Rattle.views.specs.declared.OptionalText.the-variants as maybe

@@ -1,4 +1,4 @@
--- `answers::hand_over` meets its contract. Assumes nothing.
+-- `answers::hand_over` meets its contract.
 use Rattle.answers.proofs.Putting.{fitting-number, fitting-words, short-number, short-words}
 use borrow.Author.Needs.{needs}
 use Rattle.answers.proofs.hand_over.Statement.{statement}

@@ -1,4 +1,4 @@
--- `answers::hand_part` meets its contract. Assumes nothing.
+-- `answers::hand_part` meets its contract.
 use lib.ListN.{length}
 use denote.Ref.{now}
 use Rattle.answers.proofs.Putting.{none-number, none-words, outside, past, part-number, part-words}

@@ -1,4 +1,4 @@
--- The loop's invariant: what is left of the bytes, from the checksum so far, gives the checksum of them all. Assumes nothing.
+-- The loop's invariant: what is left of the bytes, from the checksum so far, gives the checksum of them all.
 use mathlib.Core.Path.{_≡_, refl, _∙_}
 use Prim.Native.Nat.{_≤_, _-_}
 use lib.ListN.{length, drop}

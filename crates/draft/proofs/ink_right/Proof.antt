@@ -1,4 +1,4 @@
--- `draft::ink_right` meets its contract. Assumes nothing.
+-- `draft::ink_right` meets its contract.
 use borrow.Author.Needs.{needs}
 use borrow.Author.Tests.{le-leb, lt-leb}
 use Rattle.draft.proofs.ink_right.Statement.{statement}

@@ -1,6 +1,6 @@
--- `draft::work_words_fit` meets its contract. Assumes nothing.
+-- `draft::work_words_fit` meets its contract.
 use borrow.Author.Needs.{needs}
-use Rattle.draft.proofs.Lent.{few-nodes, few-children, few-named, few-definitions, few-items, few-payload, enough, after-nodes, after-next, quarter}
+use Rattle.draft.proofs.WorkWords.{few-nodes, few-children, few-named, few-definitions, few-items, few-payload, enough, after-nodes, after-next, quarter}
 use Rattle.draft.proofs.work_words_fit.Statement.{statement}
 use Rattle.draft.proofs.work_words_fit.Tie as tie
 

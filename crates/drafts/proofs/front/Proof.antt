@@ -1,4 +1,4 @@
--- `drafts::front` is safe: the bytes are there. Assumes nothing.
+-- `drafts::front` is safe: the bytes are there.
 use native.Mathlib.Omega.{arith}
 use lib.ListN.{length-take}
 use borrow.Author.Needs.{needs}

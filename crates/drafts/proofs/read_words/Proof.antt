@@ -1,4 +1,4 @@
--- `drafts::read_words` is safe and ends. Assumes nothing.
+-- `drafts::read_words` is safe and ends.
 use Prim.Native.Nat.{_-_, _≤_}
 use borrow.Author.Needs.{needs}
 use Rattle.drafts.proofs.read_words.Statement.{statement}

@@ -1,4 +1,4 @@
--- `drafts::write_draft` is safe: what it lends is there. Assumes nothing.
+-- `drafts::write_draft` is safe: what it lends is there.
 use native.Mathlib.Omega.{arith}
 use lib.ListN.{length-take}
 use borrow.Author.Needs.{needs}

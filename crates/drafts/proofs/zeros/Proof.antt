@@ -1,4 +1,4 @@
--- `drafts::zeros` is safe and ends: it counts no more than it has read. Assumes nothing.
+-- `drafts::zeros` is safe and ends: it counts no more than it has read.
 use Prim.Native.Nat.{_-_, _≤_}
 use lib.ListN.{length}
 use borrow.Author.Needs.{needs}

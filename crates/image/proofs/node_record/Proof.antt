@@ -1,4 +1,4 @@
--- `image::node_record` meets its contract. Assumes nothing.
+-- `image::node_record` meets its contract.
 use Rattle.image.specs.Entries.{recordOf}
 use borrow.Author.Needs.{needs}
 use Rattle.image.proofs.node_record.Statement.{statement}

@@ -1,4 +1,4 @@
--- `image_check::answer_of` meets its contract. Assumes nothing.
+-- `image_check::answer_of` meets its contract.
 use Rattle.image_check.proofs.Enough.{long, viewed, refused}
 use borrow.Author.Needs.{needs}
 use Rattle.image_check.proofs.answer_of.Statement.{statement}

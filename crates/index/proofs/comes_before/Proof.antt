@@ -1,4 +1,4 @@
--- `index::comes_before` meets its contract. Assumes nothing.
+-- `index::comes_before` meets its contract.
 use Rattle.texts.specs.Text.{before}
 use borrow.Author.Needs.{needs}
 use Rattle.index.proofs.comes_before.Statement.{statement}

@@ -1,4 +1,4 @@
--- `index::definition_rises` meets its contract. Assumes nothing.
+-- `index::definition_rises` meets its contract.
 use mathlib.Core.Path.{_∙_}
 use Rattle.words.specs.Words.{wordsOf}
 use Rattle.index.proofs.Readers.{definition-rises}

@@ -1,4 +1,4 @@
--- `index::definition_rule` meets its contract. Assumes nothing.
+-- `index::definition_rule` meets its contract.
 use Prim.Native.Nat.{_+_}
 use mathlib.Core.Path.{_≡_, _∙_, sym, refl}
 use mathlib.Core.List.{[]}
@@ -14,7 +14,7 @@ use Rattle.index.specs.Definitions.{itemRuleFrom, definitionRule}
 use Rattle.index.specs.Parts.{definitionParts}
 use Rattle.index.proofs.Definitions.{item-like}
 use Rattle.index.proofs.Readers.{definition-by, definition-past, items-length}
-use Rattle.index.proofs.Runs.{first-like}
+use Rattle.index.proofs.RuleRuns.{first-like}
 use borrow.Author.Needs.{needs}
 use Rattle.index.proofs.definition_rule.Statement.{statement}
 use Rattle.index.proofs.definition_rule.Tie as tie

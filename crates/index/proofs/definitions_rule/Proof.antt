@@ -1,4 +1,4 @@
--- `index::definitions_rule` meets its contract. The invariant: no definition so far is refused, and `used` is how many items they have. Assumes nothing.
+-- `index::definitions_rule` meets its contract. The invariant: no definition so far is refused, and `used` is how many items they have.
 use Prim.Native.Nat.{_≤_, _-_, _/_}
 use mathlib.Core.Path.{_≡_, sym, _∙_}
 use native.Mathlib.Omega.{arith}
@@ -6,10 +6,10 @@ use lib.ListN.{length}
 use borrow.Author.Needs.{needs}
 use borrow.Author.Tests.{eq-eqb, ne-eqb}
 use Rattle.laws.specs.Refusal.{firstOf, unless}
-use Rattle.index.specs.Definitions.{itemsOf, itemsBefore, definitionRule}
+use Rattle.index.specs.Definitions.{numberOfItems, itemsBefore, definitionRule}
 use Rattle.index.specs.Parts.{definitionParts}
 use Rattle.index.proofs.Readers.{definitions-stop, definitions-end, used-more, used-inside}
-use Rattle.index.proofs.Runs.{sum-starts, run-starts, run-goes}
+use Rattle.index.proofs.RuleRuns.{sum-starts, run-starts, run-goes}
 use Rattle.index.proofs.definitions_rule.Statement.{statement}
 use Rattle.index.proofs.definitions_rule.Tie as tie
 
@@ -24,7 +24,7 @@ loop-holds : tie.Need-loop-holds Inv-loop μ-loop
 loop-holds c =
     let at = c .before .before .before .args in
     let s = definitionParts (at .definitions .now) (at .items .now) (at .strings .now) in
-    (search needs, sym (sum-starts (itemsOf s)), run-starts (definitionRule s))
+    (search needs, sym (sum-starts (numberOfItems s)), run-starts (definitionRule s))
 
 definition-rule-requires : tie.Need-definition-rule-requires Inv-loop μ-loop
 definition-rule-requires c κs = (search needs, c .before .loop .inv .1)

@@ -1,4 +1,4 @@
--- `index::index_entry_rule` meets its contract. Assumes nothing.
+-- `index::index_entry_rule` meets its contract.
 use mathlib.Core.Path.{_≡_, _∙_, sym, refl}
 use mathlib.Core.List.{[]}
 use Rattle.texts.specs.Text.{rising}

@@ -1,4 +1,4 @@
--- `index::index_rule` meets its contract. The invariant: no entry so far is refused. Assumes nothing.
+-- `index::index_rule` meets its contract. The invariant: no entry so far is refused.
 use Prim.Native.Nat.{_≤_, _-_, _/_}
 use mathlib.Core.Path.{_≡_, sym, _∙_}
 use lib.ListN.{length}
@@ -7,7 +7,7 @@ use Rattle.laws.specs.Refusal.{firstOf}
 use Rattle.index.specs.Index.{indexEntryRule}
 use Rattle.index.specs.Parts.{indexParts}
 use Rattle.index.proofs.Readers.{index-run}
-use Rattle.index.proofs.Runs.{run-starts, run-stops, run-goes, run-ends}
+use Rattle.index.proofs.RuleRuns.{run-starts, run-stops, run-goes, run-ends}
 use Rattle.index.proofs.index_rule.Statement.{statement}
 use Rattle.index.proofs.index_rule.Tie as tie
 

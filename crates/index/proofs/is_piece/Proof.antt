@@ -1,4 +1,4 @@
--- `index::is_piece` meets its contract. Assumes nothing.
+-- `index::is_piece` meets its contract.
 use Rattle.index.specs.Paths.{pieceOf}
 use borrow.Author.Needs.{needs}
 use Rattle.index.proofs.is_piece.Statement.{statement}

@@ -1,4 +1,4 @@
--- `index::item_rule` meets its contract. Assumes nothing.
+-- `index::item_rule` meets its contract.
 use mathlib.Core.Path.{_≡_, _∙_, sym, refl}
 use mathlib.Core.List.{[]}
 use borrow.Author.Tests.{not-true, not-false}

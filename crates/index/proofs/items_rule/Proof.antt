@@ -1,11 +1,11 @@
--- `index::items_rule` meets its contract. The invariant: no item so far is refused. Assumes nothing.
+-- `index::items_rule` meets its contract. The invariant: no item so far is refused.
 use Prim.Native.Nat.{_≤_, _-_}
 use mathlib.Core.Path.{_≡_}
 use mathlib.Core.List.{[]}
 use Rattle.laws.specs.Refusal.{firstOf}
 use Rattle.index.specs.Definitions.{itemRuleFrom}
 use Rattle.index.specs.Parts.{definitionParts}
-use Rattle.index.proofs.Runs.{run-starts, run-stops, run-goes, run-ends}
+use Rattle.index.proofs.RuleRuns.{run-starts, run-stops, run-goes, run-ends}
 use borrow.Author.Needs.{needs}
 use Rattle.index.proofs.items_rule.Statement.{statement}
 use Rattle.index.proofs.items_rule.Tie as tie

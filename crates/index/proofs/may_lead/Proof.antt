@@ -1,4 +1,4 @@
--- `index::may_lead` meets its contract. Assumes nothing.
+-- `index::may_lead` meets its contract.
 use mathlib.Core.Path.{sym}
 use Rattle.index.proofs.Suffix.{lead-none, lead-long, lead-named, lead-dot}
 use borrow.Author.Needs.{needs}

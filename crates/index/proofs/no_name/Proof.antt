@@ -1,4 +1,4 @@
--- `index::no_name` meets its contract. Assumes nothing.
+-- `index::no_name` meets its contract.
 use mathlib.Core.Path.{sym}
 use Rattle.index.proofs.Readers.{name-empty, name-none, name-there}
 use Rattle.index.proofs.no_name.Statement.{statement}

@@ -1,4 +1,4 @@
--- `index::path_node` meets its contract. Assumes nothing.
+-- `index::path_node` meets its contract.
 use Rattle.index.proofs.Readers.{node-words}
 use borrow.Author.Needs.{needs}
 use Rattle.index.proofs.path_node.Statement.{statement}

@@ -1,4 +1,4 @@
--- `index::piece_len` meets its contract. Assumes nothing.
+-- `index::piece_len` meets its contract.
 use mathlib.Core.Path.{ap}
 use lib.ListN.{length}
 use Rattle.index.specs.Paths.{pieceOf}

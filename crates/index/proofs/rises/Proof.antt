@@ -1,8 +1,8 @@
--- `index::rises` meets its contract. Assumes nothing.
+-- `index::rises` meets its contract.
 use mathlib.Core.Path.{_∙_, sym}
 use Rattle.words.specs.Words.{wordsOf}
 use Rattle.index.proofs.Readers.{entry-rises}
-use Rattle.index.proofs.Rising.{rising-first}
+use Rattle.index.proofs.RisingTexts.{rising-first}
 use borrow.Author.Needs.{needs}
 use Rattle.index.proofs.rises.Statement.{statement}
 use Rattle.index.proofs.rises.Tie as tie

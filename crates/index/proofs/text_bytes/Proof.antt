@@ -1,4 +1,4 @@
--- `index::text_bytes` meets its contract. Assumes nothing.
+-- `index::text_bytes` meets its contract.
 use mathlib.Core.Path.{sym}
 use native.Mathlib.Nat.{add-sub-cancel-left}
 use Rattle.image.specs.Sections.{partAt}

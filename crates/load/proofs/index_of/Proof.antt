@@ -1,4 +1,4 @@
--- `load::index_of` meets its contract. Assumes nothing.
+-- `load::index_of` meets its contract.
 use Rattle.load.proofs.Indexes.{index-refused, index-passed}
 use borrow.Author.Needs.{needs}
 use Rattle.load.proofs.index_of.Statement.{statement}

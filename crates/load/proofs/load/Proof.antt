@@ -1,5 +1,5 @@
--- `load::load` meets its contract: the header, then the rest. Assumes nothing.
-use Rattle.load.proofs.Loading.{header-kept, header-broken, header-refused, header-early, refused-load, left-alone-at}
+-- `load::load` meets its contract: the header, then the rest.
+use Rattle.load.proofs.Answers.{header-kept, header-broken, header-refused, header-early, refused-load, left-alone-at}
 use borrow.Author.Needs.{needs}
 use Rattle.load.proofs.load.Statement.{statement}
 use Rattle.load.proofs.load.Tie as tie

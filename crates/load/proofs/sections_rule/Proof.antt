@@ -1,4 +1,4 @@
--- `load::sections_rule` meets its contract: records, tree, then index and definitions. Assumes nothing.
+-- `load::sections_rule` meets its contract: records, tree, then index and definitions.
 use mathlib.Core.Path.{refl}
 use Rattle.load.proofs.Rows.{records-refused, tree-refused, tree-passed}
 use borrow.Author.Needs.{needs}

@@ -1,4 +1,4 @@
--- `load::tree_of` meets its contract: the tree's rule of the parts is that of the view's sections. Assumes nothing.
+-- `load::tree_of` meets its contract: the tree's rule of the parts is that of the view's sections.
 use Rattle.load.proofs.Rows.{part-fit, part-room, part-tree, part-rest}
 use borrow.Author.Needs.{needs}
 use Rattle.load.proofs.tree_of.Statement.{statement}

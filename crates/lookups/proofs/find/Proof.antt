@@ -1,4 +1,4 @@
--- `lookups::find` meets its contract. The loop's invariant: the range lo to hi is all that is left to search. Assumes nothing.
+-- `lookups::find` meets its contract. The loop's invariant: the range lo to hi is all that is left to search.
 use borrow.Author.Needs.{needs}
 use Prim.Native.Nat.{_-_}
 use Rattle.lookups.proofs.Lookups.{Halved, halved-start, halved-above, halved-below, halved-here, halved-end}

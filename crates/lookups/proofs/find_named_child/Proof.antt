@@ -1,4 +1,4 @@
--- `lookups::find_named_child` meets its contract. Assumes nothing.
+-- `lookups::find_named_child` meets its contract.
 use Rattle.lookups.proofs.Lookups.{find-missing, find-found}
 use borrow.Author.Needs.{needs}
 use Rattle.lookups.proofs.find_named_child.Statement.{statement}

@@ -1,4 +1,4 @@
--- `lookups::is_origin` meets its contract. Assumes nothing.
+-- `lookups::is_origin` meets its contract.
 use borrow.Author.Needs.{needs}
 use Rattle.lookups.proofs.is_origin.Statement.{statement}
 use Rattle.lookups.proofs.is_origin.Tie as tie

@@ -1,4 +1,4 @@
--- `lookups::item_at` meets its contract. Assumes nothing.
+-- `lookups::item_at` meets its contract.
 use denote.Ref.{now}
 use Rattle.image.specs.Sections.{definitionWord}
 use Rattle.lookups.proofs.Lookups.{item-made}

@@ -1,4 +1,4 @@
--- `lookups::last_item` meets its contract. The loop's invariant: the definitions before d are all that is left to ask. Assumes nothing.
+-- `lookups::last_item` meets its contract. The loop's invariant: the definitions before d are all that is left to ask.
 use borrow.Author.Needs.{needs}
 use Rattle.lookups.proofs.Lookups.{Left, left-start, left-next, left-found, left-end, item-inside}
 use Rattle.lookups.proofs.last_item.Statement.{statement}

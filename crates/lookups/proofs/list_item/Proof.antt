@@ -1,4 +1,4 @@
--- `lookups::list_item` meets its contract. Assumes nothing.
+-- `lookups::list_item` meets its contract.
 use native.Mathlib.Omega.{arith}
 use lib.ListN.{length-take}
 use Rattle.lookups.proofs.Lookups.{list-blank, list-dotted, list-plain}

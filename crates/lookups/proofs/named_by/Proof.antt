@@ -1,4 +1,4 @@
--- `lookups::named_by` meets its contract. Assumes nothing.
+-- `lookups::named_by` meets its contract.
 use native.Mathlib.Omega.{arith}
 use Rattle.lookups.proofs.Lookups.{named-outside, named-nowhere, named-at, named-place}
 use borrow.Author.Needs.{needs}

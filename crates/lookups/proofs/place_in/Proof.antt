@@ -1,4 +1,4 @@
--- `lookups::place_in` meets its contract. Assumes nothing.
+-- `lookups::place_in` meets its contract.
 use Rattle.lookups.proofs.Lookups.{other-origin, place-outside, place-there}
 use borrow.Author.Needs.{needs}
 use Rattle.lookups.proofs.place_in.Statement.{statement}

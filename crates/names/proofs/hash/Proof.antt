@@ -1,4 +1,4 @@
--- `names::hash` meets its contract. Assumes nothing.
+-- `names::hash` meets its contract.
 use native.Mathlib.Omega.{arith}
 use borrow.Author.Needs.{needs}
 use Rattle.names.proofs.Hashes.{hash-none, hash-some}

@@ -1,4 +1,4 @@
--- `names::is_spelled` meets its contract. Assumes nothing.
+-- `names::is_spelled` meets its contract.
 use mathlib.Core.Path.{sym}
 use lib.Seq.{length-take-le}
 use borrow.Author.Needs.{needs}

@@ -1,10 +1,10 @@
--- `names::name_of` meets its contract: after i turns the first i bytes are the text's. Assumes nothing.
+-- `names::name_of` meets its contract: after i turns the first i bytes are the text's.
 use Prim.Native.Nat.{_≤_, _-_}
 use mathlib.Core.Path.{_≡_, refl}
 use native.Mathlib.Omega.{arith}
 use borrow.Author.Needs.{needs}
 use lib.ListN.{length}
-use Rattle.names.proofs.Copied.{copied, copied-more, copied-all}
+use Rattle.names.proofs.Copies.{copied, copied-more, copied-all}
 use Rattle.names.proofs.name_of.Statement.{statement}
 use Rattle.names.proofs.name_of.Tie as tie
 

@@ -1,6 +1,6 @@
--- `records::add` meets its contract. Assumes nothing.
+-- `records::add` meets its contract.
 use borrow.Author.Needs.{needs}
-use Rattle.records.proofs.Passed.{sums-container, sums-list, sums-other}
+use Rattle.records.proofs.PassedRules.{sums-container, sums-list, sums-other}
 use Rattle.records.proofs.add.Statement.{statement}
 use Rattle.records.proofs.add.Tie as tie
 

@@ -1,4 +1,4 @@
--- `records::at_most` meets its contract. Assumes nothing.
+-- `records::at_most` meets its contract.
 use Rattle.records.proofs.Tests.{at-most, above}
 use Rattle.records.proofs.at_most.Statement.{statement}
 use Rattle.records.proofs.at_most.Tie as tie

@@ -1,4 +1,4 @@
--- `records::container` meets its contract. Assumes nothing.
+-- `records::container` meets its contract.
 use borrow.Author.Needs.{needs}
 use Rattle.records.proofs.Tests.{rules}
 use Rattle.records.specs.Shown.{containerRule}

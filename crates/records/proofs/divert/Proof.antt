@@ -1,4 +1,4 @@
--- `records::divert` meets its contract. Assumes nothing.
+-- `records::divert` meets its contract.
 use borrow.Author.Needs.{needs}
 use Rattle.records.proofs.Tests.{rules}
 use Rattle.records.specs.Shown.{divertRule}

@@ -1,4 +1,4 @@
--- `records::fields_rule` meets its contract. Assumes nothing.
+-- `records::fields_rule` meets its contract.
 use mathlib.Core.Path.{_∙_}
 use mathlib.Core.Logic.{inl}
 use borrow.Author.Needs.{needs}

@@ -1,4 +1,4 @@
--- `records::is_container` meets its contract. Assumes nothing.
+-- `records::is_container` meets its contract.
 use borrow.Author.Needs.{needs}
 use Rattle.records.proofs.Tests.{other-tag, that-tag}
 use Rattle.records.proofs.is_container.Statement.{statement}

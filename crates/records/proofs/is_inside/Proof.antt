@@ -1,4 +1,4 @@
--- `records::is_inside` meets its contract. Assumes nothing.
+-- `records::is_inside` meets its contract.
 use Rattle.records.proofs.Tests.{none-inside, some-inside}
 use Rattle.records.proofs.is_inside.Statement.{statement}
 use Rattle.records.proofs.is_inside.Tie as tie

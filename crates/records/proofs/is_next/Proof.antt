@@ -1,4 +1,4 @@
--- `records::is_next` meets its contract. Assumes nothing.
+-- `records::is_next` meets its contract.
 use borrow.Author.Needs.{needs}
 use Rattle.records.proofs.Tests.{past-end, in-end}
 use Rattle.records.proofs.is_next.Statement.{statement}

@@ -1,4 +1,4 @@
--- `records::is_operator` meets its contract. Assumes nothing.
+-- `records::is_operator` meets its contract.
 use borrow.Author.Needs.{needs}
 use Rattle.records.proofs.Texts.{known-name, unknown-name}
 use Rattle.records.proofs.is_operator.Statement.{statement}

@@ -1,4 +1,4 @@
--- `records::is_optional_container` meets its contract. Assumes nothing.
+-- `records::is_optional_container` meets its contract.
 use borrow.Author.Needs.{needs}
 use Rattle.records.proofs.Tests.{none-optional, some-optional}
 use Rattle.records.proofs.is_optional_container.Statement.{statement}

@@ -1,4 +1,4 @@
--- `records::is_optional_node` meets its contract. Assumes nothing.
+-- `records::is_optional_node` meets its contract.
 use Rattle.records.proofs.Tests.{none-optional, some-optional, some-inside}
 use Rattle.records.proofs.is_optional_node.Statement.{statement}
 use Rattle.records.proofs.is_optional_node.Tie as tie

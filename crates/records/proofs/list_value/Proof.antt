@@ -1,4 +1,4 @@
--- `records::list_value` meets its contract. Assumes nothing.
+-- `records::list_value` meets its contract.
 use borrow.Author.Needs.{needs}
 use Rattle.records.proofs.Tests.{stop-unequal, go-equal}
 use Rattle.records.specs.Shown.{listRule}

@@ -1,4 +1,4 @@
--- `records::parent_rule` meets its contract. Assumes nothing.
+-- `records::parent_rule` meets its contract.
 use borrow.Author.Needs.{needs}
 use Rattle.records.proofs.ByKind.{parent-of-root, parent-missing, parent-self, parent-right}
 use Rattle.records.proofs.parent_rule.Statement.{statement}

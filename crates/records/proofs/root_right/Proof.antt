@@ -1,4 +1,4 @@
--- `records::root_right` meets its contract. Assumes nothing.
+-- `records::root_right` meets its contract.
 use borrow.Author.Needs.{needs}
 use Rattle.records.proofs.ByKind.{root-parent, root-place, root-tag}
 use Rattle.records.proofs.root_right.Statement.{statement}

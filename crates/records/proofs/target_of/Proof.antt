@@ -1,4 +1,4 @@
--- `records::target_of` meets its contract. Assumes nothing.
+-- `records::target_of` meets its contract.
 use Rattle.records.proofs.ByKind.{target-second, target-fourth, target-none}
 use Rattle.records.proofs.target_of.Statement.{statement}
 use Rattle.records.proofs.target_of.Tie as tie

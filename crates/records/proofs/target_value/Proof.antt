@@ -1,4 +1,4 @@
--- `records::target_value` meets its contract. Assumes nothing.
+-- `records::target_value` meets its contract.
 use borrow.Author.Needs.{needs}
 use Rattle.records.proofs.Tests.{rules}
 use Rattle.records.specs.Shown.{targetRule}

@@ -1,4 +1,4 @@
--- `records::text_only` meets its contract. Assumes nothing.
+-- `records::text_only` meets its contract.
 use borrow.Author.Needs.{needs}
 use Rattle.records.proofs.Texts.{text-bad, text-any, command-known, command-unknown, operator-known, operator-unknown}
 use Rattle.records.proofs.text_only.Statement.{statement}

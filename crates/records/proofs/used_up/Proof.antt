@@ -1,4 +1,4 @@
--- `records::used_up` meets its contract. Assumes nothing.
+-- `records::used_up` meets its contract.
 use borrow.Author.Needs.{needs}
 use Rattle.records.proofs.ByKind.{used-children, used-named, used-payload}
 use Rattle.records.proofs.used_up.Statement.{statement}

@@ -1,4 +1,4 @@
--- `replay::print_counts` ends: the kind rises with each turn. Assumes nothing.
+-- `replay::print_counts` ends: the kind rises with each turn.
 use Prim.Native.Nat.{_≤_, _-_}
 use borrow.Author.Needs.{needs}
 use Rattle.replay.proofs.print_counts.Statement.{statement}

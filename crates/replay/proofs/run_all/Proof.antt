@@ -1,4 +1,4 @@
--- `replay::run_all` ends: the place rises with each turn. Assumes nothing.
+-- `replay::run_all` ends: the place rises with each turn.
 use Prim.Native.Nat.{_≤_, _-_}
 use borrow.Author.Needs.{needs}
 use Rattle.replay.proofs.run_all.Statement.{statement}

@@ -1,4 +1,4 @@
--- `rows::answer_with` is safe: the words that it lends are there. Assumes nothing.
+-- `rows::answer_with` is safe: the words that it lends are there.
 use native.Mathlib.Omega.{arith}
 use lib.ListN.{length-take}
 use borrow.Author.Needs.{needs}

@@ -1,4 +1,4 @@
--- `story_image::load_without_words` meets its contract. Assumes nothing.
+-- `story_image::load_without_words` meets its contract.
 use Rattle.story_image.proofs.Exporting.{number}
 use borrow.Author.Needs.{needs}
 use Rattle.story_image.proofs.load_without_words.Statement.{statement}

@@ -1,4 +1,4 @@
--- `story_image::put_view` meets its contract. Assumes nothing.
+-- `story_image::put_view` meets its contract.
 use Rattle.story_image.proofs.Exporting.{view-put}
 use borrow.Author.Needs.{needs}
 use Rattle.story_image.proofs.put_view.Statement.{statement}

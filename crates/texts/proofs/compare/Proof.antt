@@ -1,4 +1,4 @@
--- `texts::compare` meets its contract. The invariant: what is left of the two is ordered as the two are. Assumes nothing.
+-- `texts::compare` meets its contract. The invariant: what is left of the two is ordered as the two are.
 use borrow.Author.Needs.{needs}
 use native.Mathlib.Omega.{arith}
 use Prim.Native.Nat.{_≤_, _-_}

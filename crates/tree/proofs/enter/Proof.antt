@@ -1,4 +1,4 @@
--- `tree::enter` meets its contract. Assumes nothing.
+-- `tree::enter` meets its contract.
 use mathlib.Core.Path.{_≡_, refl}
 use Prim.Native.Nat.{_+_, _<_, _^_}
 use native.Mathlib.Omega.{arith}
@@ -6,7 +6,7 @@ use Rattle.image.specs.Sections.{Sections}
 use Rattle.image.proofs.Entries.{IsNode, read-node}
 use Rattle.tree.specs.Parts.{partsOf}
 use Rattle.tree.proofs.Tests.{node-count}
-use Rattle.tree.proofs.Entering.{enter-leaf, enter-refused, enter-pushed, leaf, container, Room, room}
+use Rattle.tree.proofs.NodeTurn.{enter-leaf, enter-refused, enter-pushed, leaf, container, Room, room}
 use borrow.Author.Needs.{needs}
 use Rattle.tree.proofs.enter.Statement.{statement}
 use Rattle.tree.proofs.enter.Tie as tie

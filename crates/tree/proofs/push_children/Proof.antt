@@ -1,4 +1,4 @@
--- `tree::push_children` meets its contract. Assumes nothing.
+-- `tree::push_children` meets its contract.
 use mathlib.Core.Path.{sym, _∙_}
 use mathlib.Core.List.{[]}
 use Prim.Native.Nat.{_-_}

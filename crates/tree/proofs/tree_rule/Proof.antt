@@ -1,4 +1,4 @@
--- `tree::tree_rule` meets its contract. Assumes nothing.
+-- `tree::tree_rule` meets its contract.
 use mathlib.Core.Path.{_≡_, sym, _∙_, ap}
 use Prim.Native.Nat.{ℕ, _/_}
 use native.Mathlib.Omega.{arith}
@@ -7,7 +7,7 @@ use mathlib.Core.List.{List}
 use Rattle.image.specs.Sections.{Sections, nodeCount}
 use Rattle.tree.specs.Parts.{partsOf}
 use Rattle.tree.proofs.Tests.{node-count}
-use Rattle.tree.proofs.Loading.{tree-refused, tree-passes, tree-unreached, cleared-zero, kept-words}
+use Rattle.tree.proofs.LoadWalk.{tree-refused, tree-passes, tree-unreached, cleared-zero, kept-words}
 use borrow.Author.Needs.{needs}
 use Rattle.tree.proofs.tree_rule.Statement.{statement}
 use Rattle.tree.proofs.tree_rule.Tie as tie

@@ -1,10 +1,10 @@
--- `tree::walk` meets its contract. Assumes nothing.
+-- `tree::walk` meets its contract.
 use mathlib.Core.Path.{refl, _∙_}
 use Prim.Native.Nat.{ℕ, _+_, _-_, _<_}
 use native.Mathlib.Omega.{arith}
 use lib.ListN.{getD, length-set}
 use Rattle.tree.specs.Parts.{partsOf}
-use Rattle.tree.proofs.Loading.{LoadWalking, loadTurns, load-start, load-end, load-below, load-skip, load-room, load-less, load-entered, load-refused}
+use Rattle.tree.proofs.LoadWalk.{LoadWalking, loadTurns, load-start, load-end, load-below, load-skip, load-room, load-less, load-entered, load-refused}
 use borrow.Author.Needs.{needs}
 use Rattle.tree.proofs.walk.Statement.{statement}
 use Rattle.tree.proofs.walk.Tie as tie

@@ -1,4 +1,4 @@
--- `utf8::ascii_end` meets its contract. The invariant: whole sequences have passed. Assumes nothing.
+-- `utf8::ascii_end` meets its contract. The invariant: whole sequences have passed.
 use Prim.Native.Nat.{_-_}
 use mathlib.Core.Path.{sym, _∙_}
 use native.Mathlib.Omega.{arith}

@@ -1,4 +1,4 @@
--- `utf8::stretch_end` meets its contract. The invariant: whole sequences have passed. Assumes nothing.
+-- `utf8::stretch_end` meets its contract. The invariant: whole sequences have passed.
 use Prim.Native.Nat.{_-_}
 use native.Mathlib.Omega.{arith}
 use borrow.Author.Needs.{needs}

@@ -1,4 +1,4 @@
--- `vectors::print_bytes` is safe and ends. Assumes nothing.
+-- `vectors::print_bytes` is safe and ends.
 use Prim.Native.Nat.{_≤_, _-_}
 use borrow.Author.Needs.{needs}
 use lib.ListN.{length}

@@ -1,4 +1,4 @@
--- `walks::child_named` meets its contract. Assumes nothing.
+-- `walks::child_named` meets its contract.
 use Rattle.walks.proofs.Steps.{name-inside, name-outside}
 use borrow.Author.Needs.{needs}
 use Rattle.walks.proofs.child_named.Statement.{statement}

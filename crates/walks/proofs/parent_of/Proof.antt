@@ -1,4 +1,4 @@
--- `walks::parent_of` meets its contract. Assumes nothing.
+-- `walks::parent_of` meets its contract.
 use Rattle.walks.proofs.Steps.{parent-missing, parent-none, parent-there}
 use borrow.Author.Needs.{needs}
 use Rattle.walks.proofs.parent_of.Statement.{statement}

@@ -1,4 +1,4 @@
--- `walks::resolve_path` meets its contract. Assumes nothing.
+-- `walks::resolve_path` meets its contract.
 use mathlib.Core.Path.{refl}
 use Rattle.walks.proofs.Steps.{absolute, origin-missing, from-container, from-root, from-leaf}
 use borrow.Author.Needs.{needs}

@@ -1,4 +1,4 @@
--- `walks::step_along` meets its contract. Assumes nothing.
+-- `walks::step_along` meets its contract.
 use Rattle.walks.proofs.Steps.{step-parent, step-index, step-name, step-broken}
 use borrow.Author.Needs.{needs}
 use Rattle.walks.proofs.step_along.Statement.{statement}

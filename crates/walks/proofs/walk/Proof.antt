@@ -1,4 +1,4 @@
--- `walks::walk` meets its contract. The loop's invariant: the walk from `at` along the words from k on is all that is left. Assumes nothing.
+-- `walks::walk` meets its contract. The loop's invariant: the walk from `at` along the words from k on is all that is left.
 use borrow.Author.Needs.{needs}
 use Prim.Native.Nat.{_-_}
 use Rattle.image.specs.Header.{sectionsBy}

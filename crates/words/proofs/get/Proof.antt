@@ -1,4 +1,4 @@
--- `words::get` meets its contract. Assumes nothing.
+-- `words::get` meets its contract.
 use native.Mathlib.Omega.{arith}
 use mathlib.Core.Path.{_∙_, sym}
 use Rattle.words.proofs.Words.{word-in, word-out}

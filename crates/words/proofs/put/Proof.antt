@@ -1,4 +1,4 @@
--- `words::put` meets its contract. Assumes nothing.
+-- `words::put` meets its contract.
 use native.Mathlib.Omega.{arith}
 use Rattle.words.proofs.Words.{put-in, put-out}
 use borrow.Author.Needs.{needs}

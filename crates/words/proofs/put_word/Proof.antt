@@ -1,4 +1,4 @@
--- `words::put_word` meets its contract. Assumes nothing.
+-- `words::put_word` meets its contract.
 use native.Mathlib.Omega.{arith}
 use lib.ListN.{length-set}
 use Rattle.words.specs.Words.{bytes4}

@@ -1,4 +1,4 @@
--- `words::word` meets its contract. Assumes nothing.
+-- `words::word` meets its contract.
 use Rattle.words.specs.Words.{wordAt}
 use borrow.Author.Needs.{needs}
 use Rattle.words.proofs.word.Statement.{statement}

@@ -1,7 +1,7 @@
--- `writer::put_image` meets its contract. Assumes nothing.
+-- `writer::put_image` meets its contract.
 use mathlib.Core.Path.{refl}
 use Rattle.draft.specs.Source.{draftOf}
-use Rattle.writer.proofs.Putting.{offsets-room, put-long, put-short, fill-asks, put-done}
+use Rattle.writer.proofs.ImageOutput.{offsets-room, put-long, put-short, fill-asks, put-done}
 use borrow.Author.Needs.{needs}
 use Rattle.writer.proofs.put_image.Statement.{statement}
 use Rattle.writer.proofs.put_image.Tie as tie

@@ -1,5 +1,5 @@
--- `writer::write` meets its contract. Assumes nothing.
-use Rattle.writer.proofs.Writing.{prepare-asks, image-asks, write-refused, write-made}
+-- `writer::write` meets its contract.
+use Rattle.writer.proofs.PlannedImage.{prepare-asks, image-asks, write-refused, write-made}
 use borrow.Author.Needs.{needs}
 use Rattle.writer.proofs.write.Statement.{statement}
 use Rattle.writer.proofs.write.Tie as tie

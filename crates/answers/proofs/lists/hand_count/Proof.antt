@@ -1,4 +1,4 @@
--- `answers::lists::hand_count` meets its contract. Assumes nothing.
+-- `answers::lists::hand_count` meets its contract.
 use Rattle.answers.proofs.Putting.{past-none, none-number, none-words, count-number, count-words}
 use borrow.Author.Needs.{needs}
 use Rattle.answers.proofs.lists.hand_count.Statement.{statement}

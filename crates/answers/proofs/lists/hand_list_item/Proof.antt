@@ -1,4 +1,4 @@
--- `answers::lists::hand_list_item` meets its contract. Assumes nothing.
+-- `answers::lists::hand_list_item` meets its contract.
 use lib.ListN.{length}
 use denote.Ref.{now}
 use Rattle.answers.proofs.Putting.{definition-past, item-past, none-number, none-words, item-number, item-words}

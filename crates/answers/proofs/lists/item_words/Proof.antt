@@ -1,4 +1,4 @@
--- `answers::lists::item_words` meets its contract. Assumes nothing.
+-- `answers::lists::item_words` meets its contract.
 use mathlib.Core.Path.{_≡_}
 use Rattle.answers.specs.Handed.{unsigned}
 use Rattle.answers.proofs.Bits.{field-bits}

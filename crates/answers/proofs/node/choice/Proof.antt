@@ -1,4 +1,4 @@
--- `answers::node::choice` meets its contract. Assumes nothing.
+-- `answers::node::choice` meets its contract.
 use Rattle.views.specs.declared.Span.{Span}
 use Rattle.answers.specs.NodeWords.{texted}
 use mathlib.Core.Path.{_≡_, ap, _∙_}

@@ -1,4 +1,4 @@
--- `answers::node::command` meets its contract. Assumes nothing.
+-- `answers::node::command` meets its contract.
 use borrow.Author.Needs.{needs}
 use Rattle.answers.proofs.node.command.Statement.{statement}
 use Rattle.answers.proofs.node.command.Tie as tie

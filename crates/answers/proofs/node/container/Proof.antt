@@ -1,4 +1,4 @@
--- `answers::node::container` meets its contract. Assumes nothing.
+-- `answers::node::container` meets its contract.
 use mathlib.Core.Path.{_≡_, ap, _∙_}
 use mir.Facts.{toZ-ofZ}
 use Rattle.answers.specs.Handed.{unsigned}

@@ -1,4 +1,4 @@
--- `answers::node::kind_shown` meets its contract. Assumes nothing.
+-- `answers::node::kind_shown` meets its contract.
 use Rattle.answers.proofs.Shows.{container-shown, choice-shown}
 use borrow.Author.Needs.{needs}
 use Rattle.answers.proofs.node.kind_shown.Statement.{statement}

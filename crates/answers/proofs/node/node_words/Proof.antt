@@ -1,4 +1,4 @@
--- `answers::node::node_words` meets its contract. Assumes nothing.
+-- `answers::node::node_words` meets its contract.
 use borrow.Author.Needs.{needs}
 use Rattle.answers.proofs.node.node_words.Statement.{statement}
 use Rattle.answers.proofs.node.node_words.Tie as tie

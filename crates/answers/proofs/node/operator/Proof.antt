@@ -1,4 +1,4 @@
--- `answers::node::operator` meets its contract. Assumes nothing.
+-- `answers::node::operator` meets its contract.
 use borrow.Author.Needs.{needs}
 use Rattle.answers.proofs.node.operator.Statement.{statement}
 use Rattle.answers.proofs.node.operator.Tie as tie

@@ -1,4 +1,4 @@
--- `answers::node::texted` meets its contract. Assumes nothing.
+-- `answers::node::texted` meets its contract.
 use borrow.Author.Needs.{needs}
 use Rattle.answers.proofs.node.texted.Statement.{statement}
 use Rattle.answers.proofs.node.texted.Tie as tie

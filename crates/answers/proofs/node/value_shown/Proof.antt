@@ -1,4 +1,4 @@
--- `answers::node::value_shown` meets its contract. Assumes nothing.
+-- `answers::node::value_shown` meets its contract.
 use Rattle.answers.proofs.Shows.{int-shown, pointer-shown}
 use borrow.Author.Needs.{needs}
 use Rattle.answers.proofs.node.value_shown.Statement.{statement}

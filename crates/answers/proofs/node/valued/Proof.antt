@@ -1,4 +1,4 @@
--- `answers::node::valued` meets its contract. Assumes nothing.
+-- `answers::node::valued` meets its contract.
 use borrow.Author.Needs.{needs}
 use Rattle.answers.proofs.node.valued.Statement.{statement}
 use Rattle.answers.proofs.node.valued.Tie as tie

@@ -1,4 +1,4 @@
--- `draft::shape::comes_before` meets its contract. Assumes nothing.
+-- `draft::shape::comes_before` meets its contract.
 use mathlib.Core.Path.{sym, ap, _∙_}
 use borrow.Author.Needs.{needs}
 use Rattle.texts.specs.Text.{isLess}

@@ -1,4 +1,4 @@
--- `draft::shape::order_rule` meets its contract. Assumes nothing.
+-- `draft::shape::order_rule` meets its contract.
 use borrow.Author.Needs.{needs}
 use Rattle.draft.proofs.Relations.{definition-falls, items-range, items-rise, items-fall}
 use Rattle.draft.proofs.shape.order_rule.Statement.{statement}

@@ -1,10 +1,10 @@
--- `draft::shape::orders_rule` meets its contract. The invariant: the definitions before `d` pass. Assumes nothing.
+-- `draft::shape::orders_rule` meets its contract. The invariant: the definitions before `d` pass.
 use Prim.Native.Nat.{_≤_, _-_}
 use mathlib.Core.Path.{_≡_}
 use mathlib.Core.List.{[]}
 use borrow.Author.Needs.{needs}
 use Rattle.laws.specs.Refusal.{firstOf}
-use Rattle.index.proofs.Runs.{run-starts, run-stops, run-goes, run-ends}
+use Rattle.index.proofs.RuleRuns.{run-starts, run-stops, run-goes, run-ends}
 use Rattle.draft.specs.Source.{draftOf}
 use Rattle.draft.specs.Draft.{orderRule}
 use Rattle.draft.proofs.shape.orders_rule.Statement.{statement}

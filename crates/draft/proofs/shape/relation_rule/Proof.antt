@@ -1,4 +1,4 @@
--- `draft::shape::relation_rule` meets its contract. Assumes nothing.
+-- `draft::shape::relation_rule` meets its contract.
 use mathlib.Core.List.{[]}
 use borrow.Author.Needs.{needs}
 use Rattle.draft.proofs.NodeTable.{node-is}

@@ -1,10 +1,10 @@
--- `draft::shape::relations_rule` meets its contract. The invariant: the nodes before `i` pass. Assumes nothing.
+-- `draft::shape::relations_rule` meets its contract. The invariant: the nodes before `i` pass.
 use Prim.Native.Nat.{_≤_, _-_}
 use mathlib.Core.Path.{_≡_}
 use mathlib.Core.List.{[]}
 use borrow.Author.Needs.{needs}
 use Rattle.laws.specs.Refusal.{firstOf}
-use Rattle.index.proofs.Runs.{run-starts, run-stops, run-goes, run-ends}
+use Rattle.index.proofs.RuleRuns.{run-starts, run-stops, run-goes, run-ends}
 use Rattle.draft.specs.Source.{draftOf}
 use Rattle.draft.specs.Draft.{relationRule}
 use Rattle.draft.proofs.shape.relations_rule.Statement.{statement}

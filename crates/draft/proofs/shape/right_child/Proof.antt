@@ -1,4 +1,4 @@
--- `draft::shape::right_child` meets its contract. Assumes nothing.
+-- `draft::shape::right_child` meets its contract.
 use borrow.Author.Needs.{needs}
 use Rattle.draft.proofs.Relations.{child-outside, child-astray, child-placed}
 use Rattle.draft.proofs.shape.right_child.Statement.{statement}

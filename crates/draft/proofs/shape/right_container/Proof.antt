@@ -1,4 +1,4 @@
--- `draft::shape::right_container` meets its contract. Assumes nothing.
+-- `draft::shape::right_container` meets its contract.
 use borrow.Author.Needs.{needs}
 use Rattle.draft.proofs.Relations.{no-container, its-container}
 use Rattle.draft.proofs.shape.right_container.Statement.{statement}

@@ -1,4 +1,4 @@
--- `draft::shape::right_entry` meets its contract. Assumes nothing.
+-- `draft::shape::right_entry` meets its contract.
 use borrow.Author.Needs.{needs}
 use Rattle.draft.proofs.Relations.{entry-falls, entry-leads}
 use Rattle.draft.proofs.shape.right_entry.Statement.{statement}

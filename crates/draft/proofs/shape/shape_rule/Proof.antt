@@ -1,4 +1,4 @@
--- `draft::shape::shape_rule` meets its contract. Assumes nothing.
+-- `draft::shape::shape_rule` meets its contract.
 use borrow.Author.Needs.{needs}
 use Rattle.draft.proofs.NodeTable.{node-is}
 use Rattle.draft.proofs.Row21.{root-there, tree-passed, lists-passed, wrong-root, wrong-relation, orders-decide}

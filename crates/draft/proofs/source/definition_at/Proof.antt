@@ -1,4 +1,4 @@
--- `draft::source::definition_at` meets its contract. Assumes nothing.
+-- `draft::source::definition_at` meets its contract.
 use Rattle.image.specs.Entries.{definitionOf}
 use borrow.Author.Needs.{needs}
 use Rattle.draft.proofs.source.definition_at.Statement.{statement}

@@ -1,4 +1,4 @@
--- `draft::source::entry_at` meets its contract. Assumes nothing.
+-- `draft::source::entry_at` meets its contract.
 use Rattle.image.specs.Entries.{textEntryOf}
 use borrow.Author.Needs.{needs}
 use Rattle.draft.proofs.source.entry_at.Statement.{statement}

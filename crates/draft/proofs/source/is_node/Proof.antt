@@ -1,4 +1,4 @@
--- `draft::source::is_node` meets its contract. Assumes nothing.
+-- `draft::source::is_node` meets its contract.
 use Rattle.records.proofs.Tests.{none-inside, some-inside}
 use Rattle.draft.proofs.source.is_node.Statement.{statement}
 use Rattle.draft.proofs.source.is_node.Tie as tie

@@ -1,4 +1,4 @@
--- `draft::source::node_at` meets its contract. Assumes nothing.
+-- `draft::source::node_at` meets its contract.
 use Rattle.image.specs.Entries.{recordOf}
 use borrow.Author.Needs.{needs}
 use Rattle.draft.proofs.source.node_at.Statement.{statement}

@@ -1,4 +1,4 @@
--- `draft::source::tag_at` meets its contract. Assumes nothing.
+-- `draft::source::tag_at` meets its contract.
 use borrow.Author.Needs.{needs}
 use Rattle.laws.proofs.Cases.{flag-yes, flag-no}
 use Rattle.image.specs.Sections.{nodeWord}

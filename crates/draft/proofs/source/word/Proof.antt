@@ -1,4 +1,4 @@
--- `draft::source::word` meets its contract. Assumes nothing.
+-- `draft::source::word` meets its contract.
 use Prim.Native.Nat.{ℕ, _≤_}
 use mathlib.Core.Path.{_≡_, sym}
 use mathlib.Core.List.{List}

@@ -1,4 +1,4 @@
--- `draft::tables::children_rule` meets its contract. The invariant: the children before `j` pass. Assumes nothing.
+-- `draft::tables::children_rule` meets its contract. The invariant: the children before `j` pass.
 use Prim.Native.Nat.{_≤_, _-_}
 use mathlib.Core.Path.{_≡_}
 use mathlib.Core.List.{[]}
@@ -6,7 +6,7 @@ use native.Mathlib.Omega.{arith}
 use lib.ListN.{length}
 use borrow.Author.Needs.{needs}
 use Rattle.laws.specs.Refusal.{firstOf}
-use Rattle.index.proofs.Runs.{run-starts, run-ends}
+use Rattle.index.proofs.RuleRuns.{run-starts, run-ends}
 use Rattle.draft.specs.Source.{draftOf}
 use Rattle.draft.specs.Draft.{draftChildRule}
 use Rattle.draft.proofs.EntryTables.{child-told, test-stops, test-goes}

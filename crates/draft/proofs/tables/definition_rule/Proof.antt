@@ -1,4 +1,4 @@
--- `draft::tables::definition_rule` meets its contract. Assumes nothing.
+-- `draft::tables::definition_rule` meets its contract.
 use mathlib.Core.Path.{refl}
 use borrow.Author.Needs.{needs}
 use borrow.Author.Tests.{eq-eqb, ne-eqb}

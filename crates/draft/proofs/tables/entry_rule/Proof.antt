@@ -1,4 +1,4 @@
--- `draft::tables::entry_rule` meets its contract. Assumes nothing.
+-- `draft::tables::entry_rule` meets its contract.
 use mathlib.Core.Path.{refl}
 use borrow.Author.Needs.{needs}
 use Rattle.records.proofs.Tests.{stop, go}

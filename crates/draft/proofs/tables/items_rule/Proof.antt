@@ -1,11 +1,11 @@
--- `draft::tables::items_rule` meets its contract. The invariant: the items before `j` pass. Assumes nothing.
+-- `draft::tables::items_rule` meets its contract. The invariant: the items before `j` pass.
 use Prim.Native.Nat.{_≤_, _-_}
 use mathlib.Core.Path.{_≡_}
 use mathlib.Core.List.{[]}
 use native.Mathlib.Omega.{arith}
 use borrow.Author.Needs.{needs}
 use Rattle.laws.specs.Refusal.{firstOf}
-use Rattle.index.proofs.Runs.{run-starts, run-ends}
+use Rattle.index.proofs.RuleRuns.{run-starts, run-ends}
 use Rattle.draft.specs.Source.{draftOf}
 use Rattle.draft.specs.Draft.{draftItemRule}
 use Rattle.draft.proofs.EntryTables.{item-told, test-stops, test-goes}

@@ -1,4 +1,4 @@
--- `draft::tables::node_rule` meets its contract. Assumes nothing.
+-- `draft::tables::node_rule` meets its contract.
 use borrow.Author.Needs.{needs}
 use Rattle.draft.proofs.NodeTable.{fields-told, fields-wrong, root-passes, parent-passes, parent-wrong}
 use Rattle.draft.proofs.tables.node_rule.Statement.{statement}

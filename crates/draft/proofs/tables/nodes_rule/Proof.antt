@@ -1,5 +1,5 @@
 -- `draft::tables::nodes_rule` meets its contract. The invariant: whatever the definitions and items, the nodes before `i` pass, and the
--- sums are theirs. Assumes nothing.
+-- sums are theirs.
 use Prim.Native.Nat.{ℕ, _≤_, _-_}
 use mathlib.Core.Path.{refl, sym, _∙_}
 use mathlib.Core.List.{List, []}

@@ -1,4 +1,4 @@
--- `draft::tables::tables_rule` meets its contract. Assumes nothing.
+-- `draft::tables::tables_rule` meets its contract.
 use borrow.Author.Needs.{needs}
 use Rattle.draft.proofs.Row19.{broken-entries, nodes-refused, children-refused, named-refused, definitions-refused, items-decide}
 use Rattle.draft.proofs.tables.tables_rule.Statement.{statement}

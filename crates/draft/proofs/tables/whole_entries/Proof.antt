@@ -1,4 +1,4 @@
--- `draft::tables::whole_entries` meets its contract. Assumes nothing.
+-- `draft::tables::whole_entries` meets its contract.
 use borrow.Author.Tests.{eq-eqb, ne-eqb}
 use Rattle.draft.specs.Draft.{wholeEntries}
 use Rattle.draft.proofs.tables.whole_entries.Statement.{statement}

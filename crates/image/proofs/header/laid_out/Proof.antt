@@ -1,5 +1,4 @@
 -- `image::header::laid_out` meets its contract. The loop's invariant: the table is that of the definition, the sections before k are right, and the last of them ends at `end`.
--- Assumes nothing.
 use Prim.Native.Nat.{_*_, _-_, _≤_}
 use native.Mathlib.Omega.{arith}
 use borrow.Author.Needs.{needs}

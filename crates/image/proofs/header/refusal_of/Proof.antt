@@ -1,4 +1,4 @@
--- `image::header::refusal_of` meets its contract. Assumes nothing.
+-- `image::header::refusal_of` meets its contract.
 use mathlib.Core.Path.{_≡_, sym, ap, _∙_}
 use mathlib.Core.Bool.{true}
 use native.Mathlib.Omega.{arith}

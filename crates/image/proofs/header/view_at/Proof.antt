@@ -1,4 +1,4 @@
--- `image::header::view_at` meets its contract. Assumes nothing.
+-- `image::header::view_at` meets its contract.
 use Rattle.image.specs.Header.{viewOf}
 use borrow.Author.Needs.{needs}
 use Rattle.image.proofs.header.view_at.Statement.{statement}

@@ -1,6 +1,6 @@
--- `load::nodes::counts_of` meets its contract. Assumes nothing.
+-- `load::nodes::counts_of` meets its contract.
 use borrow.Author.Needs.{needs}
-use Rattle.load.proofs.Reading.{counts-read}
+use Rattle.load.proofs.SectionReads.{counts-read}
 use Rattle.load.proofs.nodes.counts_of.Statement.{statement}
 use Rattle.load.proofs.nodes.counts_of.Tie as tie
 

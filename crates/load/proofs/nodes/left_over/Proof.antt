@@ -1,4 +1,4 @@
--- `load::nodes::left_over` meets its contract. Assumes nothing.
+-- `load::nodes::left_over` meets its contract.
 use mathlib.Core.Path.{_≡_, ap, sym, _∙_}
 use borrow.Author.Needs.{needs}
 use lib.ListN.{length}
@@ -9,7 +9,7 @@ use Rattle.image.specs.Header.{sectionsBy}
 use Rattle.image.proofs.Views.{payload-by}
 use Rattle.records.specs.Records.{usedUp}
 use Rattle.records.specs.declared.Sums.{Sums}
-use Rattle.load.proofs.Reading.{index-read}
+use Rattle.load.proofs.SectionReads.{index-read}
 use Rattle.load.proofs.Rows.{left-over, none-over, index-over}
 use Rattle.load.proofs.nodes.left_over.Statement.{statement}
 use Rattle.load.proofs.nodes.left_over.Tie as tie

@@ -1,8 +1,8 @@
--- `load::nodes::node_rule` meets its contract: the parent's rule, then the fields'. Assumes nothing.
+-- `load::nodes::node_rule` meets its contract: the parent's rule, then the fields'.
 use mathlib.Core.Path.{_≡_, sym, ap, _∙_}
 use borrow.Author.Needs.{needs}
-use Rattle.records.proofs.Passed.{node-refused, node-fields}
-use Rattle.load.proofs.Looping.{parent-told, fields-told}
+use Rattle.records.proofs.PassedRules.{node-refused, node-fields}
+use Rattle.load.proofs.NodeLoop.{parent-told, fields-told}
 use Rattle.load.proofs.nodes.node_rule.Statement.{statement}
 use Rattle.load.proofs.nodes.node_rule.Tie as tie
 

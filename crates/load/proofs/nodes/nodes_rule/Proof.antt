@@ -1,5 +1,5 @@
 -- `load::nodes::nodes_rule` meets its contract. The invariant: of any sections that are read from the parts, the nodes before `i` pass,
--- and the sums are theirs. Assumes nothing.
+-- and the sums are theirs.
 use Prim.Native.Nat.{_≤_, _-_}
 use mathlib.Core.Path.{_≡_, refl, sym, _∙_}
 use borrow.Author.Needs.{needs}
@@ -9,7 +9,7 @@ use Rattle.image.specs.Sections.{Sections}
 use Rattle.image.specs.Header.{sectionsBy}
 use Rattle.records.specs.Records.{nodeRule}
 use Rattle.load.specs.Nodes.{ReadFrom}
-use Rattle.load.proofs.Looping.{Passing, passing-start, passing-next, read-from, few, refused-here, all-passed, fields-pass, node-below, node-upto, node-past, node-there, node-is}
+use Rattle.load.proofs.NodeLoop.{Passing, passing-start, passing-next, read-from, few, refused-here, all-passed, fields-pass, node-below, node-upto, node-past, node-there, node-is}
 use Rattle.load.proofs.nodes.nodes_rule.Statement.{statement}
 use Rattle.load.proofs.nodes.nodes_rule.Tie as tie
 

@@ -1,4 +1,4 @@
--- `load::nodes::records_rule` meets its contract: the root, the nodes, what is left over. Assumes nothing.
+-- `load::nodes::records_rule` meets its contract: the root, the nodes, what is left over.
 use mathlib.Core.Path.{_≡_, ap, sym, _∙_}
 use borrow.Author.Tests.{not-true, not-false}
 use denote.Ref.{now}

@@ -1,6 +1,6 @@
--- `load::nodes::tag_at` meets its contract. Assumes nothing.
+-- `load::nodes::tag_at` meets its contract.
 use borrow.Author.Needs.{needs}
-use Rattle.load.proofs.Reading.{tag-none, tag-outside, tag-inside}
+use Rattle.load.proofs.SectionReads.{tag-none, tag-outside, tag-inside}
 use Rattle.load.proofs.nodes.tag_at.Statement.{statement}
 use Rattle.load.proofs.nodes.tag_at.Tie as tie
 

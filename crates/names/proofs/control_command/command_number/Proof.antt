@@ -1,11 +1,11 @@
--- `names::control_command::command_number` meets its contract. Assumes nothing.
+-- `names::control_command::command_number` meets its contract.
 use mathlib.Core.Path.{sym}
 use mathlib.Core.List.{[]}
 use mathlib.Core.Bool.{true, false}
 use borrow.Author.Needs.{needs}
 use lib.ListN.{getD}
 use Rattle.names.specs.Names.{commands}
-use Rattle.names.proofs.Spelled.{name-held, compared}
+use Rattle.names.proofs.Spellings.{name-held, compared}
 use Rattle.names.proofs.Commands.{number-yes, number-no}
 use Rattle.names.proofs.control_command.command_number.Statement.{statement}
 use Rattle.names.proofs.control_command.command_number.Tie as tie

@@ -1,9 +1,9 @@
--- `names::control_command::command_of` meets its contract. Assumes nothing.
+-- `names::control_command::command_of` meets its contract.
 use mathlib.Core.Path.{sym}
 use native.Mathlib.Omega.{arith}
 use borrow.Author.Needs.{needs}
 use Rattle.names.specs.ControlCommand.{commandTypes}
-use Rattle.names.proofs.Numbered.{at-element, past-element}
+use Rattle.names.proofs.Numbers.{at-element, past-element}
 use Rattle.names.proofs.control_command.command_of.Statement.{statement}
 use Rattle.names.proofs.control_command.command_of.Tie as tie
 

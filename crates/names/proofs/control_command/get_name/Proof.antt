@@ -1,4 +1,4 @@
--- `names::control_command::get_name` meets its contract. Assumes nothing.
+-- `names::control_command::get_name` meets its contract.
 use borrow.Author.Needs.{needs}
 use Rattle.names.proofs.Commands.{below}
 use Rattle.names.proofs.control_command.get_name.Statement.{statement}

@@ -1,8 +1,8 @@
--- `names::control_command::new_from_name` meets its contract. Assumes nothing.
+-- `names::control_command::new_from_name` meets its contract.
 use borrow.Author.Needs.{needs}
 use Rattle.names.specs.Names.{commands}
 use Rattle.names.specs.ControlCommand.{commandTypes}
-use Rattle.names.proofs.Numbered.{named-yes, named-no}
+use Rattle.names.proofs.Numbers.{named-yes, named-no}
 use Rattle.names.proofs.control_command.new_from_name.Statement.{statement}
 use Rattle.names.proofs.control_command.new_from_name.Tie as tie
 

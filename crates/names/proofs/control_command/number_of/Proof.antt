@@ -1,4 +1,4 @@
--- `names::control_command::number_of` meets its contract. Assumes nothing.
+-- `names::control_command::number_of` meets its contract.
 use mathlib.Core.Path.{refl}
 use borrow.Author.Needs.{needs}
 use Rattle.names.proofs.control_command.number_of.Statement.{statement}

@@ -1,4 +1,4 @@
--- `names::native_function_call::get_name` meets its contract. Assumes nothing.
+-- `names::native_function_call::get_name` meets its contract.
 use borrow.Author.Needs.{needs}
 use Rattle.names.proofs.Operators.{below}
 use Rattle.names.proofs.native_function_call.get_name.Statement.{statement}

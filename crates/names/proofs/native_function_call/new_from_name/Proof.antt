@@ -1,8 +1,8 @@
--- `names::native_function_call::new_from_name` meets its contract. Assumes nothing.
+-- `names::native_function_call::new_from_name` meets its contract.
 use borrow.Author.Needs.{needs}
 use Rattle.names.specs.Names.{operators}
 use Rattle.names.specs.NativeFunctionCall.{ops}
-use Rattle.names.proofs.Numbered.{named-yes, named-no}
+use Rattle.names.proofs.Numbers.{named-yes, named-no}
 use Rattle.names.proofs.native_function_call.new_from_name.Statement.{statement}
 use Rattle.names.proofs.native_function_call.new_from_name.Tie as tie
 

@@ -1,4 +1,4 @@
--- `names::native_function_call::number_of` meets its contract. Assumes nothing.
+-- `names::native_function_call::number_of` meets its contract.
 use mathlib.Core.Path.{refl}
 use borrow.Author.Needs.{needs}
 use Rattle.names.proofs.native_function_call.number_of.Statement.{statement}

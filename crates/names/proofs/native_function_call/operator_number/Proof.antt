@@ -1,11 +1,11 @@
--- `names::native_function_call::operator_number` meets its contract. Assumes nothing.
+-- `names::native_function_call::operator_number` meets its contract.
 use mathlib.Core.Path.{sym}
 use mathlib.Core.List.{[]}
 use mathlib.Core.Bool.{true, false}
 use borrow.Author.Needs.{needs}
 use lib.ListN.{getD}
 use Rattle.names.specs.Names.{operators}
-use Rattle.names.proofs.Spelled.{name-held, compared}
+use Rattle.names.proofs.Spellings.{name-held, compared}
 use Rattle.names.proofs.Operators.{number-yes, number-no}
 use Rattle.names.proofs.native_function_call.operator_number.Statement.{statement}
 use Rattle.names.proofs.native_function_call.operator_number.Tie as tie

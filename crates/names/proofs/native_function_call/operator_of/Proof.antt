@@ -1,9 +1,9 @@
--- `names::native_function_call::operator_of` meets its contract. Assumes nothing.
+-- `names::native_function_call::operator_of` meets its contract.
 use mathlib.Core.Path.{sym}
 use native.Mathlib.Omega.{arith}
 use borrow.Author.Needs.{needs}
 use Rattle.names.specs.NativeFunctionCall.{ops}
-use Rattle.names.proofs.Numbered.{at-element, past-element}
+use Rattle.names.proofs.Numbers.{at-element, past-element}
 use Rattle.names.proofs.native_function_call.operator_of.Statement.{statement}
 use Rattle.names.proofs.native_function_call.operator_of.Tie as tie
 

@@ -1,4 +1,4 @@
--- `records::list::item` meets its contract. Assumes nothing.
+-- `records::list::item` meets its contract.
 use mathlib.Core.Path.{refl}
 use borrow.Author.Needs.{needs}
 use Rattle.records.proofs.Lists.{item-origin, item-name, item-right}

@@ -1,4 +1,4 @@
--- `records::list::origin` meets its contract. Assumes nothing.
+-- `records::list::origin` meets its contract.
 use mathlib.Core.Path.{refl, _∙_}
 use borrow.Author.Needs.{needs}
 use Rattle.records.proofs.Tests.{stop-last, go-last}

@@ -1,4 +1,4 @@
--- `records::list::payload_rule` meets its contract. Assumes nothing.
+-- `records::list::payload_rule` meets its contract.
 use borrow.Author.Needs.{needs}
 use Rattle.records.proofs.Lists.{payload-past, payload-short, payload-other, payload-items, payload-origins, items-word}
 use Rattle.records.proofs.list.payload_rule.Statement.{statement}

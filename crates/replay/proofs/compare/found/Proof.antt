@@ -1,4 +1,4 @@
--- `replay::compare::found` meets its contract. Assumes nothing.
+-- `replay::compare::found` meets its contract.
 use Rattle.replay.proofs.Comparing.{other-number, words-then}
 use borrow.Author.Needs.{needs}
 use Rattle.replay.proofs.compare.found.Statement.{statement}

@@ -1,4 +1,4 @@
--- `replay::compare::node` meets its contract. Assumes nothing.
+-- `replay::compare::node` meets its contract.
 use Rattle.replay.proofs.Comparing.{node-found, node-none}
 use borrow.Author.Needs.{needs}
 use Rattle.replay.proofs.compare.node.Statement.{statement}

@@ -1,4 +1,4 @@
--- `replay::compare::nothing` meets its contract. Assumes nothing.
+-- `replay::compare::nothing` meets its contract.
 use mathlib.Core.Path.{refl}
 use Rattle.replay.proofs.Comparing.{number-alone}
 use borrow.Author.Needs.{needs}

@@ -1,4 +1,4 @@
--- `replay::compare::same_words` meets its contract: the words passed agree. Assumes nothing.
+-- `replay::compare::same_words` meets its contract: the words passed agree.
 use Prim.Native.Nat.{_≤_, _-_, _/_}
 use mathlib.Core.Path.{_≡_}
 use native.Mathlib.Omega.{arith}

@@ -1,4 +1,4 @@
--- `replay::drafts::read_words` is safe and ends. Assumes nothing.
+-- `replay::drafts::read_words` is safe and ends.
 use Prim.Native.Nat.{_-_, _≤_}
 use borrow.Author.Needs.{needs}
 use Rattle.replay.proofs.drafts.read_words.Statement.{statement}

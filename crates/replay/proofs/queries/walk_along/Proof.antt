@@ -1,4 +1,4 @@
--- `replay::queries::walk_along` is safe: the components that it lends are there. Assumes nothing.
+-- `replay::queries::walk_along` is safe: the components that it lends are there.
 use native.Mathlib.Omega.{arith}
 use lib.ListN.{length-take}
 use borrow.Author.Needs.{needs}

@@ -1,4 +1,4 @@
--- `story_image::children::story_image_child_count` meets its contract. Assumes nothing.
+-- `story_image::children::story_image_child_count` meets its contract.
 use mathlib.Core.Path.{sym, ap, _∙_}
 use denote.Ref.{now}
 use Rattle.answers.specs.Handed.{countAnswer}

@@ -1,4 +1,4 @@
--- `story_image::children::story_image_named_child_at` meets its contract. Assumes nothing.
+-- `story_image::children::story_image_named_child_at` meets its contract.
 use mathlib.Core.Path.{sym, ap, _∙_}
 use mathlib.Core.Option.{some}
 use denote.Ref.{now}

@@ -1,4 +1,4 @@
--- `story_image::node::story_image_node_view` meets its contract. Assumes nothing.
+-- `story_image::node::story_image_node_view` meets its contract.
 use mathlib.Core.Path.{sym, ap, _∙_}
 use mathlib.Core.Option.{some}
 use denote.Ref.{now}

@@ -1,4 +1,4 @@
--- `story_image::node::story_image_text` meets its contract. Assumes nothing.
+-- `story_image::node::story_image_text` meets its contract.
 use mathlib.Core.Path.{sym, ap, _∙_}
 use denote.Ref.{now}
 use lib.ListN.{length}

@@ -1,4 +1,4 @@
--- `story_image::walk::story_image_resolve_path` meets its contract. Assumes nothing.
+-- `story_image::walk::story_image_resolve_path` meets its contract.
 use mathlib.Core.Path.{sym, ap, _∙_}
 use denote.Ref.{now}
 use Rattle.answers.specs.Handed.{foundAnswer}

@@ -1,4 +1,4 @@
--- `story_image::write::story_image_write` meets its contract. Assumes nothing.
+-- `story_image::write::story_image_write` meets its contract.
 use Rattle.story_image.proofs.Handing.{no-length, written-number, written-words, written-output, written-length, refused-number, refused-words, refused-output, refused-length}
 use borrow.Author.Needs.{needs}
 use Rattle.story_image.proofs.write.story_image_write.Statement.{statement}

@@ -1,4 +1,4 @@
--- `story_image::write::write_without_words` meets its contract. Assumes nothing.
+-- `story_image::write::write_without_words` meets its contract.
 use Rattle.story_image.proofs.Handing.{number, output-by}
 use borrow.Author.Needs.{needs}
 use Rattle.story_image.proofs.write.write_without_words.Statement.{statement}

@@ -1,4 +1,4 @@
--- `views::children::child_at` meets its contract. Assumes nothing.
+-- `views::children::child_at` meets its contract.
 use Rattle.views.proofs.Answers.{child-missing, child-found, child-past}
 use borrow.Author.Needs.{needs}
 use Rattle.views.proofs.children.child_at.Statement.{statement}

@@ -1,4 +1,4 @@
--- `views::children::child_count` meets its contract. Assumes nothing.
+-- `views::children::child_count` meets its contract.
 use Rattle.views.proofs.Answers.{child-count-missing, child-count-found}
 use borrow.Author.Needs.{needs}
 use Rattle.views.proofs.children.child_count.Statement.{statement}

@@ -1,4 +1,4 @@
--- `views::children::named_child_at` meets its contract. Assumes nothing.
+-- `views::children::named_child_at` meets its contract.
 use Rattle.views.proofs.Answers.{named-missing, named-found, named-past}
 use borrow.Author.Needs.{needs}
 use Rattle.views.proofs.children.named_child_at.Statement.{statement}

@@ -1,4 +1,4 @@
--- `views::children::named_child_count` meets its contract. Assumes nothing.
+-- `views::children::named_child_count` meets its contract.
 use Rattle.views.proofs.Answers.{named-count-missing, named-count-found}
 use borrow.Author.Needs.{needs}
 use Rattle.views.proofs.children.named_child_count.Statement.{statement}

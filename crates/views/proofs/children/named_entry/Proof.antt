@@ -1,4 +1,4 @@
--- `views::children::named_entry` meets its contract. Assumes nothing.
+-- `views::children::named_entry` meets its contract.
 use Rattle.views.proofs.Answers.{entry-missing, entry-shown, entry-hidden}
 use mathlib.Core.Path.{sym, _∙_}
 use Rattle.image.proofs.Views.{strings-by}

@@ -1,4 +1,4 @@
--- `views::children::shown_part` meets its contract. Assumes nothing.
+-- `views::children::shown_part` meets its contract.
 use Rattle.views.proofs.Answers.{part-shown, part-hidden}
 use borrow.Author.Needs.{needs}
 use Rattle.views.proofs.children.shown_part.Statement.{statement}

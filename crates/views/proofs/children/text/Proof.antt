@@ -1,4 +1,4 @@
--- `views::children::text` meets its contract. Assumes nothing.
+-- `views::children::text` meets its contract.
 use Rattle.views.proofs.Answers.{text-of}
 use borrow.Author.Needs.{needs}
 use Rattle.views.proofs.children.text.Statement.{statement}

@@ -1,4 +1,4 @@
--- `views::children::text_answer` meets its contract. Assumes nothing.
+-- `views::children::text_answer` meets its contract.
 use Rattle.views.proofs.Answers.{text-shown, text-hidden}
 use mathlib.Core.Path.{sym, _∙_}
 use Rattle.image.proofs.Views.{strings-by}

@@ -1,4 +1,4 @@
--- `views::entries::child_of` meets its contract. Assumes nothing.
+-- `views::entries::child_of` meets its contract.
 use Rattle.views.proofs.Reading.{child-past, child-read}
 use borrow.Author.Needs.{needs}
 use Rattle.views.proofs.entries.child_of.Statement.{statement}

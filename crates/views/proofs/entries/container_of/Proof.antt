@@ -1,4 +1,4 @@
--- `views::entries::container_of` meets its contract. Assumes nothing.
+-- `views::entries::container_of` meets its contract.
 use Rattle.views.proofs.Reading.{none-contains, one-contains, other-contains}
 use borrow.Author.Needs.{needs}
 use Rattle.views.proofs.entries.container_of.Statement.{statement}

@@ -1,4 +1,4 @@
--- `views::entries::definition_of` meets its contract. Assumes nothing.
+-- `views::entries::definition_of` meets its contract.
 use Rattle.views.proofs.Reading.{definition-past, definition-read}
 use borrow.Author.Needs.{needs}
 use Rattle.views.proofs.entries.definition_of.Statement.{statement}

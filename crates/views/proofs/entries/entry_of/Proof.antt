@@ -1,4 +1,4 @@
--- `views::entries::entry_of` meets its contract. Assumes nothing.
+-- `views::entries::entry_of` meets its contract.
 use Rattle.views.proofs.Reading.{entry-past, entry-read}
 use borrow.Author.Needs.{needs}
 use Rattle.views.proofs.entries.entry_of.Statement.{statement}

@@ -1,4 +1,4 @@
--- `views::entries::item_of` meets its contract. Assumes nothing.
+-- `views::entries::item_of` meets its contract.
 use Rattle.views.proofs.Reading.{item-read}
 use mathlib.Core.Path.{_∙_}
 use borrow.Author.Needs.{needs}

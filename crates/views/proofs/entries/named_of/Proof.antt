@@ -1,4 +1,4 @@
--- `views::entries::named_of` meets its contract. Assumes nothing.
+-- `views::entries::named_of` meets its contract.
 use Rattle.views.proofs.Reading.{named-read}
 use mathlib.Core.Path.{_∙_}
 use borrow.Author.Needs.{needs}

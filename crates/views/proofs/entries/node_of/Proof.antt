@@ -1,4 +1,4 @@
--- `views::entries::node_of` meets its contract. Assumes nothing.
+-- `views::entries::node_of` meets its contract.
 use Rattle.views.proofs.Reading.{node-past, node-none, node-read}
 use borrow.Author.Needs.{needs}
 use Rattle.views.proofs.entries.node_of.Statement.{statement}

@@ -1,4 +1,4 @@
--- `views::lists::definition` meets its contract. Assumes nothing.
+-- `views::lists::definition` meets its contract.
 use Rattle.views.proofs.Answers.{definition-missing, definition-shown, definition-hidden}
 use mathlib.Core.Path.{sym, _∙_}
 use Rattle.image.proofs.Views.{strings-by}

@@ -1,4 +1,4 @@
--- `views::lists::definition_count` meets its contract. Assumes nothing.
+-- `views::lists::definition_count` meets its contract.
 use mathlib.Core.Path.{sym}
 use Rattle.views.proofs.Reading.{definitions-count}
 use borrow.Author.Needs.{needs}

@@ -1,4 +1,4 @@
--- `views::lists::definition_item` meets its contract. Assumes nothing.
+-- `views::lists::definition_item` meets its contract.
 use Rattle.views.proofs.Answers.{items-missing, items-found, items-past}
 use borrow.Author.Needs.{needs}
 use Rattle.views.proofs.lists.definition_item.Statement.{statement}

@@ -1,4 +1,4 @@
--- `views::lists::item` meets its contract. Assumes nothing.
+-- `views::lists::item` meets its contract.
 use Rattle.views.proofs.Answers.{item-missing, item-shown, item-hidden}
 use mathlib.Core.Path.{sym, _∙_}
 use Rattle.image.proofs.Views.{strings-by}

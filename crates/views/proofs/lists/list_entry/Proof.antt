@@ -1,4 +1,4 @@
--- `views::lists::list_entry` meets its contract. Assumes nothing.
+-- `views::lists::list_entry` meets its contract.
 use denote.Ref.{now}
 use Rattle.views.proofs.Answers.{list-short, list-past, list-hidden, list-shown}
 use borrow.Author.Needs.{needs}

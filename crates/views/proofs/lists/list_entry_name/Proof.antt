@@ -1,4 +1,4 @@
--- `views::lists::list_entry_name` meets its contract. Assumes nothing.
+-- `views::lists::list_entry_name` meets its contract.
 use Rattle.views.specs.Lists.{listEntryName}
 use borrow.Author.Needs.{needs}
 use Rattle.views.proofs.lists.list_entry_name.Statement.{statement}

@@ -1,4 +1,4 @@
--- `views::lists::list_origin` meets its contract. Assumes nothing.
+-- `views::lists::list_origin` meets its contract.
 use Rattle.views.proofs.Answers.{origin-none, origin-short, origin-past, origin-shown, origin-hidden}
 use borrow.Author.Needs.{needs}
 use Rattle.views.proofs.lists.list_origin.Statement.{statement}

@@ -1,4 +1,4 @@
--- `views::lists::list_payload` meets its contract. Assumes nothing.
+-- `views::lists::list_payload` meets its contract.
 use Rattle.views.proofs.Answers.{payload-of}
 use borrow.Author.Needs.{needs}
 use Rattle.views.proofs.lists.list_payload.Statement.{statement}

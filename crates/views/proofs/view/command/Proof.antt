@@ -1,4 +1,4 @@
--- `views::view::command` meets its contract. Assumes nothing.
+-- `views::view::command` meets its contract.
 use Rattle.views.specs.Shown.{commandView}
 use borrow.Author.Needs.{needs}
 use Rattle.views.proofs.view.command.Statement.{statement}

@@ -1,4 +1,4 @@
--- `views::view::container` meets its contract. Assumes nothing.
+-- `views::view::container` meets its contract.
 use Rattle.laws.proofs.Cases.{cases}
 use Rattle.views.specs.Shown.{containerView}
 use borrow.Author.Needs.{needs}

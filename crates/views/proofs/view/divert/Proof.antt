@@ -1,4 +1,4 @@
--- `views::view::divert` meets its contract. Assumes nothing.
+-- `views::view::divert` meets its contract.
 use Rattle.laws.proofs.Cases.{cases}
 use Rattle.views.specs.Shown.{divertView}
 use borrow.Author.Needs.{needs}

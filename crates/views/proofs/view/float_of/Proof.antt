@@ -1,4 +1,4 @@
--- `views::view::float_of` meets its contract. Assumes nothing.
+-- `views::view::float_of` meets its contract.
 use borrow.Author.Tests.{lt-ltb, le-ltb}
 use mathlib.Core.Bool.{true}
 use mathlib.Core.Path.{_≡_, refl, sym, _∙_, subst}

@@ -1,4 +1,4 @@
--- `views::view::is_shown` meets its contract. Assumes nothing.
+-- `views::view::is_shown` meets its contract.
 use Rattle.views.proofs.Answers.{no-offset, no-length, within}
 use borrow.Author.Needs.{needs}
 use Rattle.views.proofs.view.is_shown.Statement.{statement}

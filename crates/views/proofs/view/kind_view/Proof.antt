@@ -1,4 +1,4 @@
--- `views::view::kind_view` meets its contract. Assumes nothing.
+-- `views::view::kind_view` meets its contract.
 use denote.Ref.{now}
 use mathlib.Core.Path.{refl}
 use mathlib.Core.Logic.{inl, inr}

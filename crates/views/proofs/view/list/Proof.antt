@@ -1,4 +1,4 @@
--- `views::view::list` meets its contract. Assumes nothing.
+-- `views::view::list` meets its contract.
 use Rattle.laws.proofs.Cases.{cases}
 use Rattle.views.specs.Shown.{listView}
 use borrow.Author.Needs.{needs}

@@ -1,4 +1,4 @@
--- `views::view::node_view` meets its contract. Assumes nothing.
+-- `views::view::node_view` meets its contract.
 use Rattle.views.proofs.Answers.{view-missing, view-found}
 use mathlib.Core.Path.{sym, ap, _∙_}
 use lib.ListN.{length}

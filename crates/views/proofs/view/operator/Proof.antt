@@ -1,4 +1,4 @@
--- `views::view::operator` meets its contract. Assumes nothing.
+-- `views::view::operator` meets its contract.
 use Rattle.views.specs.Shown.{operatorView}
 use borrow.Author.Needs.{needs}
 use Rattle.views.proofs.view.operator.Statement.{statement}

@@ -1,4 +1,4 @@
--- `views::view::optional_text` meets its contract. Assumes nothing.
+-- `views::view::optional_text` meets its contract.
 use Rattle.laws.proofs.Cases.{cases}
 use Rattle.views.specs.View.{optionalText}
 use borrow.Author.Needs.{needs}

@@ -1,4 +1,4 @@
--- `views::view::optional_word` meets its contract. Assumes nothing.
+-- `views::view::optional_word` meets its contract.
 use borrow.Author.Needs.{needs}
 use Rattle.laws.proofs.Cases.{cases}
 use Rattle.views.specs.View.{optionalWord}

@@ -1,4 +1,4 @@
--- `views::view::push_type` meets its contract. Assumes nothing.
+-- `views::view::push_type` meets its contract.
 use borrow.Author.Needs.{needs}
 use Rattle.laws.proofs.Cases.{cases}
 use Rattle.views.specs.View.{pushType}

@@ -1,4 +1,4 @@
--- `views::view::record_view` meets its contract. Assumes nothing.
+-- `views::view::record_view` meets its contract.
 use Rattle.views.specs.View.{recordView}
 use borrow.Author.Needs.{needs}
 use Rattle.views.proofs.view.record_view.Statement.{statement}

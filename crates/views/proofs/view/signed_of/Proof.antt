@@ -1,4 +1,4 @@
--- `views::view::signed_of` meets its contract. Assumes nothing.
+-- `views::view::signed_of` meets its contract.
 use mathlib.Core.Path.{ap, _≡_}
 use Prim.Native.Nat.{_-_}
 use native.Mathlib.Omega.{arith}

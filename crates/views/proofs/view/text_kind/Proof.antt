@@ -1,4 +1,4 @@
--- `views::view::text_kind` meets its contract. Assumes nothing.
+-- `views::view::text_kind` meets its contract.
 use Rattle.views.proofs.Tags.{text-absent, text-present}
 use mathlib.Core.Path.{refl}
 use borrow.Author.Needs.{needs}

@@ -1,4 +1,4 @@
--- `views::view::with_name` meets its contract. Assumes nothing.
+-- `views::view::with_name` meets its contract.
 use denote.Ref.{now}
 use mathlib.Core.Path.{refl, ap, _∙_}
 use Rattle.views.specs.Shown.{commandView, operatorView, withName}

@@ -1,0 +1,4 @@
+pub mod Joins
+pub mod Blocks
+pub mod Offsets
+pub mod IndexOrder

@@ -1,4 +1,0 @@
-pub mod Joined
-pub mod Blocks
-pub mod Offsets
-pub mod ByPath

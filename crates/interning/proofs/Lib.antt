@@ -1,5 +1,0 @@
-pub mod Numbers
-pub mod Kept
-pub mod Marking
-pub mod Assigning
-pub mod Emitting

@@ -1,8 +1,0 @@
-pub mod Deciding
-pub mod Copying
-pub mod Digits
-pub mod Reading
-pub mod Pieces
-pub mod Uses
-pub mod Lengths
-pub mod Climbing

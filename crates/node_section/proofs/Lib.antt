@@ -1,5 +1,0 @@
-pub mod ByTag
-pub mod Made
-pub mod Counting
-pub mod Fielded
-pub mod Going

@@ -1,5 +1,0 @@
-pub mod Known
-pub mod Preparing
-pub mod Storing
-pub mod Planning
-pub mod Steps

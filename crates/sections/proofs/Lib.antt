@@ -1,4 +1,0 @@
-pub mod Told
-pub mod Ordered
-pub mod Entered
-pub mod Pathed

@@ -1,9 +1,0 @@
-pub mod Pairs
-pub mod Puts
-pub mod Reading
-pub mod Nodes
-pub mod Collecting
-pub mod Fits
-pub mod Sums
-pub mod Bounds
-pub mod Enough

@@ -1,0 +1,404 @@
+-- What is known before an image is written, in the terms of those who write its sections.
+use Prim.Native.Nat.{ℕ, zero, suc, _+_, _*_, _/_, _^_, _≤_, _<_}
+use mathlib.Core.Path.{_≡_, refl, sym, ap, _∙_, subst}
+use mathlib.Core.List.{List, [], _∷_, _++_, map}
+use native.Mathlib.Omega.{arith}
+use native.Mathlib.Nat.{mul-one}
+use lib.ListN.{length, getD, take, length-append, length-map}
+use lib.Seq.{take-suc, take-all}
+use Rattle.laws.specs.Counted.{sumOf, joinOf}
+use Rattle.laws.specs.Lists.{placeIn}
+use Rattle.words.specs.Words.{bytesOf}
+use Rattle.words.proofs.Words.{length-bytes}
+use Rattle.image.specs.Sections.{Sections, nodeCount, childCount, namedCount, definitionCount, itemCount, nodeWord, definitionWord, tagOf}
+use Rattle.image.specs.Header.{nodeWords}
+use Rattle.image.specs.declared.NodeRecord.{NodeRecord}
+use Rattle.image.proofs.Entries.{node-record}
+use Rattle.image.specs.Encoding.{sectionOut}
+use Rattle.records.specs.Fields.{kindOf}
+use Rattle.records.specs.Records.{numberOfChildren, numberOfNamed, payloadLengthOf}
+use Rattle.records.proofs.PassedRules.{used-up}
+use Rattle.tree.specs.Tree.{namedText}
+use Rattle.tree.proofs.Members.{sum-ext}
+use Rattle.tree.proofs.Numbers.{get-below, place-of-get}
+use Rattle.draft.specs.Source.{draftOf}
+use Rattle.draft.specs.Draft.{tablesRule, reachRule, shapeRule}
+use Rattle.draft.specs.Numbering.{numbering, oldOf}
+use Rattle.draft.proofs.Rules.{tables, items-all}
+use Rattle.draft.proofs.ReachedNodes.{Numbered}
+use Rattle.draft_image.specs.Strings.{nodeTexts, namedTexts, uses, byPath, pathOf, distinct, storedTexts, offsetOf}
+use Rattle.draft_image.specs.Written.{nodeOut, childrenOut, namedOut, definitionOut, itemOut, indexOut, payloadOut, writtenWith, written}
+use Rattle.draft_image.specs.Ready.{OldsAt, NewsAt, OffsetsAt, nodeUses, namedUses, definitionUses, textUses}
+use Rattle.draft_image.proofs.Joins.{sum-const, join-length, join-same}
+use Rattle.draft_image.proofs.Offsets.{offsets-left, offsets-right}
+use Rattle.write_numbering.specs.declared.numbers.Numbers.{Numbers}
+use Rattle.write_tree_sections.specs.Held.{OrderFits, NamedFit, childrenBy, namedBy, payloadBy}
+use Rattle.write_paths.specs.declared.path_index.Paths.{Paths}
+use Rattle.write_paths.specs.PathIndex.{IndexFit, PathsAt, LengthsAt}
+use Rattle.words.specs.Output.{over}
+use Rattle.write_text_uses.proofs.Sums.{sum-ordered}
+use Rattle.write_text_uses.proofs.Bounds.{uses-bound}
+use Rattle.write_tree_sections.specs.Encoded.{textsBy}
+use Rattle.write_tree_sections.specs.Summed.{textsAt, usedBy, NodesFit}
+use Rattle.write_tree_sections.proofs.FieldWords.{texts-count}
+use Rattle.write_list_sections.specs.Entered.{textsBefore, itemsBefore, payloadWords, PayloadFits}
+use Rattle.write_list_sections.proofs.DefinitionWords.{uses-are}
+use Rattle.write_list_sections.proofs.PayloadLoop.{pay-room}
+use Rattle.write_text_keys.specs.declared.Tables.{Tables}
+use Rattle.write_text_keys.specs.Keys.{keyIn}
+use Rattle.write_interning.specs.Uses.{textsOf, storedOf, joined, Offsets}
+use Rattle.write_image.specs.Length.{storedBytes, imageLength}
+use Rattle.write_image.specs.Given.{Told, Indexed, Keyed, TreeReady, ListsReady, TextsReady, treeOut, listsOut, textsOut, definitionsAt}
+use Rattle.write_image.proofs.SectionLengths.{Sized, sized, once}
+
+ones-length : (n : ℕ) (g : ℕ → List ℕ) → length (joinOf n (λ j. g j ∷ [])) ≡ n
+ones-length n g = join-length n (λ j. g j ∷ []) ∙ sum-const n 1 ∙ mul-one n
+
+-- the first of a list's texts, one by one
+taken : (n : ℕ) (xs : List (List ℕ)) → n ≤ length xs → joinOf n (λ k. getD xs k [] ∷ []) ≡ take n xs
+unfolding joinOf
+taken zero xs h = refl
+taken (suc n) xs h = ap (λ (l : List (List ℕ)). l ++ (getD xs n [] ∷ [])) (taken n xs (omega arith)) ∙ sym (take-suc xs n [] (omega arith))
+
+-- ---- the bytes of each section
+
+pub record Measured (s : Sections) : Type 0 where
+  pub nodes : length (sectionOut (written s) 0) ≡ 40 * nodeCount s
+  pub children : length (sectionOut (written s) 1) ≡ 4 * childCount s
+  pub named : length (sectionOut (written s) 2) ≡ 12 * namedCount s
+  pub definitions : length (sectionOut (written s) 3) ≡ 16 * definitionCount s
+  pub items : length (sectionOut (written s) 4) ≡ 12 * itemCount s
+  pub index : length (sectionOut (written s) 5) ≡ 12 * length (byPath s (numbering s))
+  pub payload : length (sectionOut (written s) 6) ≡ length (s .payload)
+  pub strings : length (sectionOut (written s) 7) ≡ length (storedBytes s)
+
+by-sizes : (s : Sections) → Sized s (written s) → Measured s
+unfolding sectionOut
+by-sizes s z =
+    let v = written s in
+    record {
+      nodes = omega (arith, length-bytes (v .nodes), z .nodes);
+      children = omega (arith, length-bytes (v .children), z .children);
+      named = omega (arith, length-bytes (v .named), z .named);
+      definitions = omega (arith, length-bytes (v .definitions), z .definitions);
+      items = omega (arith, length-bytes (v .items), z .items);
+      index = omega (arith, length-bytes (v .index), z .index);
+      payload = z .payload;
+      strings = ap length (z .strings);
+    }
+
+-- ---- how many texts are used
+
+pub uses-length : (s : Sections) (order : List ℕ) → length (uses s order) ≡ length (textUses s order) + length (byPath s order)
+unfolding uses
+uses-length s order =
+    length-append (textUses s order) (map (pathOf s order) (byPath s order))
+    ∙ ap (λ (m : ℕ). length (textUses s order) + m) (length-map (byPath s order) (pathOf s order))
+
+-- fewer than the image has bytes
+pub uses-fewer : (s : Sections) → s .stride ≡ nodeWords → tablesRule s ≡ 0 → reachRule s ≡ 0 → length (uses s (numbering s)) ≤ imageLength s
+uses-fewer s ten p q = omega (arith, uses-bound s (numbering s) p (once s ten p q), uses-length s (numbering s))
+
+module _ (s : Sections) (w : List ℕ) (n : Numbers) (t : Told s w n) where
+  abbrev order : List ℕ
+  order = numbering s
+
+  abbrev kept : List (List ℕ)
+  kept = storedTexts s (numbering s)
+
+  pub measured : Measured s
+  measured = by-sizes s (sized s (t .wide) (t .tables) (t .reach))
+
+  -- the three runs of sections
+  pub tree-length : length (treeOut s) ≡ 40 * nodeCount s + 4 * childCount s + 12 * namedCount s
+  tree-length =
+      let m = measured in
+      let sec = sectionOut (written s) in
+      omega (arith, m .nodes, m .children, m .named, length-append (sec 0 ++ sec 1) (sec 2), length-append (sec 0) (sec 1))
+
+  pub lists-length : length (listsOut s) ≡ 16 * definitionCount s + 12 * itemCount s + 12 * length (byPath s order)
+  lists-length =
+      let m = measured in
+      let sec = sectionOut (written s) in
+      omega (arith, m .definitions, m .items, m .index, length-append (sec 3 ++ sec 4) (sec 5), length-append (sec 3) (sec 4))
+
+  pub texts-length : length (textsOut s) ≡ length (s .payload) + length (storedBytes s)
+  texts-length =
+      let m = measured in
+      let sec = sectionOut (written s) in
+      omega (arith, m .payload, m .strings, length-append (sec 6) (sec 7))
+
+  -- ---- numbers
+
+  pub numbers-once : Numbered (nodeCount s) order
+  numbers-once = once s (t .wide) (t .tables) (t .reach)
+
+  pub place-back : (j : ℕ) → j < nodeCount s → placeIn order (oldOf order j) ≡ j
+  place-back j h = place-of-get numbers-once j h
+
+  pub old-inside : (j : ℕ) → j < nodeCount s → oldOf order j < nodeCount s
+  old-inside j h = get-below numbers-once j h
+
+  pub word-inside : (j : ℕ) → j < nodeCount s → getD w (n .order + j) 0 < nodeCount s
+  word-inside j h = omega (arith, t .olds j h, old-inside j h)
+
+  sum-words : (b : ℕ → ℕ) → sumOf (nodeCount s) (λ m. b (getD w (n .order + m) 0)) ≡ sumOf (nodeCount s) b
+  sum-words b =
+      sum-ext (nodeCount s) (λ m. b (getD w (n .order + m) 0)) (λ m. b (oldOf order m)) (λ m h. ap b (t .olds m h))
+      ∙ sum-ordered (nodeCount s) order numbers-once b
+
+  -- ---- offsets of texts, run by run
+
+  text-offsets : OffsetsAt kept (textUses s order) w (n .offsets)
+  unfolding uses
+  text-offsets = offsets-left kept w (n .offsets) (textUses s order) (map (pathOf s order) (byPath s order)) (t .offsets)
+
+  front-offsets : OffsetsAt kept (nodeUses s order ++ namedUses s order) w (n .offsets)
+  front-offsets = offsets-left kept w (n .offsets) (nodeUses s order ++ namedUses s order) (definitionUses s) text-offsets
+
+  pub node-offsets : OffsetsAt kept (nodeUses s order) w (n .offsets)
+  node-offsets = offsets-left kept w (n .offsets) (nodeUses s order) (namedUses s order) front-offsets
+
+  pub named-offsets : OffsetsAt kept (namedUses s order) w (n .offsets + length (nodeUses s order))
+  named-offsets = offsets-right kept w (n .offsets) (nodeUses s order) (namedUses s order) front-offsets
+
+  pub definition-offsets : OffsetsAt kept (definitionUses s) w (definitionsAt s n)
+  definition-offsets =
+      let e : n .offsets + length (nodeUses s order ++ namedUses s order) ≡ definitionsAt s n = omega (arith, length-append (nodeUses s order) (namedUses s order)) in
+      subst (OffsetsAt kept (definitionUses s) w) e (offsets-right kept w (n .offsets) (nodeUses s order ++ namedUses s order) (definitionUses s) text-offsets)
+
+  pub path-offsets : OffsetsAt kept (map (pathOf s order) (byPath s order)) w (n .offsets + length (textUses s order))
+  unfolding uses
+  path-offsets = offsets-right kept w (n .offsets) (textUses s order) (map (pathOf s order) (byPath s order)) (t .offsets)
+
+  -- ---- how many texts there are
+
+  pub text-uses-length : length (textUses s order) ≡ length (nodeUses s order) + length (namedUses s order) + length (definitionUses s)
+  text-uses-length =
+      omega (
+        arith,
+        length-append (nodeUses s order ++ namedUses s order) (definitionUses s),
+        length-append (nodeUses s order) (namedUses s order),
+      )
+
+  -- there is an offset for each
+  pub texts-end : n .offsets + length (nodeUses s order) + length (namedUses s order) + length (definitionUses s) + length (byPath s order) ≤ length w
+  texts-end = omega (arith, t .offsets-end, uses-length s order, text-uses-length)
+
+  -- one a named entry
+  pub named-length : length (namedUses s order) ≡ namedCount s
+  unfolding namedTexts
+  named-length =
+      join-length (nodeCount s) (λ j. namedTexts s (oldOf order j))
+      ∙ sum-ext (nodeCount s) (λ j. length (namedTexts s (oldOf order j))) (λ j. numberOfNamed s (oldOf order j)) (λ j h. ones-length (numberOfNamed s (oldOf order j)) (namedText s (oldOf order j)))
+      ∙ sum-ordered (nodeCount s) order numbers-once (numberOfNamed s)
+      ∙ used-up s (tables s (t .tables) .used) .named
+
+-- ---- what the writers of the first sections ask
+
+module _ (nodes children named definitions items payload strings w : List ℕ) (n : Numbers) where
+  abbrev s : Sections
+  s = draftOf nodes children named definitions items payload strings
+
+  module _ (t : Told s w n) where
+    pub children-sum : childrenBy nodes w (n .order) (length nodes / 10) ≡ length children
+    unfolding numberOfChildren nodeWord
+    children-sum = sum-words s w n t (numberOfChildren s) ∙ used-up s (tables s (t .tables) .used) .children
+
+    pub named-sum : namedBy nodes w (n .order) (length nodes / 10) ≡ namedCount s
+    unfolding numberOfNamed nodeWord
+    named-sum = sum-words s w n t (numberOfNamed s) ∙ used-up s (tables s (t .tables) .used) .named
+
+    pub payload-sum : payloadBy nodes w (n .order) (length nodes / 10) ≡ length payload
+    unfolding payloadLengthOf nodeWord
+    payload-sum = sum-words s w n t (payloadLengthOf s) ∙ used-up s (tables s (t .tables) .used) .payload
+
+    -- the texts of the nodes
+    one-count : (i : ℕ) → i < nodeCount s → textsAt nodes payload i ≡ length (nodeTexts s i)
+    unfolding textsAt
+    one-count i h =
+        ap (λ (r : NodeRecord). textsBy payload r (kindOf (r .tag))) (node-record s nodes i refl refl)
+        ∙ texts-count s i (kindOf (tagOf s i)) (tables s (t .tables) .fields i h)
+
+    pub texts-sum : usedBy nodes w (n .order) payload (length nodes / 10) ≡ length (nodeUses s (numbering s))
+    texts-sum =
+        sum-ext (nodeCount s) (λ m. textsAt nodes payload (getD w (n .order + m) 0)) (λ m. length (nodeTexts s (oldOf (numbering s) m)))
+        (λ m h. ap (textsAt nodes payload) (t .olds m h) ∙ one-count (oldOf (numbering s) m) (old-inside s w n t m h))
+        ∙ sym (join-length (nodeCount s) (λ m. nodeTexts s (oldOf (numbering s) m)))
+
+    pub order-fits : OrderFits nodes w n
+    order-fits = record { olds = word-inside s w n t; order-end = t .order-end; new-start = t .new-start }
+
+    pub nodes-fit : NodesFit nodes payload w n
+    nodes-fit =
+        record {
+          order = order-fits;
+          children = omega (arith, children-sum, t .long);
+          named = omega (arith, named-sum, t .long);
+          bytes = omega (arith, payload-sum, t .long);
+          texts = omega (arith, texts-sum, t .offsets-end, uses-length s (numbering s), text-uses-length s w n t);
+        }
+
+    pub named-fit : (text : ℕ) → text ≡ n .offsets + length (nodeUses s (numbering s)) → NamedFit nodes w (record { order = n .order; new = n .new; offsets = text })
+    named-fit text e =
+        record {
+          order = record { olds = word-inside s w n t; order-end = t .order-end; new-start = t .new-start };
+          texts = omega (arith, named-sum, named-length s w n t, t .offsets-end, uses-length s (numbering s), text-uses-length s w n t);
+        }
+
+    -- ---- definitions, items, index
+
+    pub definitions-texts : definitionsAt s n + textsBefore definitions (length definitions / 4) ≤ length w
+    definitions-texts = omega (arith, uses-are s, t .offsets-end, uses-length s (numbering s), text-uses-length s w n t)
+
+    pub items-sum : itemsBefore definitions (length definitions / 4) ≡ itemCount s
+    unfolding itemsBefore definitionWord
+    items-sum = items-all s (tables s (t .tables))
+
+    pub index-fit : (p : Paths) (path : ℕ) → Indexed s w p → path ≡ n .offsets + length (textUses s (numbering s))
+        → IndexFit w (record { order = n .order; new = n .new; offsets = path }) p
+    index-fit p path i e =
+        record {
+          nodes = i .boxes-end;
+          offsets = omega (arith, t .offsets-end, uses-length s (numbering s), i .count);
+          lengths = i .lengths-start;
+          new = t .new-start;
+        }
+
+    -- ---- payload and strings
+
+    pub payload-fits : PayloadFits nodes payload w (n .order) (n .offsets)
+    payload-fits = record { olds = word-inside s w n t; order-end = t .order-end; texts = nodes-fit .texts }
+
+    pub payload-room : 4 * length (joinOf (length nodes / 10) (payloadWords nodes payload w (n .order) (n .offsets))) ≡ length payload
+    payload-room =
+        pay-room s nodes payload w (n .order) (n .offsets) (numbering s) (storedTexts s (numbering s)) payload-fits refl refl refl (t .tables) (t .olds)
+        (node-offsets s w n t)
+        ∙ (unfold written writtenWith sectionOut in measured s w n t .payload)
+
+    pub uses-small : length (uses s (numbering s)) < 2 ^ 32
+    uses-small = omega (arith, uses-fewer s (t .wide) (t .tables) (t .reach), t .long)
+
+    module _ (k : Tables) (q : Keyed s w n k) where
+      abbrev key : ℕ → List ℕ
+      key = keyIn nodes strings k w
+
+      texts-are : textsOf key (n .offsets) ≡ uses s (numbering s)
+      texts-are =
+          join-same (n .offsets) (λ a. key a ∷ []) (λ a. getD (uses s (numbering s)) a [] ∷ []) (λ a h. ap (λ (x : List ℕ). x ∷ []) (q .keys a h))
+          ∙ taken (n .offsets) (uses s (numbering s)) (omega (arith, q .all))
+          ∙ take-all (n .offsets) (uses s (numbering s)) (omega (arith, q .all))
+
+      pub stored-are : storedOf key (n .offsets) ≡ storedTexts s (numbering s)
+      unfolding storedOf storedTexts
+      stored-are = ap (distinct []) texts-are
+
+      pub key-offsets : Offsets key (n .offsets) w
+      key-offsets a h =
+          t .offsets a (omega (arith, q .all)) ∙ sym (λ i. offsetOf (stored-are i) (q .keys a h i))
+
+-- ---- what a section's writer gives, of a draft of which all is known
+
+module _ (nodes children named definitions items payload strings w : List ℕ) (n : Numbers) (out₀ out : List ℕ) (t : Told (draftOf nodes children named definitions items payload strings) w n) where
+  abbrev d : Sections
+  d = draftOf nodes children named definitions items payload strings
+
+  abbrev sec : ℕ → List ℕ
+  sec = sectionOut (written d)
+
+  pub nodes-put : (text : ℕ)
+      → ((s : Sections) (order : List ℕ) (kept : List (List ℕ)) → s .nodes ≡ nodes → s .stride ≡ nodeWords → s .payload ≡ payload → tablesRule s ≡ 0 → shapeRule s ≡ 0
+      → ((j : ℕ) → j < nodeCount s → placeIn order (oldOf order j) ≡ j) → OldsAt order w (nodeCount s) (n .order) → NewsAt order w (nodeCount s) (n .new)
+      → OffsetsAt kept (nodeUses s order) w (n .offsets)
+      → (out ≡ over (bytesOf (joinOf (nodeCount s) (λ j. nodeOut s order kept (oldOf order j)))) out₀) × (text ≡ n .offsets + length (nodeUses s order)))
+      → (out ≡ over (sec 0) out₀) × (text ≡ n .offsets + length (nodeUses d (numbering d)))
+  unfolding sectionOut written writtenWith
+  nodes-put text e =
+      e d (numbering d) (storedTexts d (numbering d)) refl refl refl (t .tables) (t .shape) (place-back d w n t) (t .olds) (t .news) (node-offsets d w n t)
+
+  pub children-put : ((s : Sections) (order : List ℕ) (kept : List (List ℕ)) → s .nodes ≡ nodes → s .stride ≡ nodeWords → s .children ≡ children → tablesRule s ≡ 0
+      → OldsAt order w (nodeCount s) (n .order) → NewsAt order w (nodeCount s) (n .new)
+      → out ≡ over (bytesOf (joinOf (nodeCount s) (λ j. childrenOut s order kept (oldOf order j)))) out₀)
+      → out ≡ over (sec 1) out₀
+  unfolding sectionOut written writtenWith
+  children-put e = e d (numbering d) (storedTexts d (numbering d)) refl refl refl (t .tables) (t .olds) (t .news)
+
+  pub named-put : (text : ℕ) → text ≡ n .offsets + length (nodeUses d (numbering d))
+      → ((s : Sections) (order : List ℕ) (kept : List (List ℕ)) → s .nodes ≡ nodes → s .stride ≡ nodeWords → s .named ≡ named → tablesRule s ≡ 0
+      → OldsAt order w (nodeCount s) (n .order) → NewsAt order w (nodeCount s) (n .new) → OffsetsAt kept (namedUses s order) w text
+      → out ≡ over (bytesOf (joinOf (nodeCount s) (λ j. namedOut s order kept (oldOf order j)))) out₀)
+      → out ≡ over (sec 2) out₀
+  unfolding sectionOut written writtenWith
+  named-put text q e =
+      e d (numbering d) (storedTexts d (numbering d)) refl refl refl (t .tables) (t .olds) (t .news)
+      (subst (OffsetsAt (storedTexts d (numbering d)) (namedUses d (numbering d)) w) (sym q) (named-offsets d w n t))
+
+  pub definitions-put : (text : ℕ) → text ≡ definitionsAt d n
+      → ((s : Sections) (order : List ℕ) (kept : List (List ℕ)) → s .definitions ≡ definitions → tablesRule s ≡ 0 → OffsetsAt kept (definitionUses s) w text
+      → out ≡ over (bytesOf (joinOf (definitionCount s) (definitionOut s order kept))) out₀)
+      → out ≡ over (sec 3) out₀
+  unfolding sectionOut written writtenWith
+  definitions-put text q e =
+      e d (numbering d) (storedTexts d (numbering d)) refl (t .tables)
+      (subst (OffsetsAt (storedTexts d (numbering d)) (definitionUses d) w) (sym q) (definition-offsets d w n t))
+
+  pub items-put : (text : ℕ) → text ≡ definitionsAt d n
+      → ((s : Sections) (order : List ℕ) (kept : List (List ℕ)) → s .definitions ≡ definitions → s .items ≡ items → tablesRule s ≡ 0 → OffsetsAt kept (definitionUses s) w text
+      → out ≡ over (bytesOf (joinOf (itemCount s) (itemOut s order kept))) out₀)
+      → out ≡ over (sec 4) out₀
+  unfolding sectionOut written writtenWith
+  items-put text q e =
+      e d (numbering d) (storedTexts d (numbering d)) refl refl (t .tables)
+      (subst (OffsetsAt (storedTexts d (numbering d)) (definitionUses d) w) (sym q) (definition-offsets d w n t))
+
+  pub index-put : (p : Paths) (path : ℕ) → Indexed d w p → path ≡ n .offsets + length (textUses d (numbering d))
+      → ((s : Sections) (order : List ℕ) (kept : List (List ℕ)) → p .count ≡ length (byPath s order) → ((j : ℕ) → j < nodeCount s → oldOf order j < nodeCount s)
+      → ((j : ℕ) → j < nodeCount s → placeIn order (oldOf order j) ≡ j) → NewsAt order w (nodeCount s) (n .new) → PathsAt s order w (p .nodes)
+      → LengthsAt s order w (p .lengths) → OffsetsAt kept (map (pathOf s order) (byPath s order)) w path
+      → out ≡ over (bytesOf (joinOf (length (byPath s order)) (λ k. indexOut s order kept (getD (byPath s order) k 0)))) out₀)
+      → out ≡ over (sec 5) out₀
+  unfolding sectionOut written writtenWith
+  index-put p path i q e =
+      e d (numbering d) (storedTexts d (numbering d)) (i .count) (old-inside d w n t) (place-back d w n t) (t .news) (i .boxes) (i .lengths)
+      (subst (OffsetsAt (storedTexts d (numbering d)) (map (pathOf d (numbering d)) (byPath d (numbering d))) w) (sym q) (path-offsets d w n t))
+
+  pub payload-put : ((s : Sections) (olds : List ℕ) (kept : List (List ℕ)) → s .nodes ≡ nodes → s .stride ≡ nodeWords → s .payload ≡ payload → tablesRule s ≡ 0
+      → OldsAt olds w (nodeCount s) (n .order) → OffsetsAt kept (nodeUses s olds) w (n .offsets)
+      → out ≡ over (joinOf (nodeCount s) (λ j. payloadOut s olds kept (oldOf olds j))) out₀)
+      → out ≡ over (sec 6) out₀
+  unfolding sectionOut written writtenWith
+  payload-put e = e d (numbering d) (storedTexts d (numbering d)) refl refl refl (t .tables) (t .olds) (node-offsets d w n t)
+
+  pub strings-put : (k : Tables) → Keyed d w n k → out ≡ over (joined (storedOf (keyIn nodes strings k w) (n .offsets))) out₀ → out ≡ over (sec 7) out₀
+  unfolding sectionOut written writtenWith
+  strings-put k q e = e ∙ ap (λ (kept : List (List ℕ)). over (joined kept) out₀) (stored-are nodes children named definitions items payload strings w n t k q)
+
+-- ---- the room of three runs of sections, by the draft's counts
+
+pub tree-room : (nodes children named payload w : List ℕ) (n : Numbers) (room : ℕ) → TreeReady nodes children named payload w n room
+    → 40 * (length nodes / 10) + 4 * length children + 12 * (length named / 3) ≤ room
+tree-room nodes children named payload w n room r =
+    omega (arith, r .fits, tree-length (draftOf nodes children named (r .definitions) (r .items) payload (r .strings)) w n (r .told))
+
+pub lists-room : (definitions items w : List ℕ) (n : Numbers) (text path : ℕ) (p : Paths) (room : ℕ) → ListsReady definitions items w n text path p room
+    → 16 * (length definitions / 4) + 12 * (length items / 3) + 12 * p .count ≤ room
+lists-room definitions items w n text path p room r =
+    omega (arith, r .fits, r .indexed .count, lists-length (draftOf (r .nodes) (r .children) (r .named) definitions items (r .payload) (r .strings)) w n (r .told))
+
+pub texts-room : (nodes payload strings w : List ℕ) (n : Numbers) (k : Tables) (room : ℕ) (r : TextsReady nodes payload strings w n k room)
+    → length payload + length (storedBytes (draftOf nodes (r .children) (r .named) (r .definitions) (r .items) payload strings)) ≤ room
+texts-room nodes payload strings w n k room r =
+    omega (arith, r .fits, texts-length (draftOf nodes (r .children) (r .named) (r .definitions) (r .items) payload strings) w n (r .told))
+
+-- of whatever draft has this payload and these texts
+pub texts-fit : (nodes payload strings w : List ℕ) (n : Numbers) (k : Tables) (room : ℕ) → TextsReady nodes payload strings w n k room
+    → (children named definitions items : List ℕ) (t : Told (draftOf nodes children named definitions items payload strings) w n)
+    → Keyed (draftOf nodes children named definitions items payload strings) w n k
+    → length payload + length (storedBytes (draftOf nodes children named definitions items payload strings)) ≤ room
+texts-fit nodes payload strings w n k room r children named definitions items t q =
+    let one = stored-are nodes (r .children) (r .named) (r .definitions) (r .items) payload strings w n (r .told) k (r .keyed) in
+    let two = stored-are nodes children named definitions items payload strings w n t k q in
+    let same : length (storedBytes (draftOf nodes children named definitions items payload strings))
+    ≡ length (storedBytes (draftOf nodes (r .children) (r .named) (r .definitions) (r .items) payload strings)) =
+    ap (λ (kept : List (List ℕ)). length (joined kept)) (sym two ∙ one) in
+    omega (arith, texts-room nodes payload strings w n k room r)

@@ -1,0 +1,159 @@
+-- The three runs of sections, and header, sections and checksum: what each writer asks, and what they give together.
+use Prim.Native.Nat.{ℕ, _+_, _*_, _-_, _≤_}
+use mathlib.Core.Path.{_≡_, refl, sym, ap, _∙_, subst}
+use mathlib.Core.List.{List, _++_, append-assoc}
+use native.Mathlib.Omega.{arith}
+use lib.ListN.{length, take, drop, length-append}
+use lib.Seq.{take-at, drop-at}
+use borrow.Rule.Slice.PartMut.{putMid}
+use Rattle.laws.specs.Counted.{joinOf}
+use Rattle.words.specs.Words.{NONE}
+use Rattle.image.specs.Header.{headerLength}
+use Rattle.image.specs.Sections.{Sections, nodeCount, childCount, namedCount, definitionCount, itemCount}
+use Rattle.image.specs.Encoding.{bodyOf, headerWith, imageOf}
+use Rattle.draft.specs.Source.{draftOf}
+use Rattle.draft.specs.Numbering.{numbering}
+use Rattle.draft_image.specs.Strings.{byPath}
+use Rattle.draft_image.specs.Written.{written}
+use Rattle.draft_image.specs.Encode.{imageFor}
+use Rattle.words.specs.Output.{over}
+use Rattle.write_text_keys.specs.declared.Tables.{Tables}
+use Rattle.write_numbering.specs.declared.numbers.Numbers.{Numbers}
+use Rattle.write_paths.specs.declared.path_index.Paths.{Paths}
+use Rattle.image.specs.declared.encoding.EntryCounts.{EntryCounts}
+use Rattle.image.specs.Counted.{endOf, CountsOf}
+use Rattle.write_image.specs.declared.Places.{Places}
+use Rattle.write_image.specs.declared.size.Entries.{Entries}
+use Rattle.write_image.specs.Length.{lengthBy, countsBy, placesBy, entriesOf}
+use Rattle.write_image.specs.Given.{Indexed, treeOut, TreeReady, definitionsAt, listsOut, ListsAt, ListsReady, textsOut, TextsReady, pathsOf, Ready, Sectioned}
+use Rattle.write_image.proofs.SectionLengths.{head-length, sized}
+use Rattle.write_image.proofs.Premises.{tree-length, lists-length, texts-length}
+use Rattle.write_image.proofs.SectionLayers.{over-next, three-parts, counts-right}
+
+-- ---- the sections
+
+-- the runs are the body
+runs : (s : Sections) → treeOut s ++ listsOut s ++ textsOut s ≡ bodyOf (written s)
+unfolding bodyOf joinOf
+runs s = simp append-assoc
+
+module _ (nodes children named definitions items payload strings w : List ℕ) (n : Numbers) (t : Tables) (p : Paths) (q : Places) (room : ℕ) where
+  abbrev s : Sections
+  s = draftOf nodes children named definitions items payload strings
+
+  module _ (r : Sectioned s w n t p q room) where
+    lists-place : q .lists ≡ 40 * nodeCount s + 4 * childCount s + 12 * namedCount s
+    lists-place = ap (λ (x : Places). x .lists) (r .places)
+
+    texts-place : q .texts
+        ≡ 40 * nodeCount s + 4 * childCount s + 12 * namedCount s + 16 * definitionCount s + 12 * itemCount s + 12 * length (byPath s (numbering s))
+    texts-place = ap (λ (x : Places). x .texts) (r .places)
+
+    -- where each run begins, and that they fit
+    pub run-tree : length (treeOut s) ≡ q .lists
+    run-tree = omega (arith, tree-length s w n (r .told), lists-place)
+
+    pub run-lists : length (treeOut s) + length (listsOut s) ≡ q .texts
+    run-lists = omega (arith, tree-length s w n (r .told), lists-length s w n (r .told), texts-place)
+
+    pub run-texts : length (treeOut s) + length (listsOut s) + length (textsOut s) ≤ room
+    run-texts = omega (arith, tree-length s w n (r .told), lists-length s w n (r .told), texts-length s w n (r .told), r .fits)
+
+    pub tree-ready : TreeReady nodes children named payload w n room
+    tree-ready = record { definitions = definitions; items = items; strings = strings; told = r .told; fits = omega (arith, run-texts) }
+
+    pub lists-at : (text path : ℕ) → text ≡ definitionsAt s n → path ≡ n .offsets + t .texts → ListsAt s n text path
+    lists-at text path e f = record { texts = e; paths = f ∙ ap (λ (m : ℕ). n .offsets + m) (r .texts) }
+
+    pub lists-ready : (text path part : ℕ) → ListsAt s n text path → q .lists + part ≡ room → ListsReady definitions items w n text path p part
+    lists-ready text path part a h =
+        record {
+          nodes = nodes;
+          children = children;
+          named = named;
+          payload = payload;
+          strings = strings;
+          told = r .told;
+          at = a;
+          indexed = r .indexed;
+          fits = omega (arith, run-tree, run-texts);
+        }
+
+    pub texts-ready : (part : ℕ) → q .texts + part ≡ room → TextsReady nodes payload strings w n t part
+    texts-ready part h =
+        record {
+          children = children;
+          named = named;
+          definitions = definitions;
+          items = items;
+          told = r .told;
+          keyed = r .keyed;
+          fits = omega (arith, run-lists, run-texts);
+        }
+
+    pub runs-put : (out₀ out₁ out₂ ys zs : List ℕ) → length out₀ ≡ room → out₁ ≡ over (treeOut s) out₀
+        → ys ≡ over (listsOut s) (take (length out₁ - q .lists) (drop (q .lists) out₁)) → out₂ ≡ putMid (q .lists) (length out₁ - q .lists) out₁ ys
+        → zs ≡ over (textsOut s) (take (length out₂ - q .texts) (drop (q .texts) out₂))
+        → putMid (q .texts) (length out₂ - q .texts) out₂ zs ≡ over (bodyOf (written s)) out₀
+    runs-put out₀ out₁ out₂ ys zs h e y f z =
+        three-parts out₀ out₁ out₂ (treeOut s) (listsOut s) (textsOut s) ys zs (q .lists) (q .texts) (omega (arith, run-texts)) e (sym run-tree) y f (sym run-lists) z
+        ∙ ap (λ (bs : List ℕ). over bs out₀) (runs s)
+
+-- ---- header, sections, checksum
+
+image-long : (ink : ℕ) (v : Sections) → length (imageOf ink v) ≡ headerLength + length (bodyOf v)
+unfolding imageOf
+image-long ink v = length-append (headerWith ink v _) (bodyOf v) ∙ ap (λ (m : ℕ). m + length (bodyOf v)) (head-length ink v _)
+
+module _ (s : Sections) (w : List ℕ) (n : Numbers) (t : Tables) (e : Entries) (r : Ready s w n t e) where
+  -- the length that the entries say is the image's
+  pub long-enough : lengthBy e ≤ NONE
+  long-enough = omega (arith, ap lengthBy (r .entries), r .told .long)
+
+  pub end-small : (c : EntryCounts) → c ≡ countsBy e → endOf c ≤ NONE
+  end-small c k = omega (arith, ap endOf k, long-enough)
+
+  pub body-end : (q : Places) → q ≡ placesBy e → headerLength + q .end ≡ lengthBy (entriesOf s)
+  body-end q k = omega (arith, ap (λ (x : Places). x .end) k, ap lengthBy (r .entries))
+
+  pub sectioned : (p : Paths) (q : Places) (room : ℕ) → p ≡ pathsOf t (e .index) → q ≡ placesBy e → q .end ≤ room → Sectioned s w n t p q room
+  sectioned p q room k l h =
+      record {
+        told = r .told;
+        texts = r .texts;
+        indexed = subst (λ (x : Paths). Indexed s w x) (sym k) (r .indexed);
+        keyed = r .keyed;
+        places = l ∙ ap placesBy (r .entries);
+        fits = omega (arith, ap (λ (x : Places). x .end) (l ∙ ap placesBy (r .entries)));
+      }
+
+  body-length : headerLength + length (bodyOf (written s)) ≡ lengthBy (entriesOf s)
+  body-length =
+      omega (
+        arith,
+        ap length (runs s),
+        length-append (treeOut s ++ listsOut s) (textsOut s),
+        length-append (treeOut s) (listsOut s),
+        tree-length s w n (r .told),
+        lists-length s w n (r .told),
+        texts-length s w n (r .told),
+      )
+
+  pub image-put : (ink : ℕ) (c : EntryCounts) (q : Places) (out₀ out₁ out₂ ys zs : List ℕ) → c ≡ countsBy e → q ≡ placesBy e → lengthBy (entriesOf s) ≤ length out₀
+      → ((v : Sections) → CountsOf v c → out₁ ≡ over (headerWith ink v 0) out₀)
+      → ys ≡ over (bodyOf (written s)) (take (length out₁ - headerLength) (drop headerLength out₁)) → out₂ ≡ putMid headerLength (length out₁ - headerLength) out₁ ys
+      → ((i : ℕ) (v : Sections) → take (headerLength + q .end) out₂ ≡ headerWith i v 0 ++ bodyOf v → zs ≡ imageOf i v)
+      → zs ++ drop (headerLength + q .end) out₂ ≡ over (imageFor ink s) out₀
+  image-put ink c q out₀ out₁ out₂ ys zs k l h put y f sum =
+      let v = written s in
+      let head = headerWith ink v 0 in
+      let size : length (head ++ bodyOf v) ≡ headerLength + q .end =
+      omega (arith, length-append head (bodyOf v), head-length ink v 0, body-length, body-end q l) in
+      let first : out₁ ≡ over head out₀ = put v (subst (CountsOf v) (sym (k ∙ ap countsBy (r .entries))) (counts-right s (sized s (r .told .wide) (r .told .tables) (r .told .reach)))) in
+      let both : out₂ ≡ over (head ++ bodyOf v) out₀ =
+      f ∙ over-next out₀ out₁ head (bodyOf v) ys headerLength first (sym (head-length ink v 0)) (omega (arith, body-length)) y in
+      let image : zs ≡ imageOf ink v = sum ink v (ap (take (headerLength + q .end)) both ∙ take-at (head ++ bodyOf v) (drop (length (head ++ bodyOf v)) out₀) (headerLength + q .end) size) in
+      let rest : drop (headerLength + q .end) out₂ ≡ drop (length (head ++ bodyOf v)) out₀ =
+      ap (drop (headerLength + q .end)) both ∙ drop-at (head ++ bodyOf v) (drop (length (head ++ bodyOf v)) out₀) (headerLength + q .end) size in
+      let long : length (head ++ bodyOf v) ≡ length (imageOf ink v) = omega (arith, size, body-end q l, length-append head (bodyOf v), head-length ink v 0, image-long ink (written s)) in
+      (λ i. image i ++ rest i) ∙ ap (λ (m : ℕ). imageOf ink v ++ drop m out₀) long ∙ (unfold imageFor in refl)

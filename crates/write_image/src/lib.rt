@@ -1,0 +1,164 @@
+// An image written into the output: header, sections, checksum.
+pub mod size; // size.rt: how long an image is
+pub mod tree_part; // tree_part.rt: sections 0 to 2
+pub mod list_part; // list_part.rt: sections 3 to 5
+pub mod text_part; // text_part.rt: sections 6 and 7
+
+ghost use mathlib.Core.Path.{_≡_};
+ghost use Prim.Native.Nat.{_+_, _≤_};
+ghost use lib.ListN.{length};
+ghost use Rattle.words.specs.Words.{NONE};
+ghost use Rattle.draft.specs.Source.{draftOf};
+ghost use Rattle.image.specs.Encoding.{bodyOf};
+ghost use Rattle.draft_image.specs.Written.{written};
+ghost use Rattle.draft_image.specs.Encode.{imageFor};
+ghost use Rattle.words.specs.Output.{over};
+ghost use Rattle.write_image.specs.Length.{lengthBy, countsBy, placesBy, imageLength};
+ghost use Rattle.write_image.specs.Given.{Ready, Sectioned, pathsOf};
+use crate::list_part::put_lists;
+use crate::size::Entries;
+use crate::text_part::put_texts;
+use crate::tree_part::put_tree;
+use image::ImageView;
+use image::encoding::EntryCounts;
+use image::encoding::put_checksum;
+use image::encoding::put_header;
+use write_numbering::numbers::Numbers;
+use write_paths::path_index::Paths;
+use write_text_keys::Tables;
+
+// The counts that the header says.
+fn counts_of(entries: Entries) -> EntryCounts
+    requires { ⌜ lengthBy entries ≤ NONE ⌝ }
+    ensures { λ r. ⌜ r ≡ countsBy entries ⌝ }
+{
+    EntryCounts {
+        nodes: entries.nodes as u32,
+        children: entries.children as u32,
+        named: entries.named as u32,
+        definitions: entries.definitions as u32,
+        items: entries.items as u32,
+        index: entries.index as u32,
+        payload: entries.payload as u32,
+        strings: entries.strings as u32,
+    }
+}
+
+// Where the sections that hold lists begin behind the header, where those that hold texts, and where they end.
+struct Places {
+    lists: usize,
+    texts: usize,
+    end: usize,
+}
+
+fn places_of(entries: Entries) -> Places
+    requires { ⌜ lengthBy entries ≤ NONE ⌝ }
+    ensures { λ r. ⌜ r ≡ placesBy entries ⌝ }
+{
+    let lists = 40 * entries.nodes + 4 * entries.children + 12 * entries.named;
+    let texts = lists + 16 * entries.definitions + 12 * entries.items + 12 * entries.index;
+    Places {
+        lists,
+        texts,
+        end: texts + entries.payload + entries.strings,
+    }
+}
+
+// Where the paths lie in the work words.
+fn paths_of(tables: Tables, count: usize) -> Paths
+    requires { ⌜ (tables .at + tables .paths ≤ 9223372036854775807) × (tables .at + tables .lengths ≤ 9223372036854775807) ⌝ }
+    ensures { λ r. ⌜ r ≡ pathsOf tables count ⌝ }
+{
+    Paths {
+        nodes: tables.at + tables.paths,
+        lengths: tables.at + tables.lengths,
+        count,
+    }
+}
+
+// Writes the sections at the start of the output.
+fn put_sections(
+    nodes: &[u32],
+    children: &[u32],
+    named: &[u32],
+    definitions: &[u32],
+    items: &[u32],
+    payload: &[u8],
+    strings: &[u8],
+    work: &[u32],
+    numbers: Numbers,
+    tables: Tables,
+    paths: Paths,
+    places: Places,
+    out: &mut [u8],
+)
+    requires { ⌜ Sectioned (draftOf (now nodes) (now children) (now named) (now definitions) (now items) (now payload) (now strings)) (now work) numbers tables paths places (length (now out)) ⌝ }
+    ensures { λ r. ⌜ now (out .exit) ≡ over (bodyOf (written (draftOf (now (nodes .entry)) (now (children .entry)) (now (named .entry)) (now (definitions .entry)) (now (items .entry)) (now (payload .entry)) (now (strings .entry))))) (now (out .entry)) ⌝ }
+{
+    let at_lists = places.lists;
+    let at_texts = places.texts;
+    let text = put_tree(nodes, children, named, payload, work, numbers, out);
+    let path = numbers.offsets + tables.texts;
+    put_lists(
+        definitions,
+        items,
+        work,
+        numbers,
+        text,
+        path,
+        paths,
+        &mut out[at_lists..],
+    );
+    put_texts(
+        nodes,
+        payload,
+        strings,
+        work,
+        numbers,
+        tables,
+        &mut out[at_texts..],
+    );
+}
+
+// Writes the image of a draft at the start of the output.
+pub fn fill(
+    ink: u32,
+    nodes: &[u32],
+    children: &[u32],
+    named: &[u32],
+    definitions: &[u32],
+    items: &[u32],
+    payload: &[u8],
+    strings: &[u8],
+    work: &[u32],
+    numbers: Numbers,
+    tables: Tables,
+    entries: Entries,
+    out: &mut [u8],
+)
+    requires { ⌜ Ready (draftOf (now nodes) (now children) (now named) (now definitions) (now items) (now payload) (now strings)) (now work) numbers tables entries ⌝ }
+    requires { ⌜ imageLength (draftOf (now nodes) (now children) (now named) (now definitions) (now items) (now payload) (now strings)) ≤ length (now out) ⌝ }
+    ensures { λ r. ⌜ now (out .exit) ≡ over (imageFor ink (draftOf (now (nodes .entry)) (now (children .entry)) (now (named .entry)) (now (definitions .entry)) (now (items .entry)) (now (payload .entry)) (now (strings .entry)))) (now (out .entry)) ⌝ }
+{
+    put_header(ink, counts_of(entries), out);
+    let paths = paths_of(tables, entries.index);
+    let places = places_of(entries);
+    let header = ImageView::HEADER_LENGTH;
+    let end = header + places.end;
+    put_sections(
+        nodes,
+        children,
+        named,
+        definitions,
+        items,
+        payload,
+        strings,
+        work,
+        numbers,
+        tables,
+        paths,
+        places,
+        &mut out[header..],
+    );
+    put_checksum(&mut out[..end]);
+}

@@ -1,0 +1,37 @@
+// Sections 6 and 7 of an image: payload and strings.
+ghost use mathlib.Core.Path.{_≡_};
+ghost use mathlib.Core.List.{List};
+ghost use Prim.Native.Nat.{ℕ};
+ghost use lib.ListN.{length};
+ghost use Rattle.draft.specs.Source.{draftOf};
+ghost use Rattle.words.specs.Output.{over};
+ghost use Rattle.write_image.specs.Given.{Told, Keyed, TextsReady, textsOut};
+use write_interning::emit;
+use write_list_sections::payload::put_payload;
+use write_numbering::numbers::Numbers;
+use write_text_keys::Tables;
+
+// Writes the sections at the start of the output.
+pub fn put_texts(
+    nodes: &[u32],
+    payload: &[u8],
+    strings: &[u8],
+    work: &[u32],
+    numbers: Numbers,
+    tables: Tables,
+    out: &mut [u8],
+)
+    requires { ⌜ TextsReady (now nodes) (now payload) (now strings) (now work) numbers tables (length (now out)) ⌝ }
+    ensures { λ r. ⌜ ((children named definitions items : List ℕ) → Told (draftOf (now (nodes .entry)) children named definitions items (now (payload .entry)) (now (strings .entry))) (now (work .entry)) numbers → Keyed (draftOf (now (nodes .entry)) children named definitions items (now (payload .entry)) (now (strings .entry))) (now (work .entry)) numbers tables → now (out .exit) ≡ over (textsOut (draftOf (now (nodes .entry)) children named definitions items (now (payload .entry)) (now (strings .entry)))) (now (out .entry))) ⌝ }
+{
+    put_payload(nodes, payload, work, numbers.order, numbers.offsets, out);
+    let at_strings = payload.len();
+    emit(
+        nodes,
+        strings,
+        work,
+        tables,
+        numbers.offsets,
+        &mut out[at_strings..],
+    );
+}

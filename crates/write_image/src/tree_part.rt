@@ -1,0 +1,38 @@
+// Sections 0 to 2 of an image: nodes, ordered children, named children.
+ghost use mathlib.Core.Path.{_≡_};
+ghost use mathlib.Core.List.{List};
+ghost use Prim.Native.Nat.{ℕ};
+ghost use lib.ListN.{length};
+ghost use Rattle.draft.specs.Source.{draftOf};
+ghost use Rattle.words.specs.Output.{over};
+ghost use Rattle.write_image.specs.Given.{Told, TreeReady, treeOut, definitionsAt};
+use write_numbering::numbers::Numbers;
+use write_tree_sections::children::put_children;
+use write_tree_sections::named::put_named;
+use write_tree_sections::nodes::put_nodes;
+
+// Writes the sections at the start of the output, and gives the word at which the offsets of the definitions' texts begin.
+pub fn put_tree(
+    nodes: &[u32],
+    children: &[u32],
+    named: &[u32],
+    payload: &[u8],
+    work: &[u32],
+    numbers: Numbers,
+    out: &mut [u8],
+) -> usize
+    requires { ⌜ TreeReady (now nodes) (now children) (now named) (now payload) (now work) numbers (length (now out)) ⌝ }
+    ensures { λ r. ⌜ ((definitions items strings : List ℕ) → Told (draftOf (now (nodes .entry)) (now (children .entry)) (now (named .entry)) definitions items (now (payload .entry)) strings) (now (work .entry)) numbers → (now (out .exit) ≡ over (treeOut (draftOf (now (nodes .entry)) (now (children .entry)) (now (named .entry)) definitions items (now (payload .entry)) strings)) (now (out .entry))) × (r ≡ definitionsAt (draftOf (now (nodes .entry)) (now (children .entry)) (now (named .entry)) definitions items (now (payload .entry)) strings) numbers)) ⌝ }
+{
+    let text = put_nodes(nodes, payload, work, numbers, out);
+    let at_children = nodes.len() / 10 * 40;
+    put_children(nodes, children, work, numbers, &mut out[at_children..]);
+    let at_named = at_children + children.len() * 4;
+    let named_numbers = Numbers {
+        order: numbers.order,
+        new: numbers.new,
+        offsets: text,
+    };
+    put_named(nodes, named, work, named_numbers, &mut out[at_named..]);
+    text + named.len() / 3
+}

@@ -1,0 +1,5 @@
+pub mod Numbers
+pub mod StoredTexts
+pub mod FirstUses
+pub mod OffsetLoop
+pub mod OutputLoop

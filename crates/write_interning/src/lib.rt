@@ -1,0 +1,135 @@
+// Interning: each text of the uses is stored once. The uses are sorted by their texts, the first use of each text is found from the sorted
+// order, and each use is given its text's offset.
+ghost use mathlib.Core.Path.{_≡_};
+ghost use mathlib.Core.List.{_++_};
+ghost use Prim.Native.Nat.{ℕ, _+_, _-_, _^_, _≤_, _<_};
+ghost use lib.ListN.{length, take, drop};
+ghost use Rattle.write_text_keys.specs.Keys.{keyIn, Placed};
+ghost use Rattle.write_sorting.specs.Sorted.{byKey, isort, part};
+ghost use Rattle.write_interning.specs.Uses.{storedOf, joined, answerOf, Offsets, RisesFrom, upFrom, Firsts, headOf};
+use draft::source;
+use write_text_keys::Tables;
+
+// How long the stored texts are, or that they are too long for a word to say where each begins.
+pub enum Stored {
+    Whole(usize),
+    TooLong,
+}
+
+// Writes the numbers from `from` up to `to` into the words that they number.
+fn number(w: &mut [u32], from: usize, to: usize)
+    requires { ⌜ (from ≤ to) × (to ≤ length (now w)) × (to < 2 ^ 32) ⌝ }
+    ensures { λ _. ⌜ (take from (now (w .exit)) ≡ take from (now (w .entry))) × (part from to (now (w .exit)) ≡ upFrom from (to - from)) × (drop to (now (w .exit)) ≡ drop to (now (w .entry))) ⌝ }
+{
+    let mut i = from;
+    while i < to {
+        w[i] = i as u32;
+        i += 1;
+    }
+}
+
+// Puts the uses 0 to n - 1 in the order of their texts, those of one text in their own order. The paths, which come last, are in order.
+fn arrange(nodes: &[u32], strings: &[u8], w: &mut [u32], t: Tables, n: usize)
+    requires { ⌜ (t .texts ≤ n) × (n + n ≤ t .at) × Placed t (length (now w)) × (n < 2 ^ 32) ⌝ }
+    requires { ⌜ RisesFrom (byKey (keyIn (now nodes) (now strings) t (now w))) (t .texts) n ⌝ }
+    ensures { λ _. ⌜ take n (now (w .exit)) ≡ isort (byKey (keyIn (now (nodes .entry)) (now (strings .entry)) t (now (w .entry)))) (upFrom 0 n) ⌝ }
+    ensures { λ _. ⌜ drop (t .at) (now (w .exit)) ≡ drop (t .at) (now (w .entry)) ⌝ }
+{
+    let m = t.texts;
+    number(w, 0, m);
+    write_sorting::sort(nodes, strings, w, t, m);
+    number(w, m, n);
+    write_sorting::merge(nodes, strings, w, t, m, n);
+}
+
+// The first use of the i-th use of the order.
+fn head_of(nodes: &[u32], strings: &[u8], w: &[u32], t: Tables, n: usize, i: usize) -> u32
+    requires { ⌜ (n ≤ length (now w)) × Placed t (length (now w)) ⌝ }
+    ensures { λ r. ⌜ r ≡ headOf (byKey (keyIn (now (nodes .entry)) (now (strings .entry)) t (now (w .entry)))) (now (w .entry)) n i ⌝ }
+{
+    let use_here = source::word(w, i);
+    if i == 0 {
+        return use_here;
+    }
+    let use_before = source::word(w, i - 1);
+    let first = source::word(w, n + use_before as usize);
+    if write_text_keys::below(nodes, strings, w, t, use_before, use_here) {
+        return use_here;
+    }
+    first
+}
+
+// The order is in the first n words: each use's first use goes into the n words after them.
+fn mark(nodes: &[u32], strings: &[u8], w: &mut [u32], t: Tables, n: usize)
+    requires { ⌜ (n + n ≤ t .at) × Placed t (length (now w)) ⌝ }
+    requires { ⌜ take n (now w) ≡ isort (byKey (keyIn (now nodes) (now strings) t (now w))) (upFrom 0 n) ⌝ }
+    ensures { λ _. ⌜ Firsts (keyIn (now (nodes .entry)) (now (strings .entry)) t (now (w .entry))) n (now (w .exit)) ⌝ }
+    ensures { λ _. ⌜ drop (t .at) (now (w .exit)) ≡ drop (t .at) (now (w .entry)) ⌝ }
+{
+    let mut i = 0;
+    while i < n {
+        let first = head_of(nodes, strings, w, t, n, i);
+        let at = n + source::word(w, i) as usize;
+        w[at] = first;
+        i += 1;
+    }
+}
+
+// Each use's first use is in the n words after the first n: its text's offset comes there. The nodes serve the contract alone.
+fn assign(nodes: &[u32], strings: &[u8], w: &mut [u32], t: Tables, n: usize) -> Stored
+    requires { ⌜ (n + n ≤ t .at) × Placed t (length (now w)) × (n < 2 ^ 32) ⌝ }
+    requires { ⌜ Firsts (keyIn (now nodes) (now strings) t (now w)) n (now w) ⌝ }
+    ensures { λ r. ⌜ r ≡ answerOf (length (joined (storedOf (keyIn (now (nodes .entry)) (now (strings .entry)) t (now (w .entry))) n))) ⌝ }
+    ensures { λ _. ⌜ (length (joined (storedOf (keyIn (now (nodes .entry)) (now (strings .entry)) t (now (w .entry))) n)) < 2 ^ 32 → Offsets (keyIn (now (nodes .entry)) (now (strings .entry)) t (now (w .entry))) n (now (w .exit))) ⌝ }
+    ensures { λ _. ⌜ drop (t .at) (now (w .exit)) ≡ drop (t .at) (now (w .entry)) ⌝ }
+{
+    let mut total = 0usize;
+    let mut k = 0;
+    while k < n {
+        let first = source::word(w, n + k);
+        if first as usize == k {
+            let len = write_text_keys::key_length(strings, w, t, first);
+            if 4294967295 - total < len {
+                return Stored::TooLong;
+            }
+            w[n + k] = total as u32;
+            total += len;
+        } else {
+            w[n + k] = source::word(w, n + first as usize);
+        }
+        k += 1;
+    }
+    Stored::Whole(total)
+}
+
+// Gives each of the uses 0 to n - 1 the offset of its text among the stored texts, in the n words after the first n, which are worked in.
+pub fn intern(nodes: &[u32], strings: &[u8], w: &mut [u32], t: Tables, n: usize) -> Stored
+    requires { ⌜ (t .texts ≤ n) × (n + n ≤ t .at) × Placed t (length (now w)) × (n < 2 ^ 32) ⌝ }
+    requires { ⌜ RisesFrom (byKey (keyIn (now nodes) (now strings) t (now w))) (t .texts) n ⌝ }
+    ensures { λ r. ⌜ r ≡ answerOf (length (joined (storedOf (keyIn (now (nodes .entry)) (now (strings .entry)) t (now (w .entry))) n))) ⌝ }
+    ensures { λ _. ⌜ (length (joined (storedOf (keyIn (now (nodes .entry)) (now (strings .entry)) t (now (w .entry))) n)) < 2 ^ 32 → Offsets (keyIn (now (nodes .entry)) (now (strings .entry)) t (now (w .entry))) n (now (w .exit))) ⌝ }
+    ensures { λ _. ⌜ drop (t .at) (now (w .exit)) ≡ drop (t .at) (now (w .entry)) ⌝ }
+{
+    arrange(nodes, strings, w, t, n);
+    mark(nodes, strings, w, t, n);
+    assign(nodes, strings, w, t, n)
+}
+
+// Writes the stored texts one after the other at the front of the output, given each use's offset.
+pub fn emit(nodes: &[u32], strings: &[u8], w: &[u32], t: Tables, n: usize, out: &mut [u8])
+    requires { ⌜ (n + n ≤ t .at) × Placed t (length (now w)) × (n < 2 ^ 32) ⌝ }
+    requires { ⌜ Offsets (keyIn (now nodes) (now strings) t (now w)) n (now w) ⌝ }
+    requires { ⌜ length (joined (storedOf (keyIn (now nodes) (now strings) t (now w)) n)) ≤ length (now out) ⌝ }
+    ensures { λ _. ⌜ now (out .exit) ≡ joined (storedOf (keyIn (now (nodes .entry)) (now (strings .entry)) t (now (w .entry))) n) ++ drop (length (joined (storedOf (keyIn (now (nodes .entry)) (now (strings .entry)) t (now (w .entry))) n))) (now (out .entry)) ⌝ }
+{
+    let mut end = 0usize;
+    let mut k = 0;
+    while k < n {
+        if source::word(w, n + k) as usize == end {
+            let len = write_text_keys::key_length(strings, w, t, k as u32);
+            write_text_keys::put_key(nodes, strings, w, t, k as u32, &mut out[end..]);
+            end += len;
+        }
+        k += 1;
+    }
+}

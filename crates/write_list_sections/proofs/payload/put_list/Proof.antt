@@ -1,0 +1,78 @@
+-- `write_list_sections::payload::put_list` meets its contract.
+use Rattle.write_list_sections.proofs.ListLoops.{head-room, items-fit, origins-fit, list-put}
+use borrow.Author.Needs.{needs}
+use Rattle.write_list_sections.proofs.payload.put_list.Statement.{statement}
+use Rattle.write_list_sections.proofs.payload.put_list.Tie as tie
+
+get-requires : tie.Need-get-requires
+get-requires c κs = search needs
+
+add-get : tie.Need-add-get
+add-get c = search needs
+
+get-requires-2 : tie.Need-get-requires-2
+get-requires-2 c κs = search needs
+
+slice-aggregate-put-words : tie.Need-slice-aggregate-put-words
+slice-aggregate-put-words c = search needs
+
+put-words-requires : tie.Need-put-words-requires
+put-words-requires c κs = head-room (c .before .before .before .before .before .before .before .args .payload .now) (c .before .before .before .before .before .before .before .args .w .now) (c .before .before .before .before .before .before .before .args .text) (c .before .before .before .before .before .before .before .args .start) (c .before .before .before .before .before .before .before .args .at) (c .before .before .before .before .before .before .before .args .out .now) _ _ (c .before .before .before .get .ensures) (c .before .before .get2 .ensures) (c .before .before .before .before .before .before .before .pre .0) (c .before .before .before .before .before .before .before .pre .1)
+
+add-put-list-items : tie.Need-add-put-list-items
+add-put-list-items c = search needs
+
+put-list-items-requires : tie.Need-put-list-items-requires
+put-list-items-requires c κs = items-fit (c .before .before .before .before .before .before .before .before .before .before .before .args .payload .now) (c .before .before .before .before .before .before .before .before .before .before .before .args .w .now) (c .before .before .before .before .before .before .before .before .before .before .before .args .text) (c .before .before .before .before .before .before .before .before .before .before .before .args .start) (c .before .before .before .before .before .before .before .before .before .before .before .args .at) (c .before .before .before .before .before .before .before .before .before .before .before .args .out .now) _ _ (c .before .before .before .before .before .before .before .get .ensures) (c .before .before .before .before .before .before .get2 .ensures) (c .before .before .before .before .before .before .before .before .before .before .before .pre .0) (c .before .before .before .before .before .before .before .before .before .before .before .pre .1) _ (c .before .before .before .put-words .ensures)
+
+add-place : tie.Need-add-place
+add-place c = search needs
+
+cast-place : tie.Need-cast-place
+cast-place c = search needs
+
+mul-place : tie.Need-mul-place
+mul-place c = search needs
+
+add-place-2 : tie.Need-add-place-2
+add-place-2 c = search needs
+
+put-list-origins-requires : tie.Need-put-list-origins-requires
+put-list-origins-requires c κs = origins-fit (c .before .before .before .before .before .before .before .before .before .before .before .before .before .before .before .args .payload .now) (c .before .before .before .before .before .before .before .before .before .before .before .before .before .before .before .args .w .now) (c .before .before .before .before .before .before .before .before .before .before .before .before .before .before .before .args .text) (c .before .before .before .before .before .before .before .before .before .before .before .before .before .before .before .args .start) (c .before .before .before .before .before .before .before .before .before .before .before .before .before .before .before .args .at) (c .before .before .before .before .before .before .before .before .before .before .before .before .before .before .before .args .out .now) _ _ (c .before .before .before .before .before .before .before .before .before .before .before .get .ensures) (c .before .before .before .before .before .before .before .before .before .before .get2 .ensures) (c .before .before .before .before .before .before .before .before .before .before .before .before .before .before .before .pre .0) (c .before .before .before .before .before .before .before .before .before .before .before .before .before .before .before .pre .1) _ (c .before .before .before .before .before .before .before .put-words .ensures) _ _ (c .before .before .before .put-list-items .ensures)
+
+cast-result : tie.Need-cast-result
+cast-result c = search needs
+
+mul-result : tie.Need-mul-result
+mul-result c = search needs
+
+add-result : tie.Need-add-result
+add-result c = search needs
+
+same-length : tie.Need-same-length
+same-length c = search needs
+
+returns : tie.Need-returns
+returns c = list-put (c .before .before .before .before .before .before .before .before .before .before .before .before .before .before .before .before .before .before .args .payload .now) (c .before .before .before .before .before .before .before .before .before .before .before .before .before .before .before .before .before .before .args .w .now) (c .before .before .before .before .before .before .before .before .before .before .before .before .before .before .before .before .before .before .args .text) (c .before .before .before .before .before .before .before .before .before .before .before .before .before .before .before .before .before .before .args .start) (c .before .before .before .before .before .before .before .before .before .before .before .before .before .before .before .before .before .before .args .at) (c .before .before .before .before .before .before .before .before .before .before .before .before .before .before .before .before .before .before .args .out .now) _ _ (c .before .before .before .before .before .before .before .before .before .before .before .before .before .before .get .ensures) (c .before .before .before .before .before .before .before .before .before .before .before .before .before .get2 .ensures) (c .before .before .before .before .before .before .before .before .before .before .before .before .before .before .before .before .before .before .pre .0) (c .before .before .before .before .before .before .before .before .before .before .before .before .before .before .before .before .before .before .pre .1) _ (c .before .before .before .before .before .before .before .before .before .before .put-words .ensures) _ _ (c .before .before .before .before .before .before .put-list-items .ensures) _ (c .before .before .put-list-origins .ensures)
+
+pub put-list-spec : {M : Type 1} → statement M
+put-list-spec =
+    tie.close
+    (tie.spec
+    get-requires
+    add-get
+    get-requires-2
+    slice-aggregate-put-words
+    put-words-requires
+    add-put-list-items
+    put-list-items-requires
+    add-place
+    cast-place
+    mul-place
+    add-place-2
+    put-list-origins-requires
+    cast-result
+    mul-result
+    add-result
+    same-length
+    returns)

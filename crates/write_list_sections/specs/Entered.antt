@@ -1,0 +1,87 @@
+-- What the writers of the sections of definitions, items and payload read out of the draft and the work words, over plain lists; laws
+-- tie it to the written sections.
+use Prim.Native.Nat.{ℕ, _+_, _*_, _/_, _≤_, _<_}
+use mathlib.Core.Path.{_≡_}
+use mathlib.Core.List.{List, [], _∷_, _++_}
+use mathlib.Core.Bool.{cond}
+use lib.ListN.{length, getD}
+use lib.Dec.{eqb}
+use Rattle.laws.specs.Counted.{sumOf, joinOf}
+use Rattle.words.specs.Words.{wordIn}
+use Rattle.image.specs.declared.NodeRecord.{NodeRecord}
+use Rattle.image.specs.Entries.{recordOf}
+use Rattle.words.specs.Output.{putAt}
+use Rattle.write_tree_sections.specs.Encoded.{textCount, optionalOffset}
+use Rattle.write_tree_sections.specs.Summed.{usedBy}
+
+-- ---- definitions and items: the offsets of their texts lie from word `at` on, each definition's before those of its items
+
+-- how many texts the definitions before d have, with those of their items
+unfoldable pub textsBefore : List ℕ → ℕ → ℕ
+textsBefore definitions d = sumOf d (λ e. 1 + getD definitions (e * 4 + 3) 0)
+
+-- how many items they have
+unfoldable pub itemsBefore : List ℕ → ℕ → ℕ
+itemsBefore definitions d = sumOf d (λ e. getD definitions (e * 4 + 3) 0)
+
+-- definition d
+unfoldable pub definitionWords : List ℕ → List ℕ → ℕ → ℕ → List ℕ
+definitionWords definitions w at d =
+    getD w (at + textsBefore definitions d) 0 ∷ getD definitions (d * 4 + 1) 0 ∷ getD definitions (d * 4 + 2) 0 ∷ getD definitions (d * 4 + 3) 0 ∷ []
+
+-- item i, counted from the first one of a definition
+unfoldable pub itemWords : List ℕ → List ℕ → ℕ → ℕ → ℕ → List ℕ
+itemWords items w at first i = getD w (at + i) 0 ∷ getD items ((first + i) * 3 + 1) 0 ∷ getD items ((first + i) * 3 + 2) 0 ∷ []
+
+-- the items of definition d
+unfoldable pub itemsWords : List ℕ → List ℕ → List ℕ → ℕ → ℕ → List ℕ
+itemsWords definitions items w at d =
+    joinOf (getD definitions (d * 4 + 3) 0) (itemWords items w (at + textsBefore definitions d + 1) (getD definitions (d * 4 + 2) 0))
+
+-- ---- payload: the offset of a list's first text is word `text`
+
+-- the texts of the items before item j of the list whose payload starts at `start`
+unfoldable pub itemTexts : List ℕ → ℕ → ℕ → ℕ
+itemTexts payload start j = sumOf j (λ m. textCount (wordIn payload (start + 8 + m * 20)) + 1)
+
+-- item j: an origin that may be absent, a name, a value
+unfoldable pub listItemWords : List ℕ → List ℕ → ℕ → ℕ → ℕ → List ℕ
+listItemWords payload w text start j =
+    optionalOffset w (text + itemTexts payload start j) (wordIn payload (start + 8 + j * 20))
+    ∷ wordIn payload (start + 8 + j * 20 + 4)
+    ∷ getD w (text + itemTexts payload start j + textCount (wordIn payload (start + 8 + j * 20))) 0
+    ∷ wordIn payload (start + 8 + j * 20 + 12)
+    ∷ wordIn payload (start + 8 + j * 20 + 16)
+    ∷ []
+
+-- origin j of those that begin at a byte
+unfoldable pub listOriginWords : List ℕ → List ℕ → ℕ → ℕ → ℕ → List ℕ
+listOriginWords payload w text first j = getD w (text + j) 0 ∷ wordIn payload (first + j * 8 + 4) ∷ []
+
+-- the list
+unfoldable pub listWords : List ℕ → List ℕ → ℕ → ℕ → List ℕ
+listWords payload w text start =
+    (wordIn payload start ∷ wordIn payload (start + 4) ∷ [])
+    ++ joinOf (wordIn payload start) (listItemWords payload w text start)
+    ++ joinOf (wordIn payload (start + 4))
+    (listOriginWords payload w (text + itemTexts payload start (wordIn payload start)) (start + 8 + wordIn payload start * 20))
+
+-- a node that is no list has none
+unfoldable pub nodeListWords : List ℕ → List ℕ → ℕ → NodeRecord → List ℕ
+nodeListWords payload w text r = cond (eqb (r .tag) 12) (listWords payload w text (r .f0)) []
+
+-- those of the image's node j: the draft's numbers of the nodes lie from word `order` on, the offsets of their texts from `offsets` on
+unfoldable pub payloadWords : List ℕ → List ℕ → List ℕ → ℕ → ℕ → ℕ → List ℕ
+payloadWords nodes payload w order offsets j =
+    nodeListWords payload w (offsets + usedBy nodes w order payload j) (recordOf nodes (getD w (order + j) 0))
+
+-- numbers of nodes are there, and an offset for each text
+pub record PayloadFits (nodes payload w : List ℕ) (order offsets : ℕ) : Type 0 where
+  pub olds : (j : ℕ) → j < length nodes / 10 → getD w (order + j) 0 < length nodes / 10
+  pub order-end : order + length nodes / 10 ≤ length w
+  pub texts : offsets + usedBy nodes w order payload (length nodes / 10) ≤ length w
+
+-- words were written from `at` on, and end at r
+pub record PutWords (ws out₀ out : List ℕ) (at r : ℕ) : Type 0 where
+  pub end : r ≡ at + 4 * length ws
+  pub is : out ≡ putAt out₀ at ws

@@ -1,0 +1,152 @@
+// Section 6: the payload of the lists, each at its node's turn, with the offsets of its texts in the image.
+ghost use mathlib.Core.Path.{_≡_};
+ghost use mathlib.Core.List.{List};
+ghost use Prim.Native.Nat.{ℕ, _+_, _*_, _/_, _≤_};
+ghost use lib.ListN.{length};
+ghost use Rattle.laws.specs.Counted.{joinOf};
+ghost use Rattle.image.specs.Header.{nodeWords};
+ghost use Rattle.image.specs.Sections.{Sections, nodeCount};
+ghost use Rattle.draft.specs.Draft.{tablesRule};
+ghost use Rattle.draft.specs.Numbering.{oldOf};
+ghost use Rattle.draft_image.specs.Ready.{OldsAt, OffsetsAt, nodeUses};
+ghost use Rattle.draft_image.specs.Written.{payloadOut};
+ghost use Rattle.words.specs.Output.{over, putAt};
+ghost use Rattle.write_tree_sections.specs.Encoded.{listTextsIn, textsBy};
+ghost use Rattle.records.specs.Fields.{kindOf};
+ghost use Rattle.write_list_sections.specs.Entered.{itemTexts, listItemWords, listOriginWords, listWords, nodeListWords, payloadWords, PayloadFits, PutWords};
+use draft::source::node_at;
+use draft::source::word;
+use image::NodeRecord;
+use words::output::put_words;
+use write_tree_sections::kinds::optional_offset;
+use write_tree_sections::kinds::text_count;
+use write_tree_sections::texts_used::texts_of;
+
+// Writes at `at` the items of the list whose payload starts at `start`; gives the word of the text that follows theirs.
+fn put_list_items(
+    payload: &[u8],
+    start: u32,
+    count: u32,
+    w: &[u32],
+    text: usize,
+    out: &mut [u8],
+    at: usize,
+) -> usize
+    requires { ⌜ text + itemTexts (now payload) start count ≤ length (now w) ⌝ }
+    requires { ⌜ at + 20 * count ≤ length (now out) ⌝ }
+    ensures { λ r. ⌜ (now (out .exit) ≡ putAt (now (out .entry)) at (joinOf count (listItemWords (now (payload .entry)) (now (w .entry)) text start))) × (r ≡ text + itemTexts (now (payload .entry)) start count) ⌝ }
+{
+    let first = start as usize + 8;
+    let all = count as usize;
+    let mut k = text;
+    let mut place = at;
+    let mut j = 0;
+    while j < all {
+        let item = first + j * 20;
+        let origin = words::get(payload, item);
+        let name = k + text_count(origin);
+        let words = [
+            optional_offset(w, k, origin),
+            words::get(payload, item + 4),
+            word(w, name),
+            words::get(payload, item + 12),
+            words::get(payload, item + 16),
+        ];
+        put_words(out, place, &words);
+        k = name + 1;
+        place += 20;
+        j += 1;
+    }
+    k
+}
+
+// Writes at `at` the origins of a list, which lie behind its items.
+fn put_list_origins(
+    payload: &[u8],
+    start: u32,
+    items: u32,
+    count: u32,
+    w: &[u32],
+    text: usize,
+    out: &mut [u8],
+    at: usize,
+)
+    requires { ⌜ (text + count ≤ length (now w)) × (at + 8 * count ≤ length (now out)) ⌝ }
+    ensures { λ r. ⌜ now (out .exit) ≡ putAt (now (out .entry)) at (joinOf count (listOriginWords (now (payload .entry)) (now (w .entry)) text (start + 8 + items * 20))) ⌝ }
+{
+    let first = start as usize + 8 + items as usize * 20;
+    let all = count as usize;
+    let mut place = at;
+    let mut j = 0;
+    while j < all {
+        let origin = first + j * 8;
+        let offset = word(w, text + j);
+        let len = words::get(payload, origin + 4);
+        let words = [offset, len];
+        put_words(out, place, &words);
+        place += 8;
+        j += 1;
+    }
+}
+
+// Writes at `at` the list whose payload starts at `start`, and gives the byte behind it.
+fn put_list(payload: &[u8], start: u32, w: &[u32], text: usize, out: &mut [u8], at: usize) -> usize
+    requires { ⌜ text + listTextsIn (now payload) start ≤ length (now w) ⌝ }
+    requires { ⌜ at + 4 * length (listWords (now payload) (now w) text start) ≤ length (now out) ⌝ }
+    ensures { λ r. ⌜ PutWords (listWords (now (payload .entry)) (now (w .entry)) text start) (now (out .entry)) (now (out .exit)) at r ⌝ }
+{
+    let first = start as usize;
+    let items = words::get(payload, first);
+    let origins = words::get(payload, first + 4);
+    let head = [items, origins];
+    put_words(out, at, &head);
+    let behind = put_list_items(payload, start, items, w, text, out, at + 8);
+    let place = at + 8 + items as usize * 20;
+    put_list_origins(payload, start, items, origins, w, behind, out, place);
+    place + origins as usize * 8
+}
+
+// The same of a node, if it is a list.
+fn put_node(
+    node: NodeRecord,
+    payload: &[u8],
+    w: &[u32],
+    text: usize,
+    out: &mut [u8],
+    at: usize,
+) -> usize
+    requires { ⌜ text + textsBy (now payload) node (kindOf (node .tag)) ≤ length (now w) ⌝ }
+    requires { ⌜ at + 4 * length (nodeListWords (now payload) (now w) text node) ≤ length (now out) ⌝ }
+    ensures { λ r. ⌜ PutWords (nodeListWords (now (payload .entry)) (now (w .entry)) text node) (now (out .entry)) (now (out .exit)) at r ⌝ }
+{
+    if node.tag != 12 {
+        return at;
+    }
+    put_list(payload, node.f0, w, text, out, at)
+}
+
+// Writes the section at the start of the output. The words from `order` on are the draft's numbers of the image's nodes, those from
+// `offsets` on the offsets of the nodes' texts.
+pub fn put_payload(
+    nodes: &[u32],
+    payload: &[u8],
+    w: &[u32],
+    order: usize,
+    offsets: usize,
+    out: &mut [u8],
+)
+    requires { ⌜ PayloadFits (now nodes) (now payload) (now w) order offsets ⌝ }
+    requires { ⌜ 4 * length (joinOf (length (now nodes) / 10) (payloadWords (now nodes) (now payload) (now w) order offsets)) ≤ length (now out) ⌝ }
+    ensures { λ r. ⌜ ((s : Sections) (olds : List ℕ) (kept : List (List ℕ)) → s .nodes ≡ now (nodes .entry) → s .stride ≡ nodeWords → s .payload ≡ now (payload .entry) → tablesRule s ≡ 0 → OldsAt olds (now (w .entry)) (nodeCount s) order → OffsetsAt kept (nodeUses s olds) (now (w .entry)) offsets → now (out .exit) ≡ over (joinOf (nodeCount s) (λ j. payloadOut s olds kept (oldOf olds j))) (now (out .entry))) ⌝ }
+{
+    let count = nodes.len() / 10;
+    let mut text = offsets;
+    let mut at = 0;
+    let mut j = 0;
+    while j < count {
+        let node = node_at(nodes, word(w, order + j) as usize);
+        at = put_node(node, payload, w, text, out, at);
+        text += texts_of(node, payload);
+        j += 1;
+    }
+}

@@ -1,0 +1,99 @@
+-- The loops that test and list containers.
+use Prim.Native.Nat.{ℕ, zero, suc, _+_, _*_, _≤_, _<_}
+use mathlib.Core.Path.{_≡_, refl, sym, ap, _∙_}
+use mathlib.Core.List.{List, [], _∷_, _++_, append-nil}
+use mathlib.Core.Bool.{Bool, true, false, cond, _&&_, _||_, not}
+use native.Mathlib.Omega.{arith}
+use native.Mathlib.Numerals.{add-one}
+use lib.ListN.{length, getD, set, length-set, length-append}
+use lib.Seq.{sets}
+use lib.Dec.{eqb}
+use borrow.Author.Tests.{eq-eqb, ne-eqb}
+use Rattle.words.specs.Words.{isNone}
+use Rattle.image.specs.Header.{nodeWords}
+use Rattle.image.specs.Sections.{Sections, nodeWord}
+use Rattle.image.specs.declared.NodeRecord.{NodeRecord}
+use Rattle.image.specs.Entries.{recordOf}
+use Rattle.index.specs.Paths.{nameless}
+use Rattle.draft.specs.Draft.{placed}
+use Rattle.write_paths.proofs.WordLoop.{sets-last, sets-past}
+use Rattle.write_paths.specs.Listed.{tagAt, containersIn, placedIn}
+
+-- ---- placed
+
+or-true : (b : Bool) → true ≡ (b || true)
+or-true true = refl
+or-true false = refl
+
+placed-tests : (container root placeless empty long at : Bool)
+    → cond container (cond root true (cond placeless (cond empty false (cond long (cond at false true) true)) true)) true
+    ≡ (not container || root || not ((at && long) || empty) || not placeless)
+placed-tests false root placeless empty long at = refl
+placed-tests true true placeless empty long at = refl
+placed-tests true false false true long at = or-true (not ((at && long) || true))
+placed-tests true false false false long at = or-true (not ((at && long) || false))
+placed-tests true false true true long true = rw (← or-true long) refl
+placed-tests true false true true long false = refl
+placed-tests true false true false true true = refl
+placed-tests true false true false true false = refl
+placed-tests true false true false false true = refl
+placed-tests true false true false false false = refl
+
+pub placed-record : (s : Sections) (nodes : List ℕ) (i : ℕ) → s .nodes ≡ nodes → s .stride ≡ nodeWords → placedIn (recordOf nodes i) i ≡ placed s i
+unfolding placedIn recordOf placed nameless nodeWord
+placed-record s nodes i e z =
+    rw (e, z)
+    (placed-tests (eqb (getD nodes (i * nodeWords + 2) 0) 1) (eqb i 0) (isNone (getD nodes (i * nodeWords + 1) 0)) (eqb (getD nodes (i * nodeWords + 4) 0) 0)
+    (isNone (getD nodes (i * nodeWords + 4) 0)) (isNone (getD nodes (i * nodeWords + 3) 0)))
+
+pub placed-here : (s : Sections) (nodes : List ℕ) (i : ℕ) (r : NodeRecord) (b : Bool) → s .nodes ≡ nodes → s .stride ≡ nodeWords
+    → r ≡ recordOf nodes i → b ≡ placedIn r i → placed s i ≡ b
+placed-here s nodes i r b e z k p = sym (p ∙ ap (λ (q : NodeRecord). placedIn q i) k ∙ placed-record s nodes i e z)
+
+-- ---- the list so far
+
+pub record Listing (nodes w₀ w : List ℕ) (order count paths found j : ℕ) : Type 0 where
+  pub within : j ≤ count
+  pub size : found ≡ length (containersIn nodes w₀ order j)
+  pub few : found ≤ j
+  pub words : w ≡ sets w₀ paths (containersIn nodes w₀ order j)
+  pub long : length w ≡ length w₀
+
+module _ (nodes w₀ : List ℕ) (order count paths : ℕ) where
+  pub list-start : Listing nodes w₀ w₀ order count paths 0 0
+  unfolding containersIn
+  list-start = record { within = omega arith; size = refl; few = omega arith; words = refl; long = refl }
+
+  module _ (w : List ℕ) (found j x : ℕ) (l : Listing nodes w₀ w order count paths found j) (room : paths + count ≤ order) (h : j < count)
+      (e : x ≡ getD w (order + j) 0) where
+    word : x ≡ getD w₀ (order + j) 0
+    word = e ∙ ap (λ (v : List ℕ). getD v (order + j) 0) (l .words) ∙ sets-past (containersIn nodes w₀ order j) w₀ paths (order + j) (omega (arith, l .size, l .few))
+
+    pub list-take : tagAt nodes x ≡ 1 → Listing nodes w₀ (set w (paths + found) x) order count paths (found + 1) (j + 1)
+    unfolding containersIn
+    list-take t =
+        let test : eqb (tagAt nodes (getD w₀ (order + j) 0)) 1 ≡ true = rw (← word) (eq-eqb _ _ t) in
+        let more : containersIn nodes w₀ order (j + 1) ≡ containersIn nodes w₀ order j ++ (x ∷ []) = rw (add-one j, test, word) refl in
+        record {
+          within = omega arith;
+          size = rw more (omega (arith, l .size, length-append (containersIn nodes w₀ order j) (x ∷ [])));
+          few = omega (arith, l .few);
+          words =
+              rw more
+              (ap (λ (v : List ℕ). set v (paths + found) x) (l .words) ∙ ap (λ (n : ℕ). set (sets w₀ paths (containersIn nodes w₀ order j)) (paths + n) x) (l .size)
+              ∙ sets-last (containersIn nodes w₀ order j) w₀ paths x);
+          long = length-set w (paths + found) x ∙ l .long;
+        }
+
+    pub list-skip : (tagAt nodes x ≡ 1 → ⊥) → Listing nodes w₀ w order count paths found (j + 1)
+    unfolding containersIn
+    list-skip t =
+        let test : eqb (tagAt nodes (getD w₀ (order + j) 0)) 1 ≡ false = rw (← word) (ne-eqb _ _ t) in
+        let more : containersIn nodes w₀ order (j + 1) ≡ containersIn nodes w₀ order j = rw (add-one j, test) (append-nil (containersIn nodes w₀ order j)) in
+        record { within = omega arith; size = rw more (l .size); few = omega (arith, l .few); words = rw more (l .words); long = l .long }
+
+  pub list-end : (w : List ℕ) (found j : ℕ) → Listing nodes w₀ w order count paths found j → count ≤ j
+      → (found ≡ length (containersIn nodes w₀ order count)) × (w ≡ sets w₀ paths (containersIn nodes w₀ order count))
+  list-end w found j l h =
+      let e : j ≡ count = omega (arith, l .within) in
+      (rw (← e) (l .size), rw (← e) (l .words))

@@ -1,0 +1,143 @@
+-- The list of nodes, sorted by numbers that stand for its places: the words from step to step.
+use Prim.Native.Nat.{ℕ, zero, suc, _+_, _-_, _≤_, _<_}
+use mathlib.Core.Path.{_≡_, refl, sym, ap, _∙_}
+use mathlib.Core.List.{List, [], _∷_}
+use mathlib.Core.Bool.{Bool, true, false, false≢true}
+use native.Mathlib.Omega.{arith}
+use lib.ListN.{length, getD, take, drop, length-take}
+use lib.Seq.{sets, sets-eq, getD-take, getD-drop, drop-drop, take-at, ext-getD, length-sets}
+use Rattle.laws.specs.Counted.{joinOf, allOf}
+use Rattle.texts.specs.Text.{before, rising}
+use Rattle.tree.proofs.Members.{length-join, all-of, all-so, all-ext}
+use Rattle.write_sorting.specs.Sorted.{isort, byKey}
+use Rattle.write_text_keys.specs.declared.Tables.{Tables}
+use Rattle.write_text_keys.specs.Keys.{keyOf, keyIn}
+use Rattle.write_paths.specs.Arranged.{names, sortedNames, Arranged}
+use Rattle.write_paths.proofs.WordLoop.{sets-past, sets-before, sets-at, sets-drop}
+use Rattle.write_paths.proofs.ContainerOrder.{join-at}
+
+-- lists that agree from a place on
+pub same-later : (at i : ℕ) (v w : List ℕ) → at ≤ i → drop at v ≡ drop at w → getD v i 0 ≡ getD w i 0
+same-later at i v w h e =
+    let there : (l : List ℕ) → getD l i 0 ≡ getD (drop at l) (i - at) 0 = λ l. sym (getD-drop at l (i - at) 0 ∙ ap (λ (k : ℕ). getD l k 0) (omega arith)) in
+    there v ∙ ap (λ (l : List ℕ). getD l (i - at) 0) e ∙ sym (there w)
+
+pub drop-later : (a b : ℕ) (v w : List ℕ) → a ≤ b → drop a v ≡ drop a w → drop b v ≡ drop b w
+drop-later a b v w h e =
+    let sum : a + (b - a) ≡ b = omega arith in
+    let there : (l : List ℕ) → drop b l ≡ drop (b - a) (drop a l) = λ l. sym (drop-drop (b - a) a l ∙ ap (λ (k : ℕ). drop k l) sum) in
+    there v ∙ ap (drop (b - a)) e ∙ sym (there w)
+
+-- ---- texts that rise
+
+pub all-less : (m n : ℕ) (t : ℕ → Bool) → m ≤ n → allOf n t ≡ true → allOf m t ≡ true
+all-less m n t h e = all-so m t (λ i k. all-of n t e i (omega arith))
+
+-- of place i and the one before it, by their names x and y
+pub rises-at : (key : ℕ → List ℕ) (w : List ℕ) (i x y : ℕ) (b : Bool) → 1 ≤ i → x ≡ getD w (i - 1) 0 → y ≡ getD w i 0 → b ≡ before (key x) (key y)
+    → rising (λ j. key (getD w j 0)) i ≡ b
+rises-at key w zero x y b h p q e = absurd (omega arith)
+rises-at key w (suc i) x y b h p q e =
+    let less : suc i - 1 ≡ i = omega arith in
+    sym (e ∙ rw (p, q, less) refl)
+
+-- ---- from step to step
+
+module _ (w₀ : List ℕ) (found at list : ℕ) (room : found + found ≤ at) (after : at ≤ list) (fits : list + found ≤ length w₀) where
+  -- the first words are numbered
+  module _ (w₁ : List ℕ) (numbered : w₁ ≡ sets w₀ 0 (joinOf found (λ i. i ∷ []))) where
+    pub numbered-front : take found w₁ ≡ names found
+    unfolding names
+    numbered-front =
+        ap (take found) numbered ∙ ap (take found) (sets-eq (joinOf found (λ i. i ∷ [])) w₀ 0 (omega (arith, length-join found (λ i. i))))
+        ∙ take-at (joinOf found (λ i. i ∷ [])) _ found (length-join found (λ i. i))
+
+    pub numbered-behind : drop at w₁ ≡ drop at w₀
+    numbered-behind = ap (drop at) numbered ∙ sets-drop (joinOf found (λ i. i ∷ [])) w₀ 0 at (omega (arith, length-join found (λ i. i)))
+
+    pub numbered-long : length w₁ ≡ length w₀
+    numbered-long = ap {B = ℕ} length numbered ∙ length-sets w₀ 0 (joinOf found (λ i. i ∷ []))
+
+  -- they are sorted, which leaves what is behind
+  module _ (w₂ sorted : List ℕ) (front : take found w₂ ≡ sorted) (behind : drop at w₂ ≡ drop at w₀) (long : length w₂ ≡ length w₀) where
+    pub sorted-at : (i : ℕ) → i < found → getD w₂ i 0 ≡ getD sorted i 0
+    sorted-at i h = sym (getD-take found w₂ i 0 h) ∙ ap (λ (l : List ℕ). getD l i 0) front
+
+    -- the list's words are put in their order
+    module _ (w₃ w₄ : List ℕ) (gathered : w₃ ≡ sets w₂ found (joinOf found (λ i. getD w₂ (list + getD w₂ i 0) 0 ∷ [])))
+        (settled : w₄ ≡ sets w₃ list (joinOf found (λ i. getD w₃ (found + i) 0 ∷ []))) where
+      long₃ : length w₃ ≡ length w₀
+      long₃ = ap {B = ℕ} length gathered ∙ length-sets w₂ found (joinOf found (λ i. getD w₂ (list + getD w₂ i 0) 0 ∷ [])) ∙ long
+
+      pub settled-long : length w₄ ≡ length w₀
+      settled-long = ap {B = ℕ} length settled ∙ length-sets w₃ list (joinOf found (λ i. getD w₃ (found + i) 0 ∷ [])) ∙ long₃
+
+      pub settled-behind : drop (list + found) w₄ ≡ drop (list + found) w₀
+      settled-behind =
+          ap (drop (list + found)) settled
+          ∙ sets-drop (joinOf found (λ i. getD w₃ (found + i) 0 ∷ [])) w₃ list (list + found) (omega (arith, length-join found (λ i. getD w₃ (found + i) 0)))
+          ∙ ap (drop (list + found)) gathered
+          ∙ sets-drop (joinOf found (λ i. getD w₂ (list + getD w₂ i 0) 0 ∷ [])) w₂ found (list + found)
+          (omega (arith, length-join found (λ i. getD w₂ (list + getD w₂ i 0) 0))) ∙ drop-later at (list + found) w₂ w₀ (omega arith) behind
+
+      pub settled-at : (i : ℕ) → i < found → getD w₄ (list + i) 0 ≡ getD w₀ (list + getD sorted i 0) 0
+      settled-at i h =
+          ap (λ (l : List ℕ). getD l (list + i) 0) settled
+          ∙ sets-at (joinOf found (λ j. getD w₃ (found + j) 0 ∷ [])) w₃ list i (omega (arith, length-join found (λ j. getD w₃ (found + j) 0)))
+          (omega (arith, long₃, length-join found (λ j. getD w₃ (found + j) 0)))
+          ∙ join-at found (λ j. getD w₃ (found + j) 0) i h ∙ ap (λ (l : List ℕ). getD l (found + i) 0) gathered
+          ∙ sets-at (joinOf found (λ j. getD w₂ (list + getD w₂ j 0) 0 ∷ [])) w₂ found i (omega (arith, length-join found (λ j. getD w₂ (list + getD w₂ j 0) 0)))
+          (omega (arith, long, length-join found (λ j. getD w₂ (list + getD w₂ j 0) 0)))
+          ∙ join-at found (λ j. getD w₂ (list + getD w₂ j 0) 0) i h ∙ same-later at (list + getD w₂ i 0) w₂ w₀ (omega arith) behind
+          ∙ ap (λ (x : ℕ). getD w₀ (list + x) 0) (sorted-at i h)
+
+-- ---- the whole sort
+
+module _ (nodes strings : List ℕ) (t : Tables) (w₀ w₁ w₂ : List ℕ) (found : ℕ) (room : found + found ≤ t .at)
+    (fits : t .at + t .paths + found ≤ length w₀) (numbered : w₁ ≡ sets w₀ 0 (joinOf found (λ i. i ∷ [])))
+    (front : take found w₂ ≡ isort (byKey (keyIn nodes strings t w₁)) (take found w₁)) (behind : drop (t .at) w₂ ≡ drop (t .at) w₁)
+    (long : length w₂ ≡ length w₀) where
+  abbrev key : ℕ → List ℕ
+  key = keyIn nodes strings t w₀
+
+  abbrev list : ℕ
+  list = t .at + t .paths
+
+  behind₁ : drop (t .at) w₁ ≡ drop (t .at) w₀
+  behind₁ = numbered-behind w₀ found (t .at) list room (omega arith) fits w₁ numbered
+
+  front₂ : take found w₂ ≡ sortedNames key found
+  front₂ =
+      front ∙ ap (λ (tab : List ℕ). isort (byKey (keyOf nodes strings (t .texts) (t .paths) (t .lengths) tab)) (take found w₁)) behind₁
+      ∙ ap (isort (byKey key)) (numbered-front w₀ found (t .at) list room (omega arith) fits w₁ numbered)
+
+  rising₂ : (i : ℕ) → i < found → rising (λ j. keyIn nodes strings t w₂ (getD w₂ j 0)) i ≡ rising (λ j. key (getD (sortedNames key found) j 0)) i
+  rising₂ zero h = refl
+  rising₂ (suc i) h =
+      rw (
+        behind ∙ behind₁,
+        sorted-at w₀ found (t .at) list room (omega arith) fits w₂ (sortedNames key found) front₂ (behind ∙ behind₁) long i (omega arith),
+        sorted-at w₀ found (t .at) list room (omega arith) fits w₂ (sortedNames key found) front₂ (behind ∙ behind₁) long (suc i) h,
+      ) refl
+
+  module _ (r : Bool) (tested : r ≡ allOf found (rising (λ i. keyIn nodes strings t w₂ (getD w₂ i 0)))) where
+    answer : r ≡ allOf found (rising (λ i. key (getD (sortedNames key found) i 0)))
+    answer = tested ∙ all-ext found _ _ rising₂
+
+    pub arranged-not : r ≡ false → Arranged key w₀ list found w₂ false
+    arranged-not e =
+        record {
+          answer = sym e ∙ answer;
+          nodes = λ z. absurd (false≢true z);
+          behind = drop-later (t .at) (list + found) w₂ w₀ (omega arith) (behind ∙ behind₁);
+        }
+
+    pub arranged : r ≡ true → (w₃ w₄ : List ℕ) → w₃ ≡ sets w₂ found (joinOf found (λ i. getD w₂ (list + getD w₂ i 0) 0 ∷ []))
+        → w₄ ≡ sets w₃ list (joinOf found (λ i. getD w₃ (found + i) 0 ∷ [])) → Arranged key w₀ list found w₄ true
+    arranged e w₃ w₄ gathered settled =
+        record {
+          answer = sym e ∙ answer;
+          nodes =
+              λ z i h. settled-at w₀ found (t .at) list room (omega arith) fits w₂ (sortedNames key found) front₂ (behind ∙ behind₁) long w₃ w₄ gathered settled i h;
+          behind = settled-behind w₀ found (t .at) list room (omega arith) fits w₂ (sortedNames key found) front₂ (behind ∙ behind₁) long w₃ w₄ gathered settled;
+        }

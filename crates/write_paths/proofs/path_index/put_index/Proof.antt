@@ -1,0 +1,98 @@
+-- `write_paths::path_index::put_index` meets its contract.
+use Prim.Native.Nat.{_-_}
+use native.Mathlib.Omega.{arith}
+use Rattle.words.proofs.EntryLoop.{Running, three-room, three-next}
+use Rattle.write_paths.specs.PathIndex.{indexWords}
+use Rattle.write_paths.proofs.PathIndex.{begin, finish}
+use borrow.Author.Needs.{needs}
+use Rattle.write_paths.proofs.path_index.put_index.Statement.{statement}
+use Rattle.write_paths.proofs.path_index.put_index.Tie as tie
+
+abbrev Inv-loop : tie.InvT-loop
+Inv-loop work numbers paths out₀ at₀ k₀ out at k = Running 0 (paths .count) (indexWords work numbers paths) out₀ out k at
+
+abbrev μ-loop : tie.MeasureT-loop
+μ-loop work numbers paths out₀ at₀ k₀ out at k = paths .count - k
+
+loop-holds : tie.Need-loop-holds Inv-loop μ-loop
+loop-holds c = let a = c .before .before .args in begin (a .work .now) (a .numbers) (a .paths) (a .out .now) (c .before .before .pre .1)
+
+add-word : tie.Need-add-word Inv-loop μ-loop
+add-word c = search needs
+
+word-requires : tie.Need-word-requires Inv-loop μ-loop
+word-requires c κs = search needs
+
+cast-node : tie.Need-cast-node Inv-loop μ-loop
+cast-node c = search needs
+
+add-word-2 : tie.Need-add-word-2 Inv-loop μ-loop
+add-word-2 c = search needs
+
+word-requires-2 : tie.Need-word-requires-2 Inv-loop μ-loop
+word-requires-2 c κs = search needs
+
+add-word-3 : tie.Need-add-word-3 Inv-loop μ-loop
+add-word-3 c = search needs
+
+add-word-4 : tie.Need-add-word-4 Inv-loop μ-loop
+add-word-4 c = search needs
+
+word-requires-3 : tie.Need-word-requires-3 Inv-loop μ-loop
+word-requires-3 c κs = search needs
+
+add-word-5 : tie.Need-add-word-5 Inv-loop μ-loop
+add-word-5 c = search needs
+
+word-requires-4 : tie.Need-word-requires-4 Inv-loop μ-loop
+word-requires-4 c κs = search needs
+
+slice-aggregate-put-words : tie.Need-slice-aggregate-put-words Inv-loop μ-loop
+slice-aggregate-put-words c = search needs
+
+put-words-requires : tie.Need-put-words-requires Inv-loop μ-loop
+put-words-requires c κs = three-room _ _ _ _ _ _ _ _ _ (c .before .before .before .before .before .before .before .before .before .before .before .before .loop .inv) (c .before .before .before .before .before .before .before .before .before .before .if1 .taken)
+
+add-at : tie.Need-add-at Inv-loop μ-loop
+add-at c = let h = three-room _ _ _ _ _ _ _ _ _ (c .before .before .before .before .before .before .before .before .before .before .before .before .before .before .before .loop .inv) (c .before .before .before .before .before .before .before .before .before .before .before .before .before .if1 .taken) in omega arith
+
+add-k : tie.Need-add-k Inv-loop μ-loop
+add-k c = search needs
+
+loop-less : tie.Need-loop-less Inv-loop μ-loop
+loop-less c = search needs
+
+loop-again : tie.Need-loop-again Inv-loop μ-loop
+loop-again c = three-next _ _ _ _ _ _ _ _ _ (c .before .before .before .before .before .before .before .before .before .before .before .before .before .before .before .loop .inv) (c .before .before .before .before .before .before .before .before .before .word2 .result) (c .before .before .before .before .before .before .before .word3 .result) (c .before .before .before .before .before .word4 .result) _ (c .before .before .before .before .before .before .before .before .before .before .before .before .before .if1 .taken) (c .before .before .before .before .before .before .before .before .before .word2 .ensures) (rw (← c .before .before .before .before .before .before .before .before .before .before .before .word .ensures) (c .before .before .before .before .before .before .before .word3 .ensures)) (rw (← c .before .before .before .before .before .before .before .before .before .before .before .word .ensures) (c .before .before .before .before .before .word4 .ensures)) (c .before .before .put-words .ensures)
+
+same-length : tie.Need-same-length Inv-loop μ-loop
+same-length c = search needs
+
+returns : tie.Need-returns Inv-loop μ-loop
+returns c = λ s order kept count below place news nodes lengths offs. let a = c .before .before .before .before .before .args in finish s order kept (a .work .now) (a .numbers) (a .paths) count below place news nodes lengths offs _ _ _ _ (c .before .before .loop .inv) (c .if1 .left)
+
+pub put-index-spec : {M : Type 1} → statement M
+put-index-spec =
+    tie.close
+    (tie.spec
+    Inv-loop
+    μ-loop
+    loop-holds
+    add-word
+    word-requires
+    cast-node
+    add-word-2
+    word-requires-2
+    add-word-3
+    add-word-4
+    word-requires-3
+    add-word-5
+    word-requires-4
+    slice-aggregate-put-words
+    put-words-requires
+    add-at
+    add-k
+    loop-less
+    loop-again
+    same-length
+    returns)

@@ -1,0 +1,55 @@
+-- `write_paths::sort_list` meets its contract.
+use borrow.Author.Tests.{not-true, not-false}
+use Rattle.write_paths.proofs.NodeList.{arranged, arranged-not}
+use borrow.Author.Needs.{needs}
+use Rattle.write_paths.proofs.sort_list.Statement.{statement}
+use Rattle.write_paths.proofs.sort_list.Tie as tie
+
+count-up-requires : tie.Need-count-up-requires
+count-up-requires c κs = search needs
+
+sort-requires : tie.Need-sort-requires
+sort-requires c κs = search needs
+
+rises-requires : tie.Need-rises-requires
+rises-requires c κs = search needs
+
+same-length : tie.Need-same-length
+same-length c = search needs
+
+returns : tie.Need-returns
+returns c =
+    arranged-not _ _ _ _ _ _ _ (c .before .before .before .before .before .before .before .before .before .before .before .before .before .before .pre .0) (c .before .before .before .before .before .before .before .before .before .before .before .before .before .before .pre .1) (c .before .before .before .before .before .before .before .before .before .count-up .ensures) (c .before .before .before .before .before .sort .ensures .0) (c .before .before .before .before .before .sort .ensures .1) (search needs) _
+    (c .before .rises .ensures) (not-true _ (c .if1 .taken))
+
+add-list : tie.Need-add-list
+add-list c = search needs
+
+gather-requires : tie.Need-gather-requires
+gather-requires c κs = search needs
+
+settle-requires : tie.Need-settle-requires
+settle-requires c κs = search needs
+
+same-length-2 : tie.Need-same-length-2
+same-length-2 c = search needs
+
+returns-2 : tie.Need-returns-2
+returns-2 c =
+    arranged _ _ _ _ _ _ _ (c .before .before .before .before .before .before .before .before .before .before .before .before .before .before .before .before .before .before .before .before .before .before .before .pre .0) (c .before .before .before .before .before .before .before .before .before .before .before .before .before .before .before .before .before .before .before .before .before .before .before .pre .1) (c .before .before .before .before .before .before .before .before .before .before .before .before .before .before .before .before .before .before .count-up .ensures) (c .before .before .before .before .before .before .before .before .before .before .before .before .before .before .sort .ensures .0) (c .before .before .before .before .before .before .before .before .before .before .before .before .before .before .sort .ensures .1) (search needs) _
+    (c .before .before .before .before .before .before .before .before .before .before .rises .ensures) (not-false _ (c .before .before .before .before .before .before .before .before .before .if1 .left)) _ _ (c .before .before .before .before .before .before .gather .ensures) (c .before .before .settle .ensures)
+
+pub sort-list-spec : {M : Type 1} → statement M
+sort-list-spec =
+    tie.close
+    (tie.spec
+    count-up-requires
+    sort-requires
+    rises-requires
+    same-length
+    returns
+    add-list
+    gather-requires
+    settle-requires
+    same-length-2
+    returns-2)

@@ -1,0 +1,66 @@
+-- `write_paths::sort_paths` meets its contract.
+use borrow.Author.Tests.{not-true, not-false}
+use Rattle.write_paths.proofs.PathOrder.{containers-few, listed-below, indexed-unplaced, indexed, indexed-twice}
+use borrow.Author.Needs.{needs}
+use Rattle.write_paths.proofs.sort_paths.Statement.{statement}
+use Rattle.write_paths.proofs.sort_paths.Tie as tie
+
+all-placed-requires : tie.Need-all-placed-requires
+all-placed-requires c κs = search needs
+
+returns : tie.Need-returns
+returns c =
+    λ s olds en es z ec rooted known. indexed-unplaced s olds _ _ _ _ _ _ en es z ec rooted known _ (c .before .all-placed .ensures s en z) (not-true _ (c .if1 .taken))
+
+add-list : tie.Need-add-list
+add-list c = search needs
+
+list-containers-requires : tie.Need-list-containers-requires
+list-containers-requires c κs = search needs
+
+add-measure : tie.Need-add-measure
+add-measure c = search needs
+
+measure-requires : tie.Need-measure-requires
+measure-requires c κs =
+    let few = containers-few (c .before .before .before .before .before .before .before .before .before .before .before .before .args .nodes .now) (c .before .before .before .before .before .before .before .before .before .before .before .before .args .w .now) (c .before .before .before .before .before .before .before .before .before .before .before .before .args .order) (c .before .before .before .before .before .before .before .before .before .before .before .before .args .count) in
+    let size = c .before .before .before .before .list-containers .ensures .0 in
+    (search needs, λ k h. listed-below _ _ _ _ _ _ _ (search needs) (c .before .before .before .before .before .before .before .before .before .before .before .before .pre .0 .3) (c .before .before .before .before .before .before .before .before .before .before .before .before .pre .1 .1) (c .before .before .before .before .list-containers .ensures .0) (c .before .before .before .before .list-containers .ensures .1) k h)
+
+sort-list-requires : tie.Need-sort-list-requires
+sort-list-requires c κs =
+    let few = containers-few (c .before .before .before .before .before .before .before .before .before .before .before .before .before .before .before .before .args .nodes .now) (c .before .before .before .before .before .before .before .before .before .before .before .before .before .before .before .before .args .w .now) (c .before .before .before .before .before .before .before .before .before .before .before .before .before .before .before .before .args .order) (c .before .before .before .before .before .before .before .before .before .before .before .before .before .before .before .before .args .count) in
+    let size = c .before .before .before .before .before .before .before .before .list-containers .ensures .0 in
+    search needs
+
+same-length : tie.Need-same-length
+same-length c = search needs
+
+returns-2 : tie.Need-returns-2
+returns-2 c =
+    λ s olds en es z ec rooted known.
+    indexed s olds (c .before .before .before .before .before .before .before .before .before .before .before .before .before .before .before .before .before .before .before .before .args .nodes .now) (c .before .before .before .before .before .before .before .before .before .before .before .before .before .before .before .before .before .before .before .before .args .strings .now) (c .before .before .before .before .before .before .before .before .before .before .before .before .before .before .before .before .before .before .before .before .args .t) (c .before .before .before .before .before .before .before .before .before .before .before .before .before .before .before .before .before .before .before .before .args .w .now) (c .before .before .before .before .before .before .before .before .before .before .before .before .before .before .before .before .before .before .before .before .args .order) (c .before .before .before .before .before .before .before .before .before .before .before .before .before .before .before .before .before .before .before .before .args .count) en es z ec rooted known (c .before .before .before .before .before .before .before .before .before .before .before .before .before .before .before .before .before .before .before .before .pre .1 .0 .0) (search needs) (search needs) (search needs) _ _ _ (c .before .before .before .before .before .before .before .before .before .before .before .before .list-containers .ensures .0) (c .before .before .before .before .before .before .before .before .before .before .before .before .list-containers .ensures .1) (c .before .before .before .before .before .before .before .measure .ensures) _ (c .before .before .before .before .before .before .before .before .before .before .before .before .before .before .before .before .all-placed .ensures s en z) (not-false _ (c .before .before .before .before .before .before .before .before .before .before .before .before .before .before .before .if1 .left)) _ _ (c .before .before .before .sort-list .ensures) (c .if2 .taken)
+
+same-length-2 : tie.Need-same-length-2
+same-length-2 c = search needs
+
+returns-3 : tie.Need-returns-3
+returns-3 c =
+    λ s olds en es z ec rooted known.
+    indexed-twice s olds (c .before .before .before .before .before .before .before .before .before .before .before .before .before .before .before .before .before .before .before .before .args .nodes .now) (c .before .before .before .before .before .before .before .before .before .before .before .before .before .before .before .before .before .before .before .before .args .strings .now) (c .before .before .before .before .before .before .before .before .before .before .before .before .before .before .before .before .before .before .before .before .args .t) (c .before .before .before .before .before .before .before .before .before .before .before .before .before .before .before .before .before .before .before .before .args .w .now) (c .before .before .before .before .before .before .before .before .before .before .before .before .before .before .before .before .before .before .before .before .args .order) (c .before .before .before .before .before .before .before .before .before .before .before .before .before .before .before .before .before .before .before .before .args .count) en es z ec rooted known (c .before .before .before .before .before .before .before .before .before .before .before .before .before .before .before .before .before .before .before .before .pre .1 .0 .0) (search needs) (search needs) (search needs) _ _ _ (c .before .before .before .before .before .before .before .before .before .before .before .before .list-containers .ensures .0) (c .before .before .before .before .before .before .before .before .before .before .before .before .list-containers .ensures .1) (c .before .before .before .before .before .before .before .measure .ensures) _ (c .before .before .before .before .before .before .before .before .before .before .before .before .before .before .before .before .all-placed .ensures s en z) (not-false _ (c .before .before .before .before .before .before .before .before .before .before .before .before .before .before .before .if1 .left)) _ _ (c .before .before .before .sort-list .ensures) (c .if2 .left)
+
+pub sort-paths-spec : {M : Type 1} → statement M
+sort-paths-spec =
+    tie.close
+    (tie.spec
+    all-placed-requires
+    returns
+    add-list
+    list-containers-requires
+    add-measure
+    measure-requires
+    sort-list-requires
+    same-length
+    returns-2
+    same-length-2
+    returns-3)

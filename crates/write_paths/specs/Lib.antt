@@ -1,0 +1,3 @@
+pub mod PathIndex
+pub mod Listed
+pub mod Arranged

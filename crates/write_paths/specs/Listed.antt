@@ -1,0 +1,41 @@
+-- The containers of a draft as the code lists them: words of nodes in the image's order.
+use Prim.Native.Nat.{ℕ, zero, suc, _+_, _*_, _<_}
+use mathlib.Core.Path.{_≡_}
+use mathlib.Core.List.{List, [], _∷_, _++_}
+use mathlib.Core.Bool.{Bool, true, false, cond}
+use lib.ListN.{length, getD}
+use lib.Dec.{eqb}
+use Rattle.laws.specs.Counted.{those}
+use Rattle.laws.specs.Lists.{placeIn}
+use Rattle.words.specs.Words.{isNone}
+use Rattle.image.specs.declared.NodeRecord.{NodeRecord}
+use Rattle.image.specs.Sections.{Sections, nodeCount, isContainer}
+use Rattle.draft.specs.Numbering.{oldOf}
+
+-- node i is the root, no container, or a container that has a name or a place, by its record
+unfoldable pub placedIn : NodeRecord → ℕ → Bool
+placedIn r i =
+    cond (eqb (r .tag) 1)
+    (cond (eqb i 0) true (cond (isNone (r .place)) (cond (eqb (r .f1) 0) false (cond (isNone (r .f1)) (cond (isNone (r .f0)) false true) true)) true))
+    true
+
+-- the tag of a node, in the nodes' words
+abbrev pub tagAt : List ℕ → ℕ → ℕ
+tagAt nodes x = getD nodes (x * 10 + 2) 0
+
+-- the containers among the n words from `at` on
+unfoldable pub containersIn : List ℕ → List ℕ → ℕ → ℕ → List ℕ
+containersIn nodes w at zero = []
+containersIn nodes w at (suc n) =
+    containersIn nodes w at n ++ cond (eqb (tagAt nodes (getD w (at + n) 0)) 1) (getD w (at + n) 0 ∷ []) []
+
+-- the image's containers, by their numbers
+abbrev pub containers : Sections → List ℕ → List ℕ
+containers s order = those (nodeCount s) (λ j. isContainer s (oldOf order j))
+
+-- order has each number below n once
+pub record Renumbers (n : ℕ) (order : List ℕ) : Type 0 where
+  pub old-inside : (j : ℕ) → j < n → oldOf order j < n
+  pub new-inside : (i : ℕ) → i < n → placeIn order i < n
+  pub old-new : (i : ℕ) → i < n → oldOf order (placeIn order i) ≡ i
+  pub new-old : (j : ℕ) → j < n → placeIn order (oldOf order j) ≡ j

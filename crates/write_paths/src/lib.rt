@@ -1,0 +1,199 @@
+// The paths of a draft's containers (rule 22): listed in the image's order, measured, and sorted by text.
+pub mod path_index; // path_index.rt: section 5
+
+ghost use mathlib.Core.Path.{_≡_};
+ghost use mathlib.Core.List.{List, _∷_, []};
+ghost use Prim.Native.Nat.{ℕ, _+_, _*_, _≤_, _<_};
+ghost use lib.ListN.{length, getD};
+ghost use lib.Seq.{sets};
+ghost use Rattle.laws.specs.Counted.{allOf, joinOf};
+ghost use Rattle.image.specs.Header.{nodeWords};
+ghost use Rattle.image.specs.Sections.{Sections, nodeCount};
+ghost use Rattle.draft.specs.Draft.{placed};
+ghost use Rattle.texts.specs.Text.{rising};
+ghost use Rattle.write_text_keys.specs.Keys.{keyIn, lengthFrom, Placed};
+ghost use Rattle.write_paths.specs.Listed.{containersIn, placedIn};
+ghost use Rattle.write_paths.specs.Arranged.{Measured, Arranged, Rooted, Indexes};
+ghost use Rattle.draft_image.specs.Ready.{OldsAt};
+use draft::source;
+use image::NONE;
+use image::NodeRecord;
+use image::refusal::DRAFT_PATHS;
+use write_text_keys::Tables;
+
+// Whether node `i` is the root, no container, or a container that has a name or a place.
+fn is_placed(node: NodeRecord, i: usize) -> bool
+    ensures { λ r. ⌜ r ≡ placedIn node i ⌝ }
+{
+    if node.tag != 1 {
+        return true;
+    }
+    if i == 0 {
+        return true;
+    }
+    if node.place != NONE {
+        return true;
+    }
+    if node.f1 == 0 {
+        return false;
+    }
+    if node.f1 != NONE {
+        return true;
+    }
+    if node.f0 == NONE { false } else { true }
+}
+
+// Whether each of the nodes is so.
+fn all_placed(nodes: &[u32], count: usize) -> bool
+    requires { ⌜ count * 10 ≤ length (now nodes) ⌝ }
+    ensures { λ r. ⌜ ((s : Sections) → s .nodes ≡ now (nodes .entry) → s .stride ≡ nodeWords → r ≡ allOf count (placed s)) ⌝ }
+{
+    let mut i = 0;
+    while i < count {
+        if !is_placed(source::node_at(nodes, i), i) {
+            return false;
+        }
+        i += 1;
+    }
+    true
+}
+
+// Lists the containers among the `count` nodes whose numbers stand from `order` on; the list begins at `paths`. How many they are.
+fn list_containers(nodes: &[u32], w: &mut [u32], order: usize, count: usize, paths: usize) -> usize
+    requires { ⌜ (paths + count ≤ order) × (order + count ≤ length (now w)) ⌝ }
+    ensures answer { λ r. ⌜ r ≡ length (containersIn (now (nodes .entry)) (now (w .entry)) order count) ⌝ }
+    ensures words { λ r. ⌜ now (w .exit) ≡ sets (now (w .entry)) paths (containersIn (now (nodes .entry)) (now (w .entry)) order count) ⌝ }
+{
+    let mut found = 0;
+    let mut j = 0;
+    while j < count {
+        let node = source::word(w, order + j);
+        if source::word(nodes, node as usize * 10 + 2) == 1 {
+            w[paths + found] = node;
+            found += 1;
+        }
+        j += 1;
+    }
+    found
+}
+
+// Writes the numbers below the count into the first words.
+fn count_up(w: &mut [u32], count: usize)
+    requires { ⌜ (count ≤ length (now w)) × (count ≤ 4294967295) ⌝ }
+    ensures { λ _. ⌜ now (w .exit) ≡ sets (now (w .entry)) 0 (joinOf count (λ i. i ∷ [])) ⌝ }
+{
+    let mut i = 0;
+    let mut number = 0u32;
+    while i < count {
+        w[i] = number;
+        number += 1;
+        i += 1;
+    }
+}
+
+// Puts behind the first `count` words, for each, the word of the list at `list` that it names.
+fn gather(w: &mut [u32], count: usize, list: usize)
+    requires { ⌜ (count + count ≤ list) × (list ≤ length (now w)) ⌝ }
+    ensures { λ _. ⌜ now (w .exit) ≡ sets (now (w .entry)) count (joinOf count (λ i. getD (now (w .entry)) (list + getD (now (w .entry)) i 0) 0 ∷ [])) ⌝ }
+{
+    let mut i = 0;
+    while i < count {
+        let at = source::word(w, i) as usize;
+        w[count + i] = source::word(w, list + at);
+        i += 1;
+    }
+}
+
+// Copies as many words from behind the first `count` to the list.
+fn settle(w: &mut [u32], count: usize, list: usize)
+    requires { ⌜ (count + count ≤ list) × (list + count ≤ length (now w)) ⌝ }
+    ensures { λ _. ⌜ now (w .exit) ≡ sets (now (w .entry)) list (joinOf count (λ i. getD (now (w .entry)) (count + i) 0 ∷ [])) ⌝ }
+{
+    let mut i = 0;
+    while i < count {
+        w[list + i] = w[count + i];
+        i += 1;
+    }
+}
+
+// Measures the paths of the nodes that a list has: each length goes into two words at the node's place of a table.
+fn measure(nodes: &[u32], w: &mut [u32], list: usize, found: usize, table: usize, count: usize)
+    requires { ⌜ (list + found ≤ table) × (table + count + count ≤ length (now w)) × (count ≤ 4294967295) ⌝ }
+    requires { ⌜ ((k : ℕ) → k < found → getD (now w) (list + k) 0 < count) ⌝ }
+    ensures { λ _. ⌜ Measured (now (w .entry)) list found table count (lengthFrom count (now (nodes .entry))) (now (w .exit)) found ⌝ }
+{
+    let mut i = 0;
+    while i < found {
+        let node = source::word(w, list + i);
+        let len = write_text_keys::path_length(nodes, node, count);
+        let at = table + node as usize + node as usize;
+        w[at] = (len % 4294967296) as u32;
+        w[at + 1] = (len / 4294967296) as u32;
+        i += 1;
+    }
+}
+
+// Whether the texts of the first n words rise.
+fn rises(nodes: &[u32], strings: &[u8], w: &[u32], t: Tables, n: usize) -> bool
+    requires { ⌜ (n ≤ length (now w)) × Placed t (length (now w)) ⌝ }
+    ensures { λ r. ⌜ r ≡ allOf n (rising (λ i. keyIn (now (nodes .entry)) (now (strings .entry)) t (now (w .entry)) (getD (now (w .entry)) i 0))) ⌝ }
+{
+    let mut i = 1;
+    while i < n {
+        let last = source::word(w, i - 1);
+        if !write_text_keys::below(nodes, strings, w, t, last, source::word(w, i)) {
+            return false;
+        }
+        i += 1;
+    }
+    true
+}
+
+// Sorts the list of `found` nodes by their paths, which are measured; or says that two have one path.
+fn sort_list(nodes: &[u32], strings: &[u8], w: &mut [u32], t: Tables, found: usize) -> bool
+    requires { ⌜ (found + found ≤ t .at) × (t .at + t .paths + found ≤ length (now w)) × (t .at + t .lengths ≤ length (now w)) × (found ≤ 4294967295) ⌝ }
+    ensures { λ r. ⌜ Arranged (keyIn (now (nodes .entry)) (now (strings .entry)) t (now (w .entry))) (now (w .entry)) (t .at + t .paths) found (now (w .exit)) r ⌝ }
+{
+    count_up(w, found);
+    write_sorting::sort(nodes, strings, w, t, found);
+    if !rises(nodes, strings, w, t, found) {
+        return false;
+    }
+    let list = t.at + t.paths;
+    gather(w, found, list);
+    settle(w, found, list);
+    true
+}
+
+// What the containers' paths come to: how many they are, in text order in the list, or rule 22.
+pub enum Indexed {
+    Paths(usize),
+    Refused(u32),
+}
+
+// Lists the containers among the nodes, whose numbers in the image's order stand from `order` on, by their paths.
+pub fn sort_paths(
+    nodes: &[u32],
+    strings: &[u8],
+    w: &mut [u32],
+    t: Tables,
+    order: usize,
+    count: usize,
+) -> Indexed
+    requires { ⌜ (count + count ≤ t .at) × (t .paths + count ≤ t .lengths) × (t .at + t .lengths + count + count ≤ order) × (order + count ≤ length (now w)) ⌝ }
+    requires { ⌜ (t .texts ≡ 0) × (count * 10 ≤ length (now nodes)) × (count ≤ 4294967295) ⌝ }
+    requires { ⌜ ((j : ℕ) → j < count → getD (now w) (order + j) 0 < count) ⌝ }
+    ensures { λ r. ⌜ ((s : Sections) (olds : List ℕ) → s .nodes ≡ now (nodes .entry) → s .strings ≡ now (strings .entry) → s .stride ≡ nodeWords → nodeCount s ≡ count → Rooted s olds → OldsAt olds (now (w .entry)) count order → Indexes s olds t (now (w .entry)) (now (w .exit)) r) ⌝ }
+{
+    if !all_placed(nodes, count) {
+        return Indexed::Refused(DRAFT_PATHS);
+    }
+    let list = t.at + t.paths;
+    let found = list_containers(nodes, w, order, count, list);
+    measure(nodes, w, list, found, t.at + t.lengths, count);
+    if sort_list(nodes, strings, w, t, found) {
+        Indexed::Paths(found)
+    } else {
+        Indexed::Refused(DRAFT_PATHS)
+    }
+}

@@ -1,0 +1,5 @@
+pub mod Premises
+pub mod UseTexts
+pub mod StoreAnswers
+pub mod PlanSteps
+pub mod Steps

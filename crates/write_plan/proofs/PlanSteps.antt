@@ -1,0 +1,321 @@
+-- From step to step of the plan: what each step asks, and what all of them come to.
+use Prim.Native.Nat.{ℕ, zero, suc, _+_, _*_, _-_, _^_, _/_, _≤_, _<_}
+use mathlib.Core.Path.{_≡_, refl, sym, ap, _∙_}
+use mathlib.Core.Logic.{_⊎_, inl, inr, ⊎-elim}
+use mathlib.Core.List.{List, [], _∷_, _++_}
+use mathlib.Core.Bool.{Bool, true, false}
+use native.Mathlib.Omega.{arith}
+use lib.ListN.{length, getD, take, drop, length-drop}
+use lib.Seq.{getD-take, getD-drop, length-take-le, ext-getD}
+use lib.Dec.{leb}
+use borrow.Author.Tests.{le-leb, lt-leb, ne-eqb}
+use Rattle.laws.specs.Refusal.{unless, _▸_}
+use Rattle.laws.specs.Counted.{sumOf}
+use Rattle.laws.proofs.First.{first, second, pass, fail}
+use Rattle.words.specs.Words.{NONE}
+use Rattle.texts.specs.Text.{before}
+use Rattle.image.specs.Header.{nodeWords}
+use Rattle.image.specs.Sections.{Sections, nodeCount, childCount, namedCount, nodeWord}
+use Rattle.records.specs.Records.{listWord, containerOf}
+use Rattle.tree.specs.Tree.{readWalk, allSeen}
+use Rattle.tree.specs.Work.{treeWords}
+use Rattle.tree.specs.Parts.{Fit}
+use Rattle.tree.proofs.Numbers.{EachOnce, get-below}
+use Rattle.draft.specs.Draft.{tablesRule, writeWords, reachRule, shapeRule, pathsRule}
+use Rattle.draft.specs.Source.{draftOf}
+use Rattle.draft.specs.Numbering.{numbering, oldOf}
+use Rattle.draft.proofs.Rules.{tables, whole, tables-fit}
+use Rattle.draft_image.specs.Strings.{uses, byPath, pathOf, storedTexts, distinct, offsetOf}
+use Rattle.draft_image.specs.Ready.{OldsAt, NewsAt, OffsetsAt, textUses}
+use Rattle.write_numbering.specs.Work.{treeOf, Leads, Numbered}
+use Rattle.write_numbering.proofs.WholeDraft.{whole-seen, fit-tree, leads-tree, numbered-whole}
+use Rattle.write_text_uses.specs.Uses.{useWords, usesMost, wordsFrom, withWords, nodesOnly, Readable, Collectable, Collected}
+use Rattle.write_text_uses.proofs.Fits.{uses-length, readable}
+use Rattle.write_text_uses.proofs.Bounds.{uses-bound, olds-below}
+use Rattle.write_text_uses.proofs.AllUses.{uses-are}
+use Rattle.write_text_keys.specs.declared.Tables.{Tables}
+use Rattle.write_text_keys.specs.Keys.{keyOf, keyIn, longOf}
+use Rattle.write_interning.specs.Uses.{storedOf, joined, Offsets, textsOf, RisesFrom}
+use Rattle.write_sorting.specs.Sorted.{byKey}
+use Rattle.write_paths.specs.declared.Indexed.{Indexed}
+use Rattle.write_paths.specs.declared.Indexed.the-variants as indexed
+use Rattle.write_paths.specs.Arranged.{Rooted, indexedOf, Indexes}
+use Rattle.write_plan.specs.declared.Layout.{Layout}
+use Rattle.write_plan.specs.declared.Uses.{Uses}
+use Rattle.write_plan.specs.declared.Plan.{Plan}
+use Rattle.write_plan.specs.declared.Plan.the-variants.{Ready, Refused}
+use Rattle.write_plan.specs.Planned.{layoutOf, storedBytes, planRule, Prepared, PlanOf, StoredPlan}
+use Rattle.write_paths.proofs.NodeList.{same-later}
+use Rattle.write_plan.proofs.Premises.{once, rooted}
+use Rattle.write_plan.proofs.UseTexts.{texts-same, uses-long, tables-put, put-behind, boxes-long, boxes′, longs′, key-use, paths-rise}
+
+-- ---- refusals on the way
+
+module _ (s : Sections) where
+  pub plan-unreached : (w : List ℕ) → allSeen s (readWalk s .seen) ≡ false → PlanOf s w (Refused 20)
+  unfolding planRule reachRule
+  plan-unreached w e = (first _ _ 19 (fail _ 20 e), λ q. omega arith)
+
+  pub reach-passes : allSeen s (readWalk s .seen) ≡ true → reachRule s ≡ 0
+  unfolding reachRule
+  reach-passes e = pass _ 20 e
+
+  module _ (q : reachRule s ≡ 0) where
+    pub plan-shape : (w : List ℕ) (k : ℕ) → k ≡ shapeRule s → (k ≡ 0 → ⊥) → PlanOf s w (Refused k)
+    unfolding planRule
+    plan-shape w zero e d = absurd (d refl)
+    plan-shape w (suc k) e d = (second _ _ q ∙ first _ _ k (sym e), d)
+
+    module _ (r : shapeRule s ≡ 0) where
+      pub plan-paths : (w : List ℕ) (k : ℕ) → pathsRule s ≡ k → (k ≡ 0 → ⊥) → PlanOf s w (Refused k)
+      unfolding planRule
+      plan-paths w zero e d = absurd (d refl)
+      plan-paths w (suc k) e d = (second _ _ q ∙ second _ _ r ∙ first _ _ k e, d)
+
+      plan-rest : pathsRule s ≡ 0
+          → planRule s ≡ (unless (leb (length (uses s (numbering s))) NONE) 23 ▸ unless (leb (length (storedBytes s)) NONE) 23)
+      unfolding planRule
+      plan-rest e = second _ _ q ∙ second _ _ r ∙ second _ _ e
+
+-- ---- what sorting the paths answers
+
+tag : Indexed → ℕ
+tag (indexed.Paths n) = 0
+tag (indexed.Refused k) = 1
+
+number : Indexed → ℕ
+number (indexed.Paths n) = n
+number (indexed.Refused k) = k
+
+pub indexed-paths : (r n m : ℕ) → indexed.Paths m ≡ indexedOf r n → (r ≡ 0) × (m ≡ n)
+unfolding indexedOf tag number
+indexed-paths zero n m e = (refl, ap {B = ℕ} number e)
+indexed-paths (suc r) n m e =
+    let z : _≡_ {A = ℕ} 0 1 = ap {B = ℕ} tag (rw (ne-eqb (suc r) 0 (λ q. omega arith)) at e) in
+    absurd (omega arith)
+
+pub indexed-refused : (r n k : ℕ) → indexed.Refused k ≡ indexedOf r n → (r ≡ k) × (k ≡ 0 → ⊥)
+unfolding indexedOf tag number
+indexed-refused zero n k e = let z : _≡_ {A = ℕ} 1 0 = ap {B = ℕ} tag e in absurd (omega arith)
+indexed-refused (suc r) n k e =
+    let q : k ≡ suc r = ap {B = ℕ} number (rw (ne-eqb (suc r) 0 (λ z. omega arith)) at e) in
+    (sym q, λ z. omega arith)
+
+-- ---- what each step asks
+
+nodes-readable : (ns cs ms ds is ps ss order : List ℕ) → Readable (draftOf ns cs ms ds is ps ss) order → Readable (nodesOnly ns ps) order
+unfolding nodeWord listWord
+nodes-readable ns cs ms ds is ps ss order k = record { olds = k .olds; lists = k .lists }
+
+module _ (ns cs ms ds is ps ss : List ℕ) (p : tablesRule (draftOf ns cs ms ds is ps ss) ≡ 0) where
+  abbrev s : Sections
+  s = draftOf ns cs ms ds is ps ss
+
+  abbrev n : ℕ
+  n = nodeCount s
+
+  pub number-fit : Fit (treeOf ns cs ms)
+  number-fit = fit-tree ns cs ms ds is ps ss (tables-fit s (tables s p))
+
+  pub number-leads : Leads (treeOf ns cs ms)
+  number-leads = leads-tree ns cs ms ds is ps ss (record { child = tables s p .children; named = tables s p .named-nodes })
+
+  pub number-low : treeWords (treeOf ns cs ms) ≤ layoutOf s .order
+  number-low = omega (arith, tables s p .some)
+
+  pub number-room : layoutOf s .order + 2 * n ≤ writeWords s
+  number-room = omega arith
+
+  pub seen-whole : (b : Bool) → b ≡ allSeen (treeOf ns cs ms) (readWalk (treeOf ns cs ms) .seen) → b ≡ allSeen s (readWalk s .seen)
+  seen-whole b e = e ∙ whole-seen ns cs ms ds is ps ss
+
+  pub nodes-whole : length ns ≡ n * 10
+  nodes-whole = whole s p refl .nodes
+
+  -- the tables lie behind the sorted words, one after the other, and before the numbers
+  pub record Laid : Type 0 where
+    pub sort : n + n ≤ layoutOf s .at
+    pub lists : layoutOf s .paths + n ≤ layoutOf s .lengths
+    pub sizes : layoutOf s .at + layoutOf s .lengths + n + n ≤ layoutOf s .order
+    pub numbers : layoutOf s .order + n ≤ writeWords s
+
+  pub laid : Laid
+  laid = record { sort = omega arith; lists = omega arith; sizes = omega arith; numbers = omega arith }
+
+  module _ (q : reachRule s ≡ 0) (w₁ : List ℕ) (long : length w₁ ≡ writeWords s) (marks : Numbered (treeOf ns cs ms) (layoutOf s .order) w₁) where
+    numbers : Numbered s (layoutOf s .order) w₁
+    numbers = numbered-whole ns cs ms ds is ps ss (layoutOf s .order) w₁ marks
+
+    pub few-nodes : n ≤ 4294967295
+    few-nodes = numbers .few
+
+    pub olds-known : OldsAt (numbering s) w₁ n (layoutOf s .order)
+    olds-known = numbers .olds
+
+    pub olds-in : (j : ℕ) → j < n → getD w₁ (layoutOf s .order + j) 0 < n
+    olds-in j h = rw (numbers .olds j h) (get-below (once s refl p q) j h)
+
+    news-known : NewsAt (numbering s) w₁ n (layoutOf s .new)
+    news-known i h =
+        let e : layoutOf s .new + i ≡ layoutOf s .order + n + i = omega arith in
+        ap (λ (k : ℕ). getD w₁ k 0) e ∙ numbers .news i h
+
+    -- the paths are sorted
+    module _ (r : shapeRule s ≡ 0) (w₂ : List ℕ) (found : ℕ) (long₂ : length w₂ ≡ length w₁)
+        (sorted : Indexes s (numbering s)
+        (record { at = layoutOf s .at; texts = 0; paths = layoutOf s .paths; lengths = layoutOf s .lengths }) w₁ w₂ (indexed.Paths found)) where
+      free : pathsRule s ≡ 0
+      free = indexed-paths (pathsRule s) (length (byPath s (numbering s))) found (sorted .answer) .0
+
+      found-all : found ≡ length (byPath s (numbering s))
+      found-all = indexed-paths (pathsRule s) (length (byPath s (numbering s))) found (sorted .answer) .1
+
+      -- the numbers are where they were
+      late : (i : ℕ) → layoutOf s .order ≤ i → getD w₂ i 0 ≡ getD w₁ i 0
+      late i h = same-later (layoutOf s .at + layoutOf s .lengths + n + n) i w₂ w₁ (omega (arith, laid .sizes)) (sorted .behind)
+
+      order-words : wordsFrom w₂ (layoutOf s .order) n ≡ numbering s
+      order-words =
+          ext-getD 0 (wordsFrom w₂ (layoutOf s .order) n) (numbering s) (long-order ∙ sym (once s refl p q .len))
+          (λ j h. let k : j < n = omega (arith, long-order) in
+          getD-take n (drop (layoutOf s .order) w₂) j 0 k ∙ getD-drop (layoutOf s .order) w₂ j 0 ∙ late (layoutOf s .order + j) (omega arith) ∙ olds-known j k)
+        where
+          long-order : length (wordsFrom w₂ (layoutOf s .order) n) ≡ n
+          long-order =
+              length-take-le n (drop (layoutOf s .order) w₂) (omega (arith, length-drop (layoutOf s .order) w₂, long, long₂, laid .numbers))
+
+      bound : length (textUses s (numbering s)) + found ≤ usesMost s
+      bound = omega (arith, uses-bound s (numbering s) p (once s refl p q), found-all, boxes-count)
+        where
+          boxes-count : length (byPath s (numbering s)) ≡ sumOf n (containerOf s)
+          boxes-count = boxes-long s refl p q free
+
+      uses-same : useWords (draftOf ns [] ms ds is ps []) (numbering s) ≡ useWords s (numbering s)
+      uses-same = uses-are ns [] ms ds is ps [] (numbering s) ∙ sym (uses-are ns cs ms ds is ps ss (numbering s))
+
+      pub collect-asks : Collectable ns ms ds is ps w₂ (layoutOf s .order) (layoutOf s .at)
+      collect-asks =
+          record {
+            read = rw order-words read-nodes;
+            numbers = omega (arith, laid .numbers, long, long₂);
+            below = rw (order-words, uses-same) (omega (arith, uses-length s (numbering s), bound, laid .sizes));
+          }
+        where
+          read-nodes : Readable (nodesOnly ns ps) (numbering s)
+          read-nodes =
+              let known = readable s (tables s p) (numbering s) (olds-below s (numbering s) p (once s refl p q)) in
+              nodes-readable ns cs ms ds is ps ss (numbering s) known
+
+      -- the uses are collected
+      module _ (w₃ : List ℕ) (texts : ℕ) (long₃ : length w₃ ≡ length w₂)
+          (collected : Collected s (wordsFrom w₂ (layoutOf s .order) n) w₂ (layoutOf s .at) w₃ texts) where
+        texts-all : texts ≡ length (textUses s (numbering s))
+        texts-all = collected .count ∙ ap (λ (l : List ℕ). length (textUses s l)) order-words
+
+        tables-now : drop (layoutOf s .at) w₃ ≡ useWords s (numbering s) ++ drop (length (useWords s (numbering s))) (drop (layoutOf s .at) w₂)
+        tables-now =
+            ap (drop (layoutOf s .at)) (collected .is ∙ ap (λ (l : List ℕ). withWords w₂ (layoutOf s .at) (useWords s l)) order-words)
+            ∙ tables-put w₂ (useWords s (numbering s)) (layoutOf s .at) (omega (arith, long, long₂, laid .sizes, laid .numbers))
+
+        pub store-room : texts + found + (texts + found) ≤ layoutOf s .at
+        store-room = omega (arith, bound, texts-all)
+
+        pub store-placed : (layoutOf s .at + layoutOf s .paths ≤ length w₃) × (layoutOf s .at + layoutOf s .lengths ≤ length w₃)
+        store-placed = (omega (arith, long, long₂, long₃, laid .lists, laid .sizes, laid .numbers), omega (arith, long, long₂, long₃, laid .sizes, laid .numbers))
+
+        text-room : 2 * length (textUses s (numbering s)) ≤ layoutOf s .paths
+        text-room = omega (arith, bound)
+
+        tab : List ℕ
+        tab = drop (layoutOf s .at) w₂
+
+        abbrev key : ℕ → List ℕ
+        key = keyOf ns ss texts (layoutOf s .paths) (layoutOf s .lengths) (drop (layoutOf s .at) w₃)
+
+        key-now : (a : ℕ) → a < texts + found → key a ≡ getD (uses s (numbering s)) a []
+        key-now a h =
+            rw (texts-all, tables-now)
+            (key-use s refl p q r free (layoutOf s .paths) (layoutOf s .lengths) text-room (omega arith) (drop (layoutOf s .at) w₂) (sorted .boxes free) (sorted .lengths free) a
+            (omega (arith, texts-all, found-all)))
+
+        pub store-rises : RisesFrom (byKey key) texts (texts + found)
+        store-rises a l h =
+            rw (texts-all, tables-now)
+            (paths-rise s refl p q r free (layoutOf s .paths) (layoutOf s .lengths) text-room (omega arith) (drop (layoutOf s .at) w₂) (sorted .boxes free) (sorted .lengths free) a
+            (omega (arith, texts-all)) (omega (arith, texts-all, found-all)))
+
+        -- the texts are stored
+        stored-same : storedOf key (texts + found) ≡ storedTexts s (numbering s)
+        unfolding storedOf storedTexts
+        stored-same =
+            ap (distinct [])
+            (texts-same (texts + found) key (uses s (numbering s)) (uses-long s ∙ omega (arith, texts-all, found-all)) key-now)
+
+        module _ (w₄ : List ℕ) (kept : drop (layoutOf s .at) w₄ ≡ drop (layoutOf s .at) w₃) where
+          rest : planRule s ≡ (unless (leb (length (uses s (numbering s))) NONE) 23 ▸ unless (leb (length (storedBytes s)) NONE) 23)
+          rest = plan-rest s q r free
+
+          many : length (uses s (numbering s)) ≡ texts + found
+          many = uses-long s ∙ omega (arith, texts-all, found-all)
+
+          bytes-same : length (joined (storedOf key (texts + found))) ≡ length (storedBytes s)
+          bytes-same = ap (λ (l : List (List ℕ)). length (joined l)) stored-same
+
+          -- words of the numbers, in the end
+          last : (i : ℕ) → layoutOf s .order ≤ i → getD w₄ i 0 ≡ getD w₁ i 0
+          last i h =
+              let e : layoutOf s .at + (i - layoutOf s .at) ≡ i = omega (arith, laid .sizes) in
+              let there : (l : List ℕ) → getD l i 0 ≡ getD (drop (layoutOf s .at) l) (i - layoutOf s .at) 0 =
+              λ l. sym (getD-drop (layoutOf s .at) l (i - layoutOf s .at) 0 ∙ ap (λ (k : ℕ). getD l k 0) e) in
+              there w₄ ∙ ap (λ (l : List ℕ). getD l (i - layoutOf s .at) 0) (kept ∙ tables-now)
+              ∙ put-behind (useWords s (numbering s)) (drop (layoutOf s .at) w₂) (i - layoutOf s .at)
+              (omega (arith, uses-length s (numbering s), bound, laid .sizes)) ∙ sym (there w₂) ∙ late i h
+
+          tables-last : drop (layoutOf s .at) w₄ ≡ useWords s (numbering s) ++ drop (length (useWords s (numbering s))) (drop (layoutOf s .at) w₂)
+          tables-last = kept ∙ tables-now
+
+          prepared : (u : Uses) → u ≡ record { texts = texts; paths = found; strings = length (joined (storedOf key (texts + found))) }
+              → Offsets key (texts + found) w₄ → Prepared s w₄ u
+          prepared u e o =
+              let ut : u .texts ≡ texts = ap (λ (v : Uses). v .texts) e in
+              let up : u .paths ≡ found = ap (λ (v : Uses). v .paths) e in
+              let us : u .strings ≡ length (joined (storedOf key (texts + found))) = ap (λ (v : Uses). v .strings) e in
+              record {
+                texts = ut ∙ texts-all;
+                paths = up ∙ found-all;
+                strings = us ∙ bytes-same;
+                olds = λ j h. last (layoutOf s .order + j) (omega arith) ∙ olds-known j h;
+                news = λ i h. last (layoutOf s .new + i) (omega arith) ∙ news-known i h;
+                offsets =
+                    λ k h.
+                    let l : k < texts + found = omega (arith, many) in
+                    rw (ut, up) (o k l ∙ (λ j. offsetOf (stored-same j) (key-now k l j)));
+                keys =
+                    λ a h.
+                    let l : a < texts + found = omega (arith, ut, up) in
+                    rw ut (ap (λ (tab : List ℕ). keyOf ns ss texts (layoutOf s .paths) (layoutOf s .lengths) tab a) kept ∙ key-now a l);
+                boxes =
+                    λ k h.
+                    ap (λ (tab : List ℕ). getD tab (layoutOf s .paths + k) 0) tables-last
+                    ∙ boxes′ s refl p q r free (layoutOf s .paths) (layoutOf s .lengths) text-room (omega arith) (drop (layoutOf s .at) w₂) (sorted .boxes free)
+                    (sorted .lengths free) k (omega (arith, up, found-all));
+                lengths =
+                    λ k h.
+                    ap (λ (tab : List ℕ). longOf (layoutOf s .lengths) tab (oldOf (numbering s) (getD (byPath s (numbering s)) k 0))) tables-last
+                    ∙ longs′ s refl p q r free (layoutOf s .paths) (layoutOf s .lengths) text-room (omega arith) (drop (layoutOf s .at) w₂) (sorted .boxes free)
+                    (sorted .lengths free) k (omega (arith, up, found-all));
+              }
+
+          pub planned : (a : Plan) → StoredPlan key texts found w₄ a → PlanOf s w₄ a
+          planned (Refused k) (e, inl h) =
+              (rest ∙ first _ _ 22 (fail _ 23 (lt-leb (length (uses s (numbering s))) NONE (omega (arith, many)))) ∙ sym e, λ z′. omega (arith, e))
+          planned (Refused k) (e, inr h) = (
+            rest ∙ second _ _ (pass _ 23 (le-leb (length (uses s (numbering s))) NONE (omega (arith, many, h .0))))
+                ∙ fail _ 23 (lt-leb (length (storedBytes s)) NONE (omega (arith, bytes-same, h .1))) ∙ sym e,
+            λ z′. omega (arith, e),
+          )
+          planned (Ready u) h = (
+            rest ∙ second _ _ (pass _ 23 (le-leb (length (uses s (numbering s))) NONE (omega (arith, many, h .1))))
+                ∙ pass _ 23 (le-leb (length (storedBytes s)) NONE (omega (arith, bytes-same, h .2))),
+            prepared u (h .0) (h .3),
+          )

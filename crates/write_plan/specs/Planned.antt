@@ -1,0 +1,77 @@
+-- What is worked out before the output is written: where it lies in the work words, and what it says.
+use Prim.Native.Nat.{ℕ, _+_, _*_, _-_, _≤_, _<_}
+use mathlib.Core.Path.{_≡_}
+use mathlib.Core.Logic.{_⊎_}
+use mathlib.Core.List.{List, []}
+use lib.ListN.{length, getD, drop}
+use lib.Dec.{leb}
+use Rattle.laws.specs.Refusal.{unless, _▸_}
+use Rattle.laws.specs.Lists.{flatMap}
+use Rattle.words.specs.Words.{NONE}
+use Rattle.image.specs.Sections.{Sections, nodeCount}
+use Rattle.draft.specs.Draft.{writeWords, reachRule, shapeRule, pathsRule}
+use Rattle.draft.specs.Numbering.{numbering, oldOf}
+use Rattle.draft_image.specs.Strings.{uses, byPath, pathOf, storedTexts}
+use Rattle.draft_image.specs.Ready.{OldsAt, NewsAt, OffsetsAt, textUses}
+use Rattle.write_text_uses.specs.Uses.{usesMost}
+use Rattle.write_text_keys.specs.Keys.{keyOf, longOf}
+use Rattle.write_interning.specs.Uses.{storedOf, joined, Offsets}
+use Rattle.write_plan.specs.declared.Layout.{Layout}
+use Rattle.write_plan.specs.declared.Uses.{Uses}
+use Rattle.write_plan.specs.declared.Plan.{Plan}
+use Rattle.write_plan.specs.declared.Plan.the-variants.{Ready, Refused}
+
+-- two words a use are sorted; behind them two words a text, a word for each path, two for a path's length by its node; at the end
+-- the numbers, two words a node
+abbrev pub layoutOf : Sections → Layout
+layoutOf s =
+    record {
+      at = 2 * usesMost s;
+      paths = 2 * usesMost s;
+      lengths = 2 * usesMost s + nodeCount s;
+      order = writeWords s - 2 * nodeCount s;
+      new = writeWords s - nodeCount s;
+    }
+
+-- the stored texts, one after the other
+abbrev pub storedBytes : Sections → List ℕ
+storedBytes s = flatMap (λ t. t) (storedTexts s (numbering s))
+
+-- the rules that are tested on the way. An image with more uses of texts than a word can count, or longer texts, is too long
+unfoldable pub planRule : Sections → ℕ
+planRule s =
+    reachRule s ▸ shapeRule s ▸ pathsRule s ▸ unless (leb (length (uses s (numbering s))) NONE) 23 ▸ unless (leb (length (storedBytes s)) NONE) 23
+
+-- what the work words hold in the end
+pub record Prepared (s : Sections) (w : List ℕ) (u : Uses) : Type 0 where
+  pub texts : u .texts ≡ length (textUses s (numbering s))
+  pub paths : u .paths ≡ length (byPath s (numbering s))
+  pub strings : u .strings ≡ length (storedBytes s)
+  pub olds : OldsAt (numbering s) w (nodeCount s) (layoutOf s .order)
+  pub news : NewsAt (numbering s) w (nodeCount s) (layoutOf s .new)
+  pub offsets : OffsetsAt (storedTexts s (numbering s)) (uses s (numbering s)) w (u .texts + u .paths)
+  -- the tables still give the text of each use
+  pub keys : (a : ℕ) → a < u .texts + u .paths
+      → keyOf (s .nodes) (s .strings) (u .texts) (layoutOf s .paths) (layoutOf s .lengths) (drop (layoutOf s .at) w) a
+      ≡ getD (uses s (numbering s)) a []
+  -- the containers in the order of the index
+  pub boxes : (k : ℕ) → k < u .paths → getD (drop (layoutOf s .at) w) (layoutOf s .paths + k) 0 ≡ oldOf (numbering s) (getD (byPath s (numbering s)) k 0)
+  -- and the lengths of their paths
+  pub lengths : (k : ℕ) → k < u .paths
+      → longOf (layoutOf s .lengths) (drop (layoutOf s .at) w) (oldOf (numbering s) (getD (byPath s (numbering s)) k 0))
+      ≡ length (pathOf s (numbering s) (getD (byPath s (numbering s)) k 0))
+
+-- the work words as said, or the number of the first of the rules that is broken
+abbrev pub PlanOf : Sections → List ℕ → Plan → Type 0
+PlanOf s w (Ready u) = (planRule s ≡ 0) × Prepared s w u
+PlanOf s w (Refused k) = (planRule s ≡ k) × (k ≡ 0 → ⊥)
+
+-- of texts and paths that are stored by their keys: how many bytes that takes and the offsets, or that one is too many
+abbrev pub StoredPlan : (ℕ → List ℕ) → ℕ → ℕ → List ℕ → Plan → Type 0
+StoredPlan key texts paths w (Ready u) =
+    (u ≡ record { texts = texts; paths = paths; strings = length (joined (storedOf key (texts + paths))) })
+    × (texts + paths ≤ NONE)
+    × (length (joined (storedOf key (texts + paths))) ≤ NONE)
+    × Offsets key (texts + paths) w
+StoredPlan key texts paths w (Refused k) =
+    (k ≡ 23) × ((NONE < texts + paths) ⊎ ((texts + paths ≤ NONE) × (NONE < length (joined (storedOf key (texts + paths))))))

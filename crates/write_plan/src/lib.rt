@@ -1,0 +1,114 @@
+// What a draft's image will hold, worked out in the work words before a byte of the output is written: the numbers of the nodes, the
+// paths in text order, the offset of every text. Rules 20 to 22, and 23 where the texts alone are too long.
+ghost use mathlib.Core.Path.{_≡_};
+ghost use Prim.Native.Nat.{_+_, _≤_};
+ghost use lib.ListN.{length, drop};
+ghost use Rattle.write_sorting.specs.Sorted.{byKey};
+ghost use Rattle.write_interning.specs.Uses.{RisesFrom};
+ghost use Rattle.write_text_keys.specs.Keys.{keyIn, Placed};
+ghost use Rattle.draft.specs.Source.{draftOf};
+ghost use Rattle.draft.specs.Draft.{tablesRule, writeWords};
+ghost use Rattle.write_plan.specs.Planned.{layoutOf, StoredPlan, PlanOf};
+use draft::shape;
+use image::refusal::DRAFT_UNREACHED;
+use image::refusal::NO_ROOM;
+use write_interning::Stored;
+use write_paths::Indexed;
+use write_text_keys::Tables;
+
+// Where the tables lie in the work words: behind the words that are sorted, `paths` and `lengths` counted from `at`.
+pub struct Layout {
+    pub at: usize,
+    pub paths: usize,
+    pub lengths: usize,
+    pub order: usize,
+    pub new: usize,
+}
+
+// How many texts of the draft are used, how many paths, and how many bytes they take once each is stored once.
+pub struct Uses {
+    pub texts: usize,
+    pub paths: usize,
+    pub strings: usize,
+}
+
+pub enum Plan {
+    Ready(Uses),
+    Refused(u32),
+}
+
+// Stores the texts and paths in use, each once.
+fn store(nodes: &[u32], strings: &[u8], w: &mut [u32], t: Tables, paths: usize) -> Plan
+    requires { ⌜ (t .texts + paths + (t .texts + paths) ≤ t .at) × Placed t (length (now w)) ⌝ }
+    requires { ⌜ RisesFrom (byKey (keyIn (now nodes) (now strings) t (now w))) (t .texts) (t .texts + paths) ⌝ }
+    ensures answer { λ r. ⌜ StoredPlan (keyIn (now (nodes .entry)) (now (strings .entry)) t (now (w .entry))) (t .texts) paths (now (w .exit)) r ⌝ }
+    ensures tables { λ r. ⌜ drop (t .at) (now (w .exit)) ≡ drop (t .at) (now (w .entry)) ⌝ }
+{
+    let texts = t.texts;
+    let n = texts + paths;
+    if 4294967295 < n {
+        return Plan::Refused(NO_ROOM);
+    }
+    match write_interning::intern(nodes, strings, w, t, n) {
+        Stored::Whole(strings) => Plan::Ready(Uses {
+            texts,
+            paths,
+            strings,
+        }),
+        Stored::TooLong => Plan::Refused(NO_ROOM),
+    }
+}
+
+// Works out, in as many work words as a draft needs, the numbers, paths and offsets of its image.
+pub fn prepare(
+    nodes: &[u32],
+    children: &[u32],
+    named: &[u32],
+    definitions: &[u32],
+    items: &[u32],
+    payload: &[u8],
+    strings: &[u8],
+    w: &mut [u32],
+    l: Layout,
+) -> Plan
+    requires { ⌜ tablesRule (draftOf (now nodes) (now children) (now named) (now definitions) (now items) (now payload) (now strings)) ≡ 0 ⌝ }
+    requires { ⌜ length (now w) ≡ writeWords (draftOf (now nodes) (now children) (now named) (now definitions) (now items) (now payload) (now strings)) ⌝ }
+    requires { ⌜ l ≡ layoutOf (draftOf (now nodes) (now children) (now named) (now definitions) (now items) (now payload) (now strings)) ⌝ }
+    ensures { λ r. ⌜ PlanOf (draftOf (now (nodes .entry)) (now (children .entry)) (now (named .entry)) (now (definitions .entry)) (now (items .entry)) (now (payload .entry)) (now (strings .entry))) (now (w .exit)) r ⌝ }
+{
+    if !write_numbering::number(nodes, children, named, w, l.order) {
+        return Plan::Refused(DRAFT_UNREACHED);
+    }
+    let refused = shape::shape_rule(nodes, children, named, definitions, items, payload, strings);
+    if refused != 0 {
+        return Plan::Refused(refused);
+    }
+    let t = Tables {
+        at: l.at,
+        texts: 0,
+        paths: l.paths,
+        lengths: l.lengths,
+    };
+    match write_paths::sort_paths(nodes, strings, w, t, l.order, nodes.len() / 10) {
+        Indexed::Refused(number) => Plan::Refused(number),
+        Indexed::Paths(found) => {
+            let texts = write_text_uses::collect(
+                nodes,
+                named,
+                definitions,
+                items,
+                payload,
+                w,
+                l.order,
+                l.at,
+            );
+            let t = Tables {
+                at: l.at,
+                texts,
+                paths: l.paths,
+                lengths: l.lengths,
+            };
+            store(nodes, strings, w, t, found)
+        }
+    }
+}

@@ -1,0 +1,5 @@
+pub mod Laws
+pub mod ListProperties
+pub mod OrderedLists
+pub mod KeyOrder
+pub mod MergeInPlace

@@ -1,0 +1,136 @@
+// A stable merge sort of uses by their texts, in one lent slice: the first words are sorted, those after them are worked in, and the tables
+// by which texts are compared lie behind both.
+ghost use mathlib.Core.Path.{_≡_};
+ghost use Prim.Native.Nat.{_≤_, _<_, _+_};
+ghost use lib.ListN.{length, take, drop};
+ghost use lib.Seq.{paste};
+ghost use Rattle.write_text_keys.specs.Keys.{keyIn, Placed};
+ghost use Rattle.write_sorting.specs.Sorted.{byKey, isort, merge, takesRight, part, Ordered};
+use write_text_keys::Tables;
+
+// Whether a merge of the words from n + i on and those from j up to n goes on with the latter.
+fn takes_right(
+    nodes: &[u32],
+    strings: &[u8],
+    w: &[u32],
+    t: Tables,
+    n: usize,
+    i: usize,
+    j: usize,
+) -> bool
+    requires { ⌜ (n + i < length (now w)) × Placed t (length (now w)) ⌝ }
+    ensures { λ r. ⌜ r ≡ takesRight (byKey (keyIn (now (nodes .entry)) (now (strings .entry)) t (now (w .entry)))) (now (w .entry)) n i j ⌝ }
+{
+    if j < n {
+        write_text_keys::below(nodes, strings, w, t, w[j], w[n + i])
+    } else {
+        false
+    }
+}
+
+// Merges the m words from n on and those from m up to n into the first n words.
+fn merge_parts(nodes: &[u32], strings: &[u8], w: &mut [u32], t: Tables, m: usize, n: usize)
+    requires { ⌜ (m ≤ n) × (n + m ≤ t .at) × Placed t (length (now w)) ⌝ }
+    ensures { λ _. ⌜ take n (now (w .exit)) ≡ merge (byKey (keyIn (now (nodes .entry)) (now (strings .entry)) t (now (w .entry)))) (part n (n + m) (now (w .entry))) (part m n (now (w .entry))) ⌝ }
+    ensures { λ _. ⌜ drop (t .at) (now (w .exit)) ≡ drop (t .at) (now (w .entry)) ⌝ }
+{
+    let mut i = 0;
+    let mut j = m;
+    let mut k = 0;
+    while i < m {
+        if takes_right(nodes, strings, w, t, n, i, j) {
+            w[k] = w[j];
+            j += 1;
+        } else {
+            w[k] = w[n + i];
+            i += 1;
+        }
+        k += 1;
+    }
+}
+
+// Copies the first m words to n and on.
+fn copy_up(w: &mut [u32], m: usize, n: usize)
+    requires { ⌜ (m ≤ n) × (n + m ≤ length (now w)) ⌝ }
+    ensures { λ _. ⌜ now (w .exit) ≡ paste (now (w .entry)) n (now (w .entry)) m ⌝ }
+{
+    let mut i = 0;
+    while i < m {
+        w[n + i] = w[i];
+        i += 1;
+    }
+}
+
+// Copies the m words from n on to the front.
+fn copy_down(w: &mut [u32], m: usize, n: usize)
+    requires { ⌜ (m ≤ n) × (n + m ≤ length (now w)) ⌝ }
+    ensures { λ _. ⌜ now (w .exit) ≡ paste (now (w .entry)) 0 (drop n (now (w .entry))) m ⌝ }
+{
+    let mut i = 0;
+    while i < m {
+        w[i] = w[n + i];
+        i += 1;
+    }
+}
+
+// Merges the m words from n on, which are in order, and those from m up to n into the first n words. Where the two stand in order they are
+// put one after the other.
+fn join_parts(nodes: &[u32], strings: &[u8], w: &mut [u32], t: Tables, m: usize, n: usize)
+    requires { ⌜ (0 < m) × (m < n) × (n + m ≤ t .at) × Placed t (length (now w)) ⌝ }
+    requires { ⌜ Ordered (byKey (keyIn (now nodes) (now strings) t (now w))) (part n (n + m) (now w)) ⌝ }
+    ensures { λ _. ⌜ take n (now (w .exit)) ≡ merge (byKey (keyIn (now (nodes .entry)) (now (strings .entry)) t (now (w .entry)))) (part n (n + m) (now (w .entry))) (part m n (now (w .entry))) ⌝ }
+    ensures { λ _. ⌜ drop (t .at) (now (w .exit)) ≡ drop (t .at) (now (w .entry)) ⌝ }
+{
+    let last = w[n + m - 1];
+    let first = w[m];
+    if write_text_keys::below(nodes, strings, w, t, first, last) {
+        merge_parts(nodes, strings, w, t, m, n);
+    } else {
+        copy_down(w, m, n);
+    }
+}
+
+// Sorts the first n words by their texts; the n words after them are worked in.
+pub fn sort(nodes: &[u32], strings: &[u8], w: &mut [u32], t: Tables, n: usize)
+    requires { ⌜ (n + n ≤ t .at) × Placed t (length (now w)) ⌝ }
+    ensures { λ _. ⌜ take n (now (w .exit)) ≡ isort (byKey (keyIn (now (nodes .entry)) (now (strings .entry)) t (now (w .entry)))) (take n (now (w .entry))) ⌝ }
+    ensures { λ _. ⌜ drop (t .at) (now (w .exit)) ≡ drop (t .at) (now (w .entry)) ⌝ }
+{
+    if n < 2 {
+        return;
+    }
+    let m = n / 2;
+    let second = Tables {
+        at: t.at - m,
+        texts: t.texts,
+        paths: t.paths,
+        lengths: t.lengths,
+    };
+    sort(nodes, strings, &mut w[m..], second, n - m);
+    copy_up(w, m, n);
+    let first = Tables {
+        at: t.at - n,
+        texts: t.texts,
+        paths: t.paths,
+        lengths: t.lengths,
+    };
+    sort(nodes, strings, &mut w[n..], first, m);
+    join_parts(nodes, strings, w, t, m, n);
+}
+
+// Merges the first m words and those from m up to n, each part in order, into the first n words; the m words after them are worked in.
+pub fn merge(nodes: &[u32], strings: &[u8], w: &mut [u32], t: Tables, m: usize, n: usize)
+    requires { ⌜ (m ≤ n) × (n + m ≤ t .at) × Placed t (length (now w)) ⌝ }
+    requires { ⌜ Ordered (byKey (keyIn (now nodes) (now strings) t (now w))) (take m (now w)) ⌝ }
+    ensures { λ _. ⌜ take n (now (w .exit)) ≡ merge (byKey (keyIn (now (nodes .entry)) (now (strings .entry)) t (now (w .entry)))) (take m (now (w .entry))) (part m n (now (w .entry))) ⌝ }
+    ensures { λ _. ⌜ drop (t .at) (now (w .exit)) ≡ drop (t .at) (now (w .entry)) ⌝ }
+{
+    if m == 0 {
+        return;
+    }
+    if m == n {
+        return;
+    }
+    copy_up(w, m, n);
+    join_parts(nodes, strings, w, t, m, n);
+}

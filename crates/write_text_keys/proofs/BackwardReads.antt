@@ -1,0 +1,131 @@
+-- Laws of reading backward: what is left after some bytes, whole pieces passed in one step, bytes written out from the last one on.
+use Prim.Native.Nat.{ℕ, zero, suc, _+_, _-_, _≤_, _<_}
+use mathlib.Core.Path.{_≡_, refl, sym, ap, _∙_}
+use mathlib.Core.List.{List, [], _∷_, _++_, append-assoc, append-nil}
+use native.Mathlib.Omega.{arith}
+use native.Mathlib.Nat.{le-refl}
+use native.Mathlib.Numerals.{add-one}
+use lib.ListN.{length, getD, take, drop, set, length-append}
+use lib.Seq.{take-all, take-suc, take-append-le, drop-cons, drop-set-lt, getD-set-same, lt-length-set}
+use borrow.Author.Tests.{eq-eqb, ne-eqb}
+use Rattle.texts.specs.Dots.{dot}
+use Rattle.write_text_keys.specs.declared.Cursor.{Cursor}
+use Rattle.write_text_keys.specs.Keys.{atEnd, pieceByte, lastByte, stepBack, readBack, back}
+
+-- ---- one step
+
+-- the cursor with another number of bytes left
+abbrev pub withLeft : Cursor → ℕ → Cursor
+withLeft c n = record { named = c .named; at = c .at; left = n; above = c .above }
+
+pub step-in : (nodes : List ℕ) (c : Cursor) (n : ℕ) → c .left ≡ suc n → stepBack nodes c ≡ withLeft c n
+unfolding stepBack
+step-in nodes c n e =
+    let p : c .left - 1 ≡ n = omega arith in
+    rw (ne-eqb (c .left) 0 (λ z. omega arith)) (ap (withLeft c) p)
+
+pub step-up : (nodes : List ℕ) (c : Cursor) → c .left ≡ 0 → stepBack nodes c ≡ atEnd nodes (c .above)
+unfolding stepBack
+step-up nodes c e = rw (eq-eqb (c .left) 0 e)
+
+pub dot-up : (strings : List ℕ) (c : Cursor) → c .left ≡ 0 → lastByte strings c ≡ dot
+unfolding lastByte
+dot-up strings c e = rw (eq-eqb (c .left) 0 e)
+
+-- the byte before it is one of the piece
+pub byte-in : (strings : List ℕ) (c : Cursor) (n : ℕ) → c .left ≡ suc n → lastByte strings c ≡ pieceByte strings c n
+unfolding lastByte
+byte-in strings c n e =
+    let p : c .left - 1 ≡ n = omega arith in
+    rw (ne-eqb (c .left) 0 (λ z. omega arith)) (ap (pieceByte strings c) p)
+
+-- ---- many
+
+module _ (nodes : List ℕ) where
+  -- as many bytes as are left of a piece at most
+  pub back-in : (n : ℕ) (c : Cursor) → n ≤ c .left → back n nodes c ≡ withLeft c (c .left - n)
+  unfolding back
+  back-in zero c h =
+      let e : c .left ≡ c .left - 0 = omega arith in
+      ap (withLeft c) e
+  back-in (suc n) c h =
+      let l : c .left ≡ suc (c .left - 1) = omega arith in
+      let e : c .left - 1 - n ≡ c .left - suc n = omega arith in
+      ap (back n nodes) (step-in nodes c (c .left - 1) l)
+      ∙ back-in n (withLeft c (c .left - 1)) (omega arith)
+      ∙ ap (withLeft c) e
+
+  back-more : (m n k : ℕ) (c : Cursor) → k ≡ m + n → back k nodes c ≡ back n nodes (back m nodes c)
+  unfolding back
+  back-more zero n k c e =
+      let p : k ≡ n = omega arith in
+      ap (λ (j : ℕ). back j nodes c) p
+  back-more (suc m) n zero c e = absurd (omega arith)
+  back-more (suc m) n (suc k) c e = back-more m n k (stepBack nodes c) (omega arith)
+
+  -- a piece and the dot before it
+  pub back-up : (n rest : ℕ) (c : Cursor) → n ≡ rest + (c .left + 1) → back n nodes c ≡ back rest nodes (atEnd nodes (c .above))
+  unfolding back
+  back-up n rest c e =
+      let z : c .left - c .left ≡ 0 = omega arith in
+      back-more (c .left) (suc rest) n c (omega arith)
+      ∙ ap (back (suc rest) nodes) (back-in (c .left) c (le-refl (c .left)))
+      ∙ ap (back rest nodes) (step-up nodes (withLeft c (c .left - c .left)) z)
+
+  module _ (strings : List ℕ) where
+    pub read-length : (n : ℕ) (c : Cursor) → length (readBack n nodes strings c) ≡ n
+    unfolding readBack
+    read-length zero c = refl
+    read-length (suc n) c = length-append (readBack n nodes strings (stepBack nodes c)) (lastByte strings c ∷ []) ∙ omega (arith, read-length n (stepBack nodes c))
+
+    -- what is left after the last bytes
+    pub read-front : (n m k : ℕ) (c : Cursor) → k ≡ n + m → take m (readBack k nodes strings c) ≡ readBack m nodes strings (back n nodes c)
+    unfolding readBack back
+    read-front zero m k c e =
+        let p : k ≡ m = omega arith in
+        rw p (take-all m (readBack m nodes strings c) (omega (arith, read-length m c)))
+    read-front (suc n) m zero c e = absurd (omega arith)
+    read-front (suc n) m (suc k) c e =
+        take-append-le m (readBack k nodes strings (stepBack nodes c)) (lastByte strings c ∷ []) (omega (arith, read-length k (stepBack nodes c)))
+        ∙ read-front n m k (stepBack nodes c) (omega arith)
+
+    -- one byte
+    pub read-one : (left n : ℕ) (c : Cursor) → n ≡ left + 1 → readBack n nodes strings c ≡ readBack left nodes strings (stepBack nodes c) ++ (lastByte strings c ∷ [])
+    unfolding readBack
+    read-one left n c e = rw (e, add-one)
+
+    -- below one node what is left is one text
+    pub read-alike : (n : ℕ) (c d : Cursor) → c .left ≡ 0 → d .left ≡ 0 → c .above ≡ d .above → readBack n nodes strings c ≡ readBack n nodes strings d
+    unfolding readBack lastByte
+    read-alike zero c d p q r = refl
+    read-alike (suc n) c d p q r = rw (step-up nodes c p, step-up nodes d q, r, p, q)
+
+    -- a piece, with m bytes before it
+    pub piece-read : (p : List ℕ) (n m k : ℕ) (c : Cursor) → c .left ≡ n → n ≤ length p → ((i : ℕ) → i < n → pieceByte strings c i ≡ getD p i 0) → k ≡ m + n
+        → readBack k nodes strings c ≡ readBack m nodes strings (withLeft c 0) ++ take n p
+    piece-read p zero m k c l h bytes e =
+        let q : k ≡ m = omega arith in
+        rw q (ap (λ (d : Cursor). readBack m nodes strings d) (ap (withLeft c) l) ∙ sym (append-nil (readBack m nodes strings (withLeft c 0))))
+    piece-read p (suc n) m zero c l h bytes e = absurd (omega arith)
+    piece-read p (suc n) m (suc k) c l h bytes e =
+        let front = readBack m nodes strings (withLeft c 0) in
+        read-one k (suc k) c (omega arith)
+        ∙ rw (step-in nodes c n l, byte-in strings c n l ∙ bytes n (omega arith), piece-read p n m k (withLeft c n) refl (omega arith) (λ i g. bytes i (omega arith)) (omega arith))
+        (append-assoc front (take n p) (getD p n 0 ∷ []) ∙ ap (λ (t : List ℕ). front ++ t) (sym (take-suc p n 0 (omega arith))))
+
+    -- the last of n bytes is written, the others are left
+    pub read-put : (left n b : ℕ) (c : Cursor) (out : List ℕ) → n ≡ left + 1 → left < length out → b ≡ lastByte strings c
+        → readBack n nodes strings c ++ drop n out ≡ readBack left nodes strings (stepBack nodes c) ++ drop left (set out left b)
+    read-put left n b c out e h q =
+        rw (read-one left n c e, e, add-one, append-assoc, ← q)
+        (ap (λ (l : List ℕ). readBack left nodes strings (stepBack nodes c) ++ l) (sym placed))
+      where
+        placed : drop left (set out left b) ≡ b ∷ drop (suc left) out
+        placed =
+            drop-cons (set out left b) left 0 (lt-length-set out left b h)
+            ∙ rw (getD-set-same out left b 0 h, drop-set-lt (suc left) out left b (le-refl (suc left)))
+
+    -- all are written
+    pub read-none : (n : ℕ) (c : Cursor) (out : List ℕ) → n ≡ 0 → readBack n nodes strings c ++ drop n out ≡ out
+    unfolding readBack
+    read-none n c out e = rw e

@@ -1,0 +1,57 @@
+-- Cursors and lengths by the words that were read for them.
+use Prim.Native.Nat.{ℕ, _+_, _≤_, _<_}
+use mathlib.Core.Path.{_≡_, sym, ap, _∙_}
+use mathlib.Core.List.{List}
+use mathlib.Core.Bool.{Bool, true, false}
+use lib.ListN.{length, getD}
+use borrow.Author.Tests.{lt-ltb, le-ltb}
+use Rattle.texts.specs.Decimal.{decimal}
+use Rattle.image.specs.Sections.{textOrEmpty}
+use Rattle.index.specs.Paths.{noName}
+use Rattle.write_text_keys.specs.declared.Cursor.{Cursor}
+use Rattle.write_text_keys.specs.Keys.{wordOf, pieceLength, atEnd, nodeOf, longOf, keyLength, endOf}
+
+-- ---- a node's piece, where b says whether it has no name
+
+module _ (nodes : List ℕ) (x offset len : ℕ) (b : Bool) (o : offset ≡ wordOf nodes x 3) (l : len ≡ wordOf nodes x 4) (p : b ≡ noName offset len) where
+  read : noName (wordOf nodes x 3) (wordOf nodes x 4) ≡ b
+  read = rw (← o, ← l) (sym p)
+
+  pub piece-unnamed : (place r : ℕ) → place ≡ wordOf nodes x 1 → r ≡ length (decimal place) → b ≡ true → r ≡ pieceLength nodes x
+  unfolding pieceLength
+  piece-unnamed place r e q t = rw (read ∙ t) (q ∙ ap (λ (n : ℕ). length (decimal n)) e)
+
+  pub piece-named : b ≡ false → len ≡ pieceLength nodes x
+  unfolding pieceLength
+  piece-named t = rw (read ∙ t) l
+
+  module _ (left above : ℕ) (s : left ≡ pieceLength nodes x) (u : above ≡ wordOf nodes x 0) where
+    pub end-unnamed : (place : ℕ) → place ≡ wordOf nodes x 1 → b ≡ true → record { named = false; at = place; left = left; above = above } ≡ atEnd nodes x
+    unfolding atEnd
+    end-unnamed place e t = rw (read ∙ t) (cc)
+
+    pub end-named : b ≡ false → record { named = true; at = offset; left = left; above = above } ≡ atEnd nodes x
+    unfolding atEnd
+    end-named t = rw (read ∙ t) (cc)
+
+-- ---- a use
+
+module _ (texts a : ℕ) (tab : List ℕ) where
+  pub end-text : (nodes : List ℕ) (paths at left : ℕ) → a < texts → at ≡ getD tab (a + a) 0 → left ≡ getD tab (a + a + 1) 0
+      → record { named = true; at = at; left = left; above = 0 } ≡ endOf nodes texts paths tab a
+  unfolding endOf
+  end-text nodes paths at left h e l = rw (lt-ltb a texts h) (cc)
+
+  pub end-path : (nodes : List ℕ) (paths x : ℕ) (c : Cursor) → texts ≤ a → x ≡ nodeOf texts paths tab a → c ≡ atEnd nodes x → c ≡ endOf nodes texts paths tab a
+  unfolding endOf
+  end-path nodes paths x c h e q = rw (le-ltb a texts h, ← e) q
+
+  pub length-text : (strings text : List ℕ) (paths lengths : ℕ) → a < texts → text ≡ textOrEmpty strings (getD tab (a + a) 0) (getD tab (a + a + 1) 0)
+      → length text ≡ keyLength strings texts paths lengths tab a
+  unfolding keyLength
+  length-text strings text paths lengths h e = rw (lt-ltb a texts h) (ap length e)
+
+  pub length-path : (strings : List ℕ) (paths lengths x n : ℕ) → texts ≤ a → x ≡ nodeOf texts paths tab a → n ≡ longOf lengths tab x
+      → n ≡ keyLength strings texts paths lengths tab a
+  unfolding keyLength
+  length-path strings paths lengths x n h e q = rw (le-ltb a texts h, ← e) q

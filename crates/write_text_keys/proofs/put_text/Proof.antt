@@ -1,0 +1,61 @@
+-- `write_text_keys::put_text` meets its contract. The invariant: the first i bytes are written.
+use borrow.Author.Needs.{needs}
+use native.Mathlib.Omega.{arith}
+use Prim.Native.Nat.{_≤_, _-_}
+use mathlib.Core.Path.{_≡_, refl}
+use mathlib.Core.List.{_++_}
+use lib.ListN.{length, take, drop, length-set}
+use Rattle.write_text_keys.proofs.Copies.{copy-more, copy-end}
+use Rattle.write_text_keys.proofs.put_text.Statement.{statement}
+use Rattle.write_text_keys.proofs.put_text.Tie as tie
+
+abbrev Inv-loop : tie.InvT-loop
+Inv-loop text out₀ i₀ out i = (i ≤ length text) × (length out ≡ length out₀) × (out ≡ take i text ++ drop i out₀)
+
+abbrev μ-loop : tie.MeasureT-loop
+μ-loop text out₀ i₀ out i = length text - i
+
+loop-holds : tie.Need-loop-holds Inv-loop μ-loop
+loop-holds c = (omega arith, refl, refl)
+
+shared-slice-read-out : tie.Need-shared-slice-read-out Inv-loop μ-loop
+shared-slice-read-out c = search needs
+
+slice-write-out : tie.Need-slice-write-out Inv-loop μ-loop
+slice-write-out c = search needs
+
+add-i : tie.Need-add-i Inv-loop μ-loop
+add-i c = search needs
+
+loop-less : tie.Need-loop-less Inv-loop μ-loop
+loop-less c = search needs
+
+loop-again : tie.Need-loop-again Inv-loop μ-loop
+loop-again c =
+    let at = c .before .before in
+    let to = at .before .args in
+    (omega arith, simp length-set (at .loop .inv .1), copy-more (at .loop .i) (to .text .now) (to .out .now) (at .loop .out) (omega arith) (omega arith) (at .loop .inv .2))
+
+same-length : tie.Need-same-length Inv-loop μ-loop
+same-length c = search needs
+
+returns : tie.Need-returns Inv-loop μ-loop
+returns c =
+    let at = c .before in
+    let to = at .before .args in
+    copy-end (at .loop .i) (to .text .now) (to .out .now) (at .loop .out) (omega arith) (at .loop .inv .2)
+
+pub put-text-spec : {M : Type 1} → statement M
+put-text-spec =
+    tie.close
+    (tie.spec
+    Inv-loop
+    μ-loop
+    loop-holds
+    shared-slice-read-out
+    slice-write-out
+    add-i
+    loop-less
+    loop-again
+    same-length
+    returns)

@@ -1,0 +1,128 @@
+-- The texts ('keys') of the uses that a writer numbers: first texts of the draft's strings, then canonical paths of containers. A path stands
+-- nowhere as bytes: it is read from its end, piece by piece up the parents. Every read is total: past the end of a list it gives 0.
+use Prim.Native.Nat.{ℕ, zero, suc, _+_, _-_, _*_, _^_, _≤_}
+use mathlib.Core.List.{List, [], _∷_, _++_}
+use mathlib.Core.Bool.{Bool, true, false, cond, not, _&&_}
+use lib.ListN.{length, getD, drop}
+use lib.Dec.{eqb, ltb}
+use Rattle.texts.specs.Decimal.{decimal, decimals}
+use Rattle.texts.specs.Dots.{dot}
+use Rattle.image.specs.Header.{nodeWords}
+use Rattle.image.specs.Sections.{textOrEmpty, sections}
+use Rattle.index.specs.Paths.{noName}
+use Rattle.write_text_keys.specs.declared.Cursor.{Cursor}
+use Rattle.write_text_keys.specs.declared.Tables.{Tables}
+
+-- ---- pieces of a path
+
+-- word k of node x
+abbrev pub wordOf : List ℕ → ℕ → ℕ → ℕ
+wordOf nodes x k = getD nodes (x * nodeWords + k) 0
+
+abbrev pub unnamed : List ℕ → ℕ → Bool
+unnamed nodes x = noName (wordOf nodes x 3) (wordOf nodes x 4)
+
+-- how long node x's piece is: its non-empty name, else its place in decimal
+unfoldable pub pieceLength : List ℕ → ℕ → ℕ
+pieceLength nodes x = cond (unnamed nodes x) (length (decimal (wordOf nodes x 1))) (wordOf nodes x 4)
+
+-- ---- reading backward
+
+-- at the end of node x's piece: a name's offset, or a place, with the length, and the node above
+unfoldable pub atEnd : List ℕ → ℕ → Cursor
+atEnd nodes x =
+    record {
+      named = not (unnamed nodes x);
+      at = cond (unnamed nodes x) (wordOf nodes x 1) (wordOf nodes x 3);
+      left = pieceLength nodes x;
+      above = wordOf nodes x 0;
+    }
+
+-- byte i of a cursor's piece
+abbrev pub pieceByte : List ℕ → Cursor → ℕ → ℕ
+pieceByte strings c i = cond (c .named) (getD strings (c .at + i) 0) (getD (decimal (c .at)) i 0)
+
+-- the byte before a cursor: of its piece, or the dot before the piece
+unfoldable pub lastByte : List ℕ → Cursor → ℕ
+lastByte strings c = cond (eqb (c .left) 0) dot (pieceByte strings c (c .left - 1))
+
+-- the cursor before that byte; before a dot stands the whole piece of the node above
+unfoldable pub stepBack : List ℕ → Cursor → Cursor
+stepBack nodes c =
+    cond (eqb (c .left) 0) (atEnd nodes (c .above))
+    (record { named = c .named; at = c .at; left = c .left - 1; above = c .above })
+
+-- as many bytes as the first argument says, before a cursor
+unfoldable pub readBack : ℕ → List ℕ → List ℕ → Cursor → List ℕ
+readBack zero nodes strings c = []
+readBack (suc n) nodes strings c = readBack n nodes strings (stepBack nodes c) ++ (lastByte strings c ∷ [])
+
+-- the cursor that many bytes back
+unfoldable pub back : ℕ → List ℕ → Cursor → Cursor
+back zero nodes c = c
+back (suc n) nodes c = back n nodes (stepBack nodes c)
+
+-- ---- two texts of one length, the first difference of which decides, else what follows them
+
+unfoldable pub decided : List ℕ → List ℕ → Bool → Bool
+decided [] ys later = later
+decided (x ∷ xs) [] later = later
+decided (x ∷ xs) (y ∷ ys) later = let r = decided xs ys later in cond (ltb x y) true (cond (ltb y x) false r)
+
+-- what is left is one text: both cursors stand at the beginning of pieces below one node
+abbrev pub alike : Cursor → Cursor → Bool
+alike c d = eqb (c .left) 0 && eqb (d .left) 0 && eqb (c .above) (d .above)
+
+-- ---- uses
+
+-- the node whose path is use a
+abbrev pub nodeOf : ℕ → ℕ → List ℕ → ℕ → ℕ
+nodeOf texts paths tab a = getD tab (paths + (a - texts)) 0
+
+-- the length of node x's path: low and high 32 bits
+abbrev pub longOf : ℕ → List ℕ → ℕ → ℕ
+longOf lengths tab x = getD tab (lengths + x + x) 0 + 2 ^ 32 * getD tab (lengths + x + x + 1) 0
+
+-- the text of use a, by the tables of uses
+unfoldable pub keyOf : List ℕ → List ℕ → ℕ → ℕ → ℕ → List ℕ → ℕ → List ℕ
+keyOf nodes strings texts paths lengths tab a =
+    cond (ltb a texts) (textOrEmpty strings (getD tab (a + a) 0) (getD tab (a + a + 1) 0))
+    (readBack (longOf lengths tab (nodeOf texts paths tab a)) nodes strings (atEnd nodes (nodeOf texts paths tab a)))
+
+-- how long that text is
+unfoldable pub keyLength : List ℕ → ℕ → ℕ → ℕ → List ℕ → ℕ → ℕ
+keyLength strings texts paths lengths tab a =
+    cond (ltb a texts) (length (textOrEmpty strings (getD tab (a + a) 0) (getD tab (a + a + 1) 0))) (longOf lengths tab (nodeOf texts paths tab a))
+
+-- the cursor at its end: a text is one name, with nothing above that is ever read
+unfoldable pub endOf : List ℕ → ℕ → ℕ → List ℕ → ℕ → Cursor
+endOf nodes texts paths tab a =
+    cond (ltb a texts) (record { named = true; at = getD tab (a + a) 0; left = getD tab (a + a + 1) 0; above = 0 })
+    (atEnd nodes (nodeOf texts paths tab a))
+
+-- the text by the place of the tables in the work words
+abbrev pub keyIn : List ℕ → List ℕ → Tables → List ℕ → ℕ → List ℕ
+keyIn nodes strings t w a = keyOf nodes strings (t .texts) (t .paths) (t .lengths) (drop (t .at) w) a
+
+-- the tables begin within so many work words
+abbrev pub Placed : Tables → ℕ → Type 0
+Placed t n = (t .at + t .paths ≤ n) × (t .at + t .lengths ≤ n)
+
+-- ---- the length of a path by words alone
+
+-- joined by a dot, below the root without one
+abbrev pub joinedLength : ℕ → ℕ → ℕ → ℕ
+joinedLength zero front last = last
+joinedLength (suc parent) front last = front + (1 + last)
+
+-- the first argument bounds the steps up to the root
+unfoldable pub lengthFrom : ℕ → List ℕ → ℕ → ℕ
+lengthFrom zero nodes x = 0
+lengthFrom (suc n) nodes x =
+    let front = lengthFrom n nodes (wordOf nodes x 0) in
+    cond (eqb x 0) 0 (joinedLength (wordOf nodes x 0) front (pieceLength nodes x))
+
+-- names on an `unfolding` line what a computation with this module needs
+unfoldable pub keyed : Unit {0}
+unfolding pieceLength atEnd lastByte stepBack readBack back decided keyOf keyLength endOf lengthFrom sections decimals
+keyed = tt

@@ -1,0 +1,389 @@
+// The texts of the uses that the writer numbers: how they are compared, measured and written. A use is a text of the draft's strings, or
+// the canonical path of a container, which is read from its end and is never built.
+ghost use mathlib.Core.Path.{_≡_};
+ghost use mathlib.Core.List.{List, _++_};
+ghost use mathlib.Core.Bool.{true, false, cond};
+ghost use Prim.Native.Nat.{ℕ, _+_, _≤_, _<_};
+ghost use lib.Dec.{ltb};
+ghost use lib.ListN.{length, getD, drop};
+ghost use Rattle.texts.specs.Text.{before};
+ghost use Rattle.texts.specs.Decimal.{decimal};
+ghost use Rattle.image.specs.Sections.{textOrEmpty};
+ghost use Rattle.index.specs.Paths.{noName};
+ghost use Rattle.write_text_keys.specs.Keys.{wordOf, pieceLength, atEnd, lastByte, stepBack, readBack, back, decided, alike, nodeOf, longOf, keyOf, keyLength, endOf, keyIn, Placed, lengthFrom};
+use draft::source;
+use texts::Order;
+
+// Where the tables of uses lie in the work words: all of them from word `at` on, and in them from their start on two words for each text
+// (offset and length), from `paths` on a node for each path, and from `lengths` on two words for each node (length of its path, low first).
+pub struct Tables {
+    pub at: usize,
+    pub texts: usize,
+    pub paths: usize,
+    pub lengths: usize,
+}
+
+// Where a text is read backward: a piece of it is a name at an offset of the strings, or a place. So many bytes of the piece are left,
+// and before them a dot and the piece of the node above.
+struct Cursor {
+    named: bool,
+    at: u32,
+    left: u32,
+    above: u32,
+}
+
+// Word `k` of node `x`; past the last one its words are 0.
+fn node_word(nodes: &[u32], x: u32, k: usize) -> u32
+    requires { ⌜ k < 10 ⌝ }
+    ensures { λ r. ⌜ r ≡ wordOf (now (nodes .entry)) x k ⌝ }
+{
+    source::word(nodes, (x as usize) * 10 + k)
+}
+
+// Whether there is no name, or the empty one.
+fn no_name(offset: u32, len: u32) -> bool
+    ensures { λ r. ⌜ r ≡ noName offset len ⌝ }
+{
+    if len == 0 {
+        return true;
+    }
+    if len == image::NONE {
+        offset == image::NONE
+    } else {
+        false
+    }
+}
+
+// The number of digits of a place.
+fn digit_count(place: u32) -> u32
+    ensures { λ r. ⌜ r ≡ length (decimal place) ⌝ }
+{
+    texts::decimal_len(place) as u32
+}
+
+// How long node `x`'s piece of a path is.
+fn piece_length(nodes: &[u32], x: u32) -> u32
+    ensures { λ r. ⌜ r ≡ pieceLength (now (nodes .entry)) x ⌝ }
+{
+    let len = node_word(nodes, x, 4);
+    if no_name(node_word(nodes, x, 3), len) {
+        return digit_count(node_word(nodes, x, 1));
+    }
+    len
+}
+
+// The cursor at the end of node `x`'s piece.
+fn at_end(nodes: &[u32], x: u32) -> Cursor
+    ensures { λ r. ⌜ r ≡ atEnd (now (nodes .entry)) x ⌝ }
+{
+    let above = node_word(nodes, x, 0);
+    let offset = node_word(nodes, x, 3);
+    let left = piece_length(nodes, x);
+    if no_name(offset, node_word(nodes, x, 4)) {
+        let place = node_word(nodes, x, 1);
+        return Cursor {
+            named: false,
+            at: place,
+            left,
+            above,
+        };
+    }
+    Cursor {
+        named: true,
+        at: offset,
+        left,
+        above,
+    }
+}
+
+// Byte `i` of the strings: 0 past the end.
+fn byte_at(strings: &[u8], i: usize) -> u8
+    ensures { λ r. ⌜ r ≡ getD (now (strings .entry)) i 0 ⌝ }
+{
+    if i < strings.len() { strings[i] } else { 0 }
+}
+
+// Byte `i` of a number in decimal: 0 past the end.
+fn digit_at(n: u32, i: usize) -> u8
+    ensures { λ r. ⌜ r ≡ getD (decimal n) i 0 ⌝ }
+{
+    let mut size = texts::decimal_len(n);
+    if size <= i {
+        return 0;
+    }
+    let mut rest = n;
+    while i + 1 < size {
+        rest = rest / 10;
+        size -= 1;
+    }
+    (48 + rest % 10) as u8
+}
+
+// The byte before a cursor.
+fn last_byte(strings: &[u8], c: Cursor) -> u8
+    ensures { λ r. ⌜ r ≡ lastByte (now (strings .entry)) c ⌝ }
+{
+    if c.left == 0 {
+        return b'.';
+    }
+    let i = (c.left - 1) as usize;
+    if c.named {
+        return byte_at(strings, c.at as usize + i);
+    }
+    digit_at(c.at, i)
+}
+
+// The cursor before that byte.
+fn step_back(nodes: &[u32], c: Cursor) -> Cursor
+    ensures { λ r. ⌜ r ≡ stepBack (now (nodes .entry)) c ⌝ }
+{
+    if c.left == 0 {
+        return at_end(nodes, c.above);
+    }
+    Cursor {
+        named: c.named,
+        at: c.at,
+        left: c.left - 1,
+        above: c.above,
+    }
+}
+
+// The cursor `count` bytes before another. A whole piece is passed in one step.
+fn skip(nodes: &[u32], c: Cursor, count: usize) -> Cursor
+    ensures { λ r. ⌜ r ≡ back count (now (nodes .entry)) c ⌝ }
+{
+    let mut x = c;
+    let mut rest = count;
+    while (x.left as usize) < rest {
+        rest -= x.left as usize + 1;
+        x = at_end(nodes, x.above);
+    }
+    Cursor {
+        named: x.named,
+        at: x.at,
+        left: x.left - rest as u32,
+        above: x.above,
+    }
+}
+
+// Whether what is left before both cursors is one text, since one node is above both.
+fn rest_alike(c: Cursor, d: Cursor) -> bool
+    ensures { λ r. ⌜ r ≡ alike c d ⌝ }
+{
+    if c.left != 0 {
+        return false;
+    }
+    if d.left != 0 {
+        return false;
+    }
+    c.above == d.above
+}
+
+// Whether a text comes before another: their bytes here decide, else the bytes behind them have.
+fn decide(x: u8, y: u8, later: bool) -> bool
+    ensures { λ r. ⌜ r ≡ cond (ltb x y) true (cond (ltb y x) false later) ⌝ }
+{
+    if x < y {
+        return true;
+    }
+    if y < x {
+        return false;
+    }
+    later
+}
+
+// Whether the `n` bytes before `c` come before the `n` bytes before `d`; where they are alike, `later` says it of what is behind them.
+fn read_below(nodes: &[u32], strings: &[u8], c: Cursor, d: Cursor, n: usize, later: bool) -> bool
+    ensures { λ r. ⌜ r ≡ decided (readBack n (now (nodes .entry)) (now (strings .entry)) c) (readBack n (now (nodes .entry)) (now (strings .entry)) d) later ⌝ }
+{
+    let mut x = c;
+    let mut y = d;
+    let mut left = n;
+    let mut less = later;
+    while 0 < left {
+        if rest_alike(x, y) {
+            return less;
+        }
+        less = decide(last_byte(strings, x), last_byte(strings, y), less);
+        x = step_back(nodes, x);
+        y = step_back(nodes, y);
+        left -= 1;
+    }
+    less
+}
+
+// The bytes of text use `a`.
+fn text_of<'s, 't>(strings: &'s [u8], tab: &'t [u32], a: u32) -> &'s [u8]
+    ensures { λ r. ⌜ now r ≡ textOrEmpty (now (strings .entry)) (getD (now (tab .entry)) (a + a) 0) (getD (now (tab .entry)) (a + a + 1) 0) ⌝ }
+{
+    let i = a as usize + a as usize;
+    image::text_part(strings, source::word(tab, i), source::word(tab, i + 1))
+}
+
+// The node whose path is use `a`.
+fn node_of(tab: &[u32], t: Tables, a: u32) -> u32
+    requires { ⌜ (t .texts ≤ a) × (t .paths ≤ length (now tab)) ⌝ }
+    ensures { λ r. ⌜ r ≡ nodeOf (t .texts) (t .paths) (now (tab .entry)) a ⌝ }
+{
+    source::word(tab, t.paths + (a as usize - t.texts))
+}
+
+// The length of node `x`'s path.
+fn long_of(tab: &[u32], lengths: usize, x: u32) -> usize
+    requires { ⌜ lengths ≤ length (now tab) ⌝ }
+    ensures { λ r. ⌜ r ≡ longOf lengths (now (tab .entry)) x ⌝ }
+{
+    let i = lengths + x as usize + x as usize;
+    let low = source::word(tab, i) as usize;
+    let high = source::word(tab, i + 1) as usize;
+    low + 4294967296 * high
+}
+
+// The length of the text of use `a`.
+fn length_of(strings: &[u8], tab: &[u32], t: Tables, a: u32) -> usize
+    requires { ⌜ (t .paths ≤ length (now tab)) × (t .lengths ≤ length (now tab)) ⌝ }
+    ensures { λ r. ⌜ r ≡ keyLength (now (strings .entry)) (t .texts) (t .paths) (t .lengths) (now (tab .entry)) a ⌝ }
+{
+    if (a as usize) < t.texts {
+        return text_of(strings, tab, a).len();
+    }
+    long_of(tab, t.lengths, node_of(tab, t, a))
+}
+
+// The cursor at the end of the text of use `a`.
+fn end_of(nodes: &[u32], tab: &[u32], t: Tables, a: u32) -> Cursor
+    requires { ⌜ t .paths ≤ length (now tab) ⌝ }
+    ensures { λ r. ⌜ r ≡ endOf (now (nodes .entry)) (t .texts) (t .paths) (now (tab .entry)) a ⌝ }
+{
+    if (a as usize) < t.texts {
+        let i = a as usize + a as usize;
+        return Cursor {
+            named: true,
+            at: source::word(tab, i),
+            left: source::word(tab, i + 1),
+            above: 0,
+        };
+    }
+    at_end(nodes, node_of(tab, t, a))
+}
+
+// Whether the text of text use `a` comes before that of text use `b`.
+fn texts_below(strings: &[u8], tab: &[u32], a: u32, b: u32) -> bool
+    ensures { λ r. ⌜ r ≡ before (textOrEmpty (now (strings .entry)) (getD (now (tab .entry)) (a + a) 0) (getD (now (tab .entry)) (a + a + 1) 0)) (textOrEmpty (now (strings .entry)) (getD (now (tab .entry)) (b + b) 0) (getD (now (tab .entry)) (b + b + 1) 0)) ⌝ }
+{
+    let order = texts::compare(text_of(strings, tab, a), text_of(strings, tab, b));
+    match order {
+        Order::Less => true,
+        Order::Equal => false,
+        Order::Greater => false,
+    }
+}
+
+// Whether the text of use `a` comes before that of use `b`, by cursors: the longer one's surplus is passed, then both are read backward.
+fn ends_below(nodes: &[u32], strings: &[u8], tab: &[u32], t: Tables, a: u32, b: u32) -> bool
+    requires { ⌜ (t .paths ≤ length (now tab)) × (t .lengths ≤ length (now tab)) ⌝ }
+    ensures { λ r. ⌜ r ≡ before (keyOf (now (nodes .entry)) (now (strings .entry)) (t .texts) (t .paths) (t .lengths) (now (tab .entry)) a) (keyOf (now (nodes .entry)) (now (strings .entry)) (t .texts) (t .paths) (t .lengths) (now (tab .entry)) b) ⌝ }
+{
+    let m = length_of(strings, tab, t, a);
+    let n = length_of(strings, tab, t, b);
+    let c = end_of(nodes, tab, t, a);
+    let d = end_of(nodes, tab, t, b);
+    if m < n {
+        return read_below(nodes, strings, c, skip(nodes, d, n - m), m, true);
+    }
+    read_below(nodes, strings, skip(nodes, c, m - n), d, n, false)
+}
+
+// Whether the text of use `a` comes before that of use `b`.
+pub fn below(nodes: &[u32], strings: &[u8], w: &[u32], t: Tables, a: u32, b: u32) -> bool
+    requires { ⌜ Placed t (length (now w)) ⌝ }
+    ensures { λ r. ⌜ r ≡ before (keyIn (now (nodes .entry)) (now (strings .entry)) t (now (w .entry)) a) (keyIn (now (nodes .entry)) (now (strings .entry)) t (now (w .entry)) b) ⌝ }
+{
+    let at = t.at;
+    let tab = &w[at..];
+    if (a as usize) < t.texts {
+        if (b as usize) < t.texts {
+            return texts_below(strings, tab, a, b);
+        }
+    }
+    ends_below(nodes, strings, tab, t, a, b)
+}
+
+// The length of the text of use `a`; the nodes' words do not bear on it.
+pub fn key_length(strings: &[u8], w: &[u32], t: Tables, a: u32) -> usize
+    requires { ⌜ Placed t (length (now w)) ⌝ }
+    ensures { λ r. ⌜ ((nodes : List ℕ) → r ≡ length (keyIn nodes (now (strings .entry)) t (now (w .entry)) a)) ⌝ }
+{
+    let at = t.at;
+    length_of(strings, &w[at..], t, a)
+}
+
+// Writes a text at the front of the output.
+fn put_text(text: &[u8], out: &mut [u8])
+    requires { ⌜ length (now text) ≤ length (now out) ⌝ }
+    ensures { λ r. ⌜ now (out .exit) ≡ now (text .entry) ++ drop (length (now (text .entry))) (now (out .entry)) ⌝ }
+{
+    let mut i = 0;
+    while i < text.len() {
+        out[i] = text[i];
+        i += 1;
+    }
+}
+
+// Writes the `n` bytes before a cursor at the front of the output, the last one first.
+fn put_read(nodes: &[u32], strings: &[u8], c: Cursor, n: usize, out: &mut [u8])
+    requires { ⌜ n ≤ length (now out) ⌝ }
+    ensures { λ r. ⌜ now (out .exit) ≡ readBack n (now (nodes .entry)) (now (strings .entry)) c ++ drop n (now (out .entry)) ⌝ }
+{
+    let mut x = c;
+    let mut left = n;
+    while 0 < left {
+        left -= 1;
+        out[left] = last_byte(strings, x);
+        x = step_back(nodes, x);
+    }
+}
+
+// Writes the text of use `a` at the front of the output.
+pub fn put_key(nodes: &[u32], strings: &[u8], w: &[u32], t: Tables, a: u32, out: &mut [u8])
+    requires { ⌜ Placed t (length (now w)) × (length (keyIn (now nodes) (now strings) t (now w) a) ≤ length (now out)) ⌝ }
+    ensures { λ r. ⌜ now (out .exit) ≡ keyIn (now (nodes .entry)) (now (strings .entry)) t (now (w .entry)) a ++ drop (length (keyIn (now (nodes .entry)) (now (strings .entry)) t (now (w .entry)) a)) (now (out .entry)) ⌝ }
+{
+    let at = t.at;
+    let tab = &w[at..];
+    if (a as usize) < t.texts {
+        put_text(text_of(strings, tab, a), out);
+        return;
+    }
+    let x = node_of(tab, t, a);
+    put_read(
+        nodes,
+        strings,
+        at_end(nodes, x),
+        long_of(tab, t.lengths, x),
+        out,
+    );
+}
+
+// The length of the canonical path of node `x`, by at most so many steps up to the root.
+pub fn path_length(nodes: &[u32], x: u32, steps: usize) -> usize
+    requires { ⌜ steps ≤ 4294967295 ⌝ }
+    ensures { λ r. ⌜ r ≡ lengthFrom steps (now (nodes .entry)) x ⌝ }
+{
+    let mut at = x;
+    let mut left = steps;
+    let mut sum: usize = 0;
+    while 0 < left {
+        if at == 0 {
+            return sum;
+        }
+        sum += piece_length(nodes, at) as usize;
+        at = node_word(nodes, at, 0);
+        if at == 0 {
+            return sum;
+        }
+        sum += 1;
+        left -= 1;
+    }
+    sum
+}

@@ -1,0 +1,9 @@
+pub mod Pairs
+pub mod Puts
+pub mod DraftReads
+pub mod Nodes
+pub mod AllUses
+pub mod Fits
+pub mod Sums
+pub mod Bounds
+pub mod Room

@@ -1,0 +1,67 @@
+-- `write_text_uses::put_list_item` meets its contract.
+use Rattle.write_text_uses.proofs.Puts.{first-room, second-room, two-put}
+use Rattle.write_text_uses.proofs.DraftReads.{item-is}
+use borrow.Author.Needs.{needs}
+use Rattle.write_text_uses.proofs.put_list_item.Statement.{statement}
+use Rattle.write_text_uses.proofs.put_list_item.Tie as tie
+
+mul-item : tie.Need-mul-item
+mul-item c = search needs
+
+add-item : tie.Need-add-item
+add-item c = search needs
+
+add-item-2 : tie.Need-add-item-2
+add-item-2 c = search needs
+
+word-requires : tie.Need-word-requires
+word-requires c κs = search needs
+
+add-word : tie.Need-add-word
+add-word c = search needs
+
+word-requires-2 : tie.Need-word-requires-2
+word-requires-2 c κs = search needs
+
+add-word-2 : tie.Need-add-word-2
+add-word-2 c = search needs
+
+word-requires-3 : tie.Need-word-requires-3
+word-requires-3 c κs = search needs
+
+add-word-3 : tie.Need-add-word-3
+add-word-3 c = search needs
+
+word-requires-4 : tie.Need-word-requires-4
+word-requires-4 c κs = search needs
+
+put-optional-requires : tie.Need-put-optional-requires
+put-optional-requires c κs = first-room _ _ _ _ _ (item-is _ _ _ _ _ _ _ (c .before .before .before .before .word .ensures) (c .before .before .before .word2 .ensures) (c .before .before .word3 .ensures) (c .before .word4 .ensures)) (c .before .before .before .before .before .before .before .pre .1)
+
+put-use-requires : tie.Need-put-use-requires
+put-use-requires c κs = second-room _ _ _ _ _ (item-is _ _ _ _ _ _ _ (c .before .before .before .before .before .before .before .before .word .ensures) (c .before .before .before .before .before .before .before .word2 .ensures) (c .before .before .before .before .before .before .word3 .ensures) (c .before .before .before .before .before .word4 .ensures)) (c .before .before .before .before .before .before .before .before .before .before .before .pre .1) _ _ (c .before .before .before .put-optional .ensures)
+
+same-length : tie.Need-same-length
+same-length c = search needs
+
+returns : tie.Need-returns
+returns c = two-put _ _ _ _ _ (item-is _ _ _ _ _ _ _ (c .before .before .before .before .before .before .before .before .before .before .before .word .ensures) (c .before .before .before .before .before .before .before .before .before .before .word2 .ensures) (c .before .before .before .before .before .before .before .before .before .word3 .ensures) (c .before .before .before .before .before .before .before .before .word4 .ensures)) (c .before .before .before .before .before .before .before .before .before .before .before .before .before .before .pre .1) _ _ (c .before .before .before .before .before .before .put-optional .ensures) _ _ (c .before .before .put-use .ensures)
+
+pub put-list-item-spec : {M : Type 1} → statement M
+put-list-item-spec =
+    tie.close
+    (tie.spec
+    mul-item
+    add-item
+    add-item-2
+    word-requires
+    add-word
+    word-requires-2
+    add-word-2
+    word-requires-3
+    add-word-3
+    word-requires-4
+    put-optional-requires
+    put-use-requires
+    same-length
+    returns)

@@ -1,0 +1,264 @@
+// The texts of a draft in the order of use, as words: two a use, its offset and its length.
+ghost use mathlib.Core.Path.{_≡_};
+ghost use mathlib.Core.List.{List, [], _∷_, _++_};
+ghost use Prim.Native.Nat.{ℕ, _+_, _*_, _/_, _≤_};
+ghost use lib.ListN.{length};
+ghost use Rattle.laws.specs.Counted.{joinOf};
+ghost use Rattle.image.specs.Sections.{absent, tagOf, f};
+ghost use Rattle.draft.specs.Source.{draftOf};
+ghost use Rattle.write_text_uses.specs.Uses.{useIf, listItemPairs, listPairs, nodePairs, namedPairs, definitionPairs, allNodePairs, allNamedPairs, allDefinitionPairs, originPairs, entryPairs, wordsFrom, Room, Put, payloadOnly, nodesOnly, namedOnly, definitionsOnly, ListInside, Olds, Readable, Collectable, Collected};
+use draft::source::definition_at;
+use draft::source::node_at;
+use draft::source::word;
+use image::NONE;
+
+// Whether both words of a text say that it is absent.
+fn is_absent(offset: u32, len: u32) -> bool
+    ensures { λ r. ⌜ r ≡ absent offset len ⌝ }
+{
+    if offset != NONE {
+        return false;
+    }
+    len == NONE
+}
+
+// Writes the words of one use, and says where the next ones go.
+fn put_use(w: &mut [u32], at: usize, offset: u32, len: u32) -> usize
+    requires { ⌜ Room (offset ∷ len ∷ []) (now w) at ⌝ }
+    ensures { λ r. ⌜ Put (offset ∷ len ∷ []) (now (w .entry)) at (now (w .exit)) r ⌝ }
+{
+    w[at] = offset;
+    w[at + 1] = len;
+    at + 2
+}
+
+// The same of a text that may be absent.
+fn put_optional(w: &mut [u32], at: usize, offset: u32, len: u32) -> usize
+    requires { ⌜ Room (useIf offset len) (now w) at ⌝ }
+    ensures { λ r. ⌜ Put (useIf offset len) (now (w .entry)) at (now (w .exit)) r ⌝ }
+{
+    if is_absent(offset, len) {
+        return at;
+    }
+    put_use(w, at, offset, len)
+}
+
+// Of item `j` of the list whose payload starts at `start`.
+fn put_list_item(payload: &[u8], start: usize, j: usize, w: &mut [u32], at: usize) -> usize
+    requires { ⌜ start + (8 + j * 20 + 20) ≤ length (now payload) ⌝ }
+    requires { ⌜ Room (listItemPairs (payloadOnly (now payload)) start j) (now w) at ⌝ }
+    ensures { λ r. ⌜ Put (listItemPairs (payloadOnly (now (payload .entry))) start j) (now (w .entry)) at (now (w .exit)) r ⌝ }
+{
+    let item = start + (8 + j * 20);
+    let origin = words::word(payload, item);
+    let origin_len = words::word(payload, item + 4);
+    let name = words::word(payload, item + 8);
+    let name_len = words::word(payload, item + 12);
+    let behind = put_optional(w, at, origin, origin_len);
+    put_use(w, behind, name, name_len)
+}
+
+// Of the items of a list.
+fn put_list_items(payload: &[u8], start: usize, count: usize, w: &mut [u32], at: usize) -> usize
+    requires { ⌜ start + (8 + count * 20) ≤ length (now payload) ⌝ }
+    requires { ⌜ Room (joinOf count (listItemPairs (payloadOnly (now payload)) start)) (now w) at ⌝ }
+    ensures { λ r. ⌜ Put (joinOf count (listItemPairs (payloadOnly (now (payload .entry))) start)) (now (w .entry)) at (now (w .exit)) r ⌝ }
+{
+    let mut k = at;
+    let mut j = 0;
+    while j < count {
+        k = put_list_item(payload, start, j, w, k);
+        j += 1;
+    }
+    k
+}
+
+// Of the origins of a list, the first of which lies at byte `first`.
+fn put_list_origins(payload: &[u8], first: usize, count: usize, w: &mut [u32], at: usize) -> usize
+    requires { ⌜ first + count * 8 ≤ length (now payload) ⌝ }
+    requires { ⌜ Room (joinOf count (originPairs (now payload) first)) (now w) at ⌝ }
+    ensures { λ r. ⌜ Put (joinOf count (originPairs (now (payload .entry)) first)) (now (w .entry)) at (now (w .exit)) r ⌝ }
+{
+    let mut k = at;
+    let mut j = 0;
+    while j < count {
+        let offset = words::word(payload, first + j * 8);
+        let len = words::word(payload, first + j * 8 + 4);
+        k = put_use(w, k, offset, len);
+        j += 1;
+    }
+    k
+}
+
+// Of the list whose payload starts at `start`.
+fn put_list(payload: &[u8], start: usize, w: &mut [u32], at: usize) -> usize
+    requires { ⌜ ListInside (payloadOnly (now payload)) start ⌝ }
+    requires { ⌜ Room (listPairs (payloadOnly (now payload)) start) (now w) at ⌝ }
+    ensures { λ r. ⌜ Put (listPairs (payloadOnly (now (payload .entry))) start) (now (w .entry)) at (now (w .exit)) r ⌝ }
+{
+    let items = words::word(payload, start) as usize;
+    let origins = words::word(payload, start + 4) as usize;
+    let behind = put_list_items(payload, start, items, w, at);
+    put_list_origins(payload, start + (8 + items * 20), origins, w, behind)
+}
+
+// Of a divert: its path and its variable, both of which may be absent.
+fn put_divert(w: &mut [u32], at: usize, path: u32, path_len: u32, name: u32, name_len: u32) -> usize
+    requires { ⌜ Room (useIf path «path_len» ++ useIf name «name_len») (now w) at ⌝ }
+    ensures { λ r. ⌜ Put (useIf path «path_len» ++ useIf name «name_len») (now (w .entry)) at (now (w .exit)) r ⌝ }
+{
+    let behind = put_optional(w, at, path, path_len);
+    put_optional(w, behind, name, name_len)
+}
+
+// Of a reference: its name, and its path, which may be absent.
+fn put_reference(
+    w: &mut [u32],
+    at: usize,
+    name: u32,
+    name_len: u32,
+    path: u32,
+    path_len: u32,
+) -> usize
+    requires { ⌜ Room ((name ∷ «name_len» ∷ []) ++ useIf path «path_len») (now w) at ⌝ }
+    ensures { λ r. ⌜ Put ((name ∷ «name_len» ∷ []) ++ useIf path «path_len») (now (w .entry)) at (now (w .exit)) r ⌝ }
+{
+    let behind = put_use(w, at, name, name_len);
+    put_optional(w, behind, path, path_len)
+}
+
+// Of node `i`, in field order.
+fn put_node(nodes: &[u32], i: usize, payload: &[u8], w: &mut [u32], at: usize) -> usize
+    requires { ⌜ i * 10 + 10 ≤ length (now nodes) ⌝ }
+    requires { ⌜ (tagOf (nodesOnly (now nodes) (now payload)) i ≡ 12 → ListInside (nodesOnly (now nodes) (now payload)) (f (nodesOnly (now nodes) (now payload)) i 0)) ⌝ }
+    requires { ⌜ Room (nodePairs (nodesOnly (now nodes) (now payload)) i) (now w) at ⌝ }
+    ensures { λ r. ⌜ Put (nodePairs (nodesOnly (now (nodes .entry)) (now (payload .entry))) i) (now (w .entry)) at (now (w .exit)) r ⌝ }
+{
+    let node = node_at(nodes, i);
+    let tag = node.tag;
+    match tag {
+        1 => put_optional(w, at, node.f0, node.f1),
+        2 => put_optional(w, at, node.f0, node.f1),
+        3 | 6 | 11 | 13 | 16 => put_use(w, at, node.f0, node.f1),
+        7 | 14 => put_use(w, at, node.f0, node.f1),
+        4 => put_divert(w, at, node.f0, node.f1, node.f3, node.f4),
+        12 => put_list(payload, node.f0 as usize, w, at),
+        17 => put_reference(w, at, node.f0, node.f1, node.f2, node.f3),
+        _ => at,
+    }
+}
+
+// Of all nodes, in the image's order: the words from `order` on are their numbers in the draft.
+fn put_nodes(nodes: &[u32], payload: &[u8], w: &mut [u32], order: usize, at: usize) -> usize
+    requires { ⌜ Readable (nodesOnly (now nodes) (now payload)) (wordsFrom (now w) order (length (now nodes) / 10)) ⌝ }
+    requires { ⌜ order + length (now nodes) / 10 ≤ length (now w) ⌝ }
+    requires { ⌜ at + length (allNodePairs (nodesOnly (now nodes) (now payload)) (wordsFrom (now w) order (length (now nodes) / 10))) ≤ order ⌝ }
+    ensures { λ r. ⌜ Put (allNodePairs (nodesOnly (now (nodes .entry)) (now (payload .entry))) (wordsFrom (now (w .entry)) order (length (now (nodes .entry)) / 10))) (now (w .entry)) at (now (w .exit)) r ⌝ }
+{
+    let count = nodes.len() / 10;
+    let mut k = at;
+    let mut j = 0;
+    while j < count {
+        let i = w[order + j] as usize;
+        k = put_node(nodes, i, payload, w, k);
+        j += 1;
+    }
+    k
+}
+
+// Of so many entries of three words, from the first on.
+fn put_entries(entries: &[u32], first: u32, count: u32, w: &mut [u32], at: usize) -> usize
+    requires { ⌜ Room (joinOf count (entryPairs (now entries) first)) (now w) at ⌝ }
+    ensures { λ r. ⌜ Put (joinOf count (entryPairs (now (entries .entry)) first)) (now (w .entry)) at (now (w .exit)) r ⌝ }
+{
+    let start = first as usize;
+    let end = count as usize;
+    let mut k = at;
+    let mut j = 0;
+    while j < end {
+        let entry = (start + j) * 3;
+        let offset = word(entries, entry);
+        let len = word(entries, entry + 1);
+        k = put_use(w, k, offset, len);
+        j += 1;
+    }
+    k
+}
+
+// Of the named entries of node `i`. A node that is no container has none.
+fn put_container(nodes: &[u32], i: usize, named: &[u32], w: &mut [u32], at: usize) -> usize
+    requires { ⌜ i * 10 + 10 ≤ length (now nodes) ⌝ }
+    requires { ⌜ Room (namedPairs (namedOnly (now nodes) (now named)) i) (now w) at ⌝ }
+    ensures { λ r. ⌜ Put (namedPairs (namedOnly (now (nodes .entry)) (now (named .entry))) i) (now (w .entry)) at (now (w .exit)) r ⌝ }
+{
+    let node = node_at(nodes, i);
+    if node.tag != 1 {
+        return at;
+    }
+    put_entries(named, node.f5, node.f6, w, at)
+}
+
+// Of the named entries of all nodes, in the image's order.
+fn put_named(nodes: &[u32], named: &[u32], w: &mut [u32], order: usize, at: usize) -> usize
+    requires { ⌜ Olds (length (now nodes) / 10) (wordsFrom (now w) order (length (now nodes) / 10)) ⌝ }
+    requires { ⌜ order + length (now nodes) / 10 ≤ length (now w) ⌝ }
+    requires { ⌜ at + length (allNamedPairs (namedOnly (now nodes) (now named)) (wordsFrom (now w) order (length (now nodes) / 10))) ≤ order ⌝ }
+    ensures { λ r. ⌜ Put (allNamedPairs (namedOnly (now (nodes .entry)) (now (named .entry))) (wordsFrom (now (w .entry)) order (length (now (nodes .entry)) / 10))) (now (w .entry)) at (now (w .exit)) r ⌝ }
+{
+    let count = nodes.len() / 10;
+    let mut k = at;
+    let mut j = 0;
+    while j < count {
+        let i = w[order + j] as usize;
+        k = put_container(nodes, i, named, w, k);
+        j += 1;
+    }
+    k
+}
+
+// Of definition `d` and its items.
+fn put_definition(definitions: &[u32], items: &[u32], d: usize, w: &mut [u32], at: usize) -> usize
+    requires { ⌜ d * 4 + 4 ≤ length (now definitions) ⌝ }
+    requires { ⌜ Room (definitionPairs (definitionsOnly (now definitions) (now items)) d) (now w) at ⌝ }
+    ensures { λ r. ⌜ Put (definitionPairs (definitionsOnly (now (definitions .entry)) (now (items .entry))) d) (now (w .entry)) at (now (w .exit)) r ⌝ }
+{
+    let definition = definition_at(definitions, d);
+    let behind = put_use(w, at, definition.offset, definition.len);
+    put_entries(items, definition.first, definition.count, w, behind)
+}
+
+// Of all definitions, each with its items.
+fn put_definitions(definitions: &[u32], items: &[u32], w: &mut [u32], at: usize) -> usize
+    requires { ⌜ Room (allDefinitionPairs (definitionsOnly (now definitions) (now items))) (now w) at ⌝ }
+    ensures { λ r. ⌜ Put (allDefinitionPairs (definitionsOnly (now (definitions .entry)) (now (items .entry)))) (now (w .entry)) at (now (w .exit)) r ⌝ }
+{
+    let count = definitions.len() / 4;
+    let mut k = at;
+    let mut d = 0;
+    while d < count {
+        k = put_definition(definitions, items, d, w, k);
+        d += 1;
+    }
+    k
+}
+
+// Writes the words of every use of a draft from `at` on, below the draft's numbers of the image's nodes, which lie from `order` on;
+// and counts the uses.
+pub fn collect(
+    nodes: &[u32],
+    named: &[u32],
+    definitions: &[u32],
+    items: &[u32],
+    payload: &[u8],
+    w: &mut [u32],
+    order: usize,
+    at: usize,
+) -> usize
+    requires { ⌜ Collectable (now nodes) (now named) (now definitions) (now items) (now payload) (now w) order at ⌝ }
+    ensures { λ r. ⌜ ((children strings : List ℕ) → Collected (draftOf (now (nodes .entry)) children (now (named .entry)) (now (definitions .entry)) (now (items .entry)) (now (payload .entry)) strings) (wordsFrom (now (w .entry)) order (length (now (nodes .entry)) / 10)) (now (w .entry)) at (now (w .exit)) r) ⌝ }
+{
+    let behind_nodes = put_nodes(nodes, payload, w, order, at);
+    let behind_named = put_named(nodes, named, w, order, behind_nodes);
+    let end = put_definitions(definitions, items, w, behind_named);
+    (end - at) / 2
+}

@@ -1,0 +1,7 @@
+pub mod ChildWords
+pub mod NamedWords
+pub mod ByTag
+pub mod Records
+pub mod TextCounts
+pub mod FieldWords
+pub mod NodeLoop

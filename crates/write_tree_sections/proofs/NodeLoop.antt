@@ -1,0 +1,256 @@
+-- The loop over the image's nodes: what is written, the starts and the texts used so far; and that the section is the written one.
+use Prim.Native.Nat.{ℕ, _+_, _*_, _/_, _≤_, _<_}
+use mathlib.Core.Path.{_≡_, refl, sym, ap, _∙_, subst}
+use mathlib.Core.Bool.{false}
+use mathlib.Core.List.{List, _∷_, append-nil}
+use native.Mathlib.Omega.{arith}
+use native.Mathlib.Nat.{add-zero}
+use native.Mathlib.Numerals.{add-one}
+use native.Mathlib.Decide.{ℕ-discrete}
+use lib.ListN.{length, getD, replicate}
+use lib.Dec.{eqb}
+use borrow.Author.Tests.{eq-eqb, ne-eqb}
+use Rattle.laws.specs.Counted.{joinOf, sumOf}
+use Rattle.laws.specs.Lists.{placeIn}
+use Rattle.words.specs.Words.{NONE, bytesOf}
+use Rattle.image.specs.declared.NodeRecord.{NodeRecord}
+use Rattle.image.specs.Header.{nodeWords}
+use Rattle.image.specs.Entries.{recordOf, nodeIn}
+use Rattle.image.specs.Sections.{Sections, nodeCount, nodeWord, parentOf, tagOf, placeOf}
+use Rattle.image.proofs.Entries.{node-record}
+use Rattle.records.specs.Fields.{kindOf}
+use Rattle.records.specs.Records.{numberOfChildren, numberOfNamed, payloadLengthOf, fieldsAt}
+use Rattle.records.proofs.PassedRules.{root}
+use Rattle.draft.specs.Draft.{tablesRule, shapeRule}
+use Rattle.draft.specs.Numbering.{oldOf, newOf}
+use Rattle.draft.proofs.Rules.{tables, parent-node, shape}
+use Rattle.draft_image.specs.Strings.{nodeTexts}
+use Rattle.draft_image.specs.Written.{startIn, nodeOut, putFields, moreWords}
+use Rattle.draft_image.specs.Ready.{OldsAt, NewsAt, OffsetsAt, nodeUses}
+use Rattle.draft_image.proofs.Joins.{sum-below, join-length, even-len}
+use Rattle.draft_image.proofs.Offsets.{offsets-part}
+use Rattle.tree.proofs.Members.{sum-ext}
+use Rattle.words.specs.Output.{over, putAt}
+use Rattle.words.proofs.EntryLoop.{Running, run-start, run-room, run-next, run-front}
+use Rattle.write_numbering.specs.declared.numbers.Numbers.{Numbers}
+use Rattle.write_tree_sections.specs.Held.{nodesOnly}
+use Rattle.write_numbering.specs.Numbers.{newIn}
+use Rattle.write_numbering.proofs.DraftWords.{join-same, retold, told, new-is, new-none}
+use Rattle.write_tree_sections.specs.declared.kinds.Starts.{Starts}
+use Rattle.write_tree_sections.specs.Encoded.{recordWords, encodedBy, textsBy}
+use Rattle.write_tree_sections.specs.Summed.{childrenIn, namedIn, payloadIn, StartsFit, startsAfter, textsAt, startsBy, usedBy, NodesFit}
+use Rattle.write_tree_sections.proofs.FieldWords.{fielded, texts-count}
+
+-- ---- the starts after a node
+
+module _ (st : Starts) (r : NodeRecord) where
+  pub container-fits : StartsFit st r → r .tag ≡ 1 → (st .children + r .f4 ≤ NONE) × (st .named + r .f6 ≤ NONE)
+  container-fits h e = (rw (eq-eqb (r .tag) 1 e) at (h .children), rw (eq-eqb (r .tag) 1 e) at (h .named))
+
+  pub list-fits : StartsFit st r → r .tag ≡ 12 → st .payload + r .f1 ≤ NONE
+  list-fits h e = rw (eq-eqb (r .tag) 12 e) at (h .payload)
+
+  pub after-container : r .tag ≡ 1
+      → record { children = st .children + r .f4; named = st .named + r .f6; payload = st .payload } ≡ startsAfter st r
+  after-container e =
+      let other : eqb (r .tag) 12 ≡ false = ne-eqb (r .tag) 12 (λ q. omega arith) in
+      rw (eq-eqb (r .tag) 1 e, other, add-zero (st .payload)) refl
+
+  pub after-list : r .tag ≡ 12
+      → record { children = st .children; named = st .named; payload = st .payload + r .f1 } ≡ startsAfter st r
+  after-list e =
+      let other : eqb (r .tag) 1 ≡ false = ne-eqb (r .tag) 1 (λ q. omega arith) in
+      rw (eq-eqb (r .tag) 12 e, other, add-zero (st .children), add-zero (st .named)) refl
+
+  pub after-other : (r .tag ≡ 1 → ⊥) → (r .tag ≡ 12 → ⊥) → st ≡ startsAfter st r
+  after-other d e = rw (ne-eqb (r .tag) 1 d, ne-eqb (r .tag) 12 e, add-zero (st .children), add-zero (st .named), add-zero (st .payload)) refl
+
+-- ---- the loop
+
+-- the words that are written for the image's node j
+abbrev pub entry : List ℕ → List ℕ → List ℕ → Numbers → ℕ → List ℕ
+entry nodes payload w n j =
+    recordWords
+    (encodedBy w (n .new) (n .offsets + usedBy nodes w (n .order) payload j) (startsBy nodes w (n .order) j) (recordOf nodes (getD w (n .order + j) 0))
+    (kindOf (recordOf nodes (getD w (n .order + j) 0) .tag)))
+
+pub record Going (nodes payload w : List ℕ) (n : Numbers) (out₀ out : List ℕ) (text : ℕ) (st : Starts) (at j : ℕ) : Type 0 where
+  pub running : Running 0 (length nodes / 10) (entry nodes payload w n) out₀ out j at
+  pub texts : text ≡ n .offsets + usedBy nodes w (n .order) payload j
+  pub starts : st ≡ startsBy nodes w (n .order) j
+
+module _ (nodes payload w : List ℕ) (n : Numbers) (fit : NodesFit nodes payload w n) (out₀ : List ℕ) where
+  pub begin : 40 * (length nodes / 10) ≤ length out₀ → Going nodes payload w n out₀ out₀ (n .offsets) (record { children = 0; named = 0; payload = 0 }) 0 0
+  unfolding sumOf
+  begin h =
+      record {
+        running =
+            run-start 0 (length nodes / 10) (entry nodes payload w n) out₀
+            (omega (arith, even-len (length nodes / 10) 10 (entry nodes payload w n) (λ m q. refl))) 0 refl;
+        texts = sym (add-zero (n .offsets));
+        starts = refl;
+      }
+
+  module _ (out : List ℕ) (text : ℕ) (st : Starts) (at j : ℕ) (g : Going nodes payload w n out₀ out text st at j) (h : j < length nodes / 10) where
+    -- the record's words fit
+    pub step-room : at + 40 ≤ length out
+    step-room = run-room 0 (length nodes / 10) (entry nodes payload w n) out₀ out j at (g .running) h
+
+    -- so does the offset of its first text
+    pub step-text : text ≤ length w
+    step-text = omega (arith, g .texts, fit .texts, sum-below j (length nodes / 10) (λ m. textsAt nodes payload (getD w (n .order + m) 0)) h)
+
+    -- the draft's number of the node, and its record
+    module _ (i : ℕ) (p : i ≡ getD w (n .order + j) 0) (r : NodeRecord) (e : r ≡ recordOf nodes i) where
+      here : r ≡ recordOf nodes (getD w (n .order + j) 0)
+      here = e ∙ ap (recordOf nodes) p
+
+      more : (count : ℕ) → count ≡ textsBy payload r (kindOf (r .tag)) → count ≡ textsAt nodes payload (getD w (n .order + j) 0)
+      unfolding textsAt
+      more count q = q ∙ ap (λ (x : NodeRecord). textsBy payload x (kindOf (x .tag))) here
+
+      children-is : childrenIn r ≡ numberOfChildren (nodesOnly nodes) (getD w (n .order + j) 0)
+      unfolding numberOfChildren nodeWord recordOf
+      children-is = λ t. childrenIn (here t)
+
+      named-is : namedIn r ≡ numberOfNamed (nodesOnly nodes) (getD w (n .order + j) 0)
+      unfolding numberOfNamed nodeWord recordOf
+      named-is = λ t. namedIn (here t)
+
+      payload-is : payloadIn r ≡ payloadLengthOf (nodesOnly nodes) (getD w (n .order + j) 0)
+      unfolding payloadLengthOf nodeWord recordOf
+      payload-is = λ t. payloadIn (here t)
+
+      pub step-texts : (count : ℕ) → count ≡ textsBy payload r (kindOf (r .tag)) → text + count ≤ length w
+      step-texts count q =
+          omega (arith, g .texts, fit .texts, more count q, sum-below j (length nodes / 10) (λ m. textsAt nodes payload (getD w (n .order + m) 0)) h)
+
+      pub step-starts : StartsFit st r
+      step-starts =
+          record {
+            children =
+                omega (
+                  arith,
+                  ap (λ (x : Starts). x .children) (g .starts),
+                  children-is,
+                  fit .children,
+                  sum-below j (length nodes / 10) (λ m. numberOfChildren (nodesOnly nodes) (getD w (n .order + m) 0)) h,
+                );
+            named =
+                omega (
+                  arith,
+                  ap (λ (x : Starts). x .named) (g .starts),
+                  named-is,
+                  fit .named,
+                  sum-below j (length nodes / 10) (λ m. numberOfNamed (nodesOnly nodes) (getD w (n .order + m) 0)) h,
+                );
+            payload =
+                omega (
+                  arith,
+                  ap (λ (x : Starts). x .payload) (g .starts),
+                  payload-is,
+                  fit .bytes,
+                  sum-below j (length nodes / 10) (λ m. payloadLengthOf (nodesOnly nodes) (getD w (n .order + m) 0)) h,
+                );
+          }
+
+      -- the next node
+      pub step-next : (d : NodeRecord) → d ≡ encodedBy w (n .new) text st r (kindOf (r .tag)) → (out′ : List ℕ) → out′ ≡ putAt out at (recordWords d)
+          → (count : ℕ) → count ≡ textsBy payload r (kindOf (r .tag)) → (st′ : Starts) → st′ ≡ startsAfter st r
+          → Going nodes payload w n out₀ out′ (text + count) st′ (at + 40) (j + 1)
+      unfolding sumOf
+      step-next d made out′ z count q st′ a =
+          record {
+            running =
+                run-next 0 (length nodes / 10) (entry nodes payload w n) out₀ out j at (g .running) (recordWords d) out′ (at + 40) h
+                (ap recordWords
+                (made ∙ (λ t. encodedBy w (n .new) (g .texts t) (g .starts t) (here t) (kindOf (here t .tag)))))
+                z refl;
+            texts = rw add-one (omega (arith, g .texts, more count q));
+            starts =
+                rw add-one
+                (a
+                ∙ (λ t. record { children = g .starts t .children + children-is t; named = g .starts t .named + named-is t; payload = g .starts t .payload + payload-is t }));
+          }
+
+-- ---- the section is the written one
+
+module _ (s : Sections) (nodes payload w : List ℕ) (n : Numbers) (order : List ℕ) (kept : List (List ℕ)) where
+  abbrev r : Sections
+  r = retold s nodes (s .children) (s .named) payload
+
+  module _ (below : (j : ℕ) → j < length nodes / 10 → getD w (n .order + j) 0 < length nodes / 10) (p : tablesRule r ≡ 0) (q : shapeRule r ≡ 0)
+      (place : (j : ℕ) → j < nodeCount r → placeIn order (oldOf order j) ≡ j) (olds : OldsAt order w (nodeCount r) (n .order))
+      (news : NewsAt order w (nodeCount r) (n .new)) where
+    old-below : (j : ℕ) → j < nodeCount r → oldOf order j < nodeCount r
+    old-below j h = subst (λ (x : ℕ). x < nodeCount r) (olds j h) (below j h)
+
+    -- a start is the sum over the nodes before
+    start-is : (a b : ℕ → ℕ) → ((x : ℕ) → a x ≡ b x) → (j : ℕ) → j < nodeCount r → sumOf j (λ m. a (getD w (n .order + m) 0)) ≡ startIn b order (oldOf order j)
+    unfolding startIn
+    start-is a b e j h =
+        sum-ext j (λ m. a (getD w (n .order + m) 0)) (λ m. b (oldOf order m)) (λ m k. e (getD w (n .order + m) 0) ∙ ap b (olds m (omega arith)))
+        ∙ ap (λ (k : ℕ). sumOf k (λ m. b (oldOf order m))) (sym (place j h))
+
+    texts-at : (i : ℕ) → i < nodeCount r → textsAt nodes payload i ≡ length (nodeTexts r i)
+    unfolding textsAt
+    texts-at i h =
+        ap (λ (x : NodeRecord). textsBy payload x (kindOf (x .tag))) (node-record r nodes i refl refl)
+        ∙ texts-count r i (kindOf (tagOf r i)) (tables r p .fields i h)
+
+    used-is : (j : ℕ) → j ≤ nodeCount r → usedBy nodes w (n .order) payload j ≡ sumOf j (λ m. length (nodeTexts r (oldOf order m)))
+    used-is j h =
+        sum-ext j (λ m. textsAt nodes payload (getD w (n .order + m) 0)) (λ m. length (nodeTexts r (oldOf order m)))
+        (λ m k. texts-at (getD w (n .order + m) 0) (below m (omega arith)) ∙ ap (λ (x : ℕ). length (nodeTexts r x)) (olds m (omega arith)))
+
+    -- the root has no parent, and every other node's is a node
+    parent-is : (i : ℕ) → i < nodeCount r → newIn w (n .new) (parentOf r i) ≡ newOf order (parentOf r i)
+    parent-is i h = by (ℕ-discrete i 0)
+      where
+        by : Dec (i ≡ 0) → newIn w (n .new) (parentOf r i) ≡ newOf order (parentOf r i)
+        by (yes e) = new-none order w (n .new) (parentOf r i) (ap (parentOf r) e ∙ root r (shape r q .root) .parent)
+        by (no d) = new-is order w (nodeCount r) (n .new) (parentOf r i) news (parent-node r (tables r p) i h (omega arith) .below)
+
+    module _ (offs : OffsetsAt kept (nodeUses r order) w (n .offsets)) where
+      entry-is : (j : ℕ) → j < nodeCount r → entry nodes payload w n j ≡ nodeOut r order kept (oldOf order j)
+      unfolding nodeOut moreWords joinOf numberOfChildren numberOfNamed payloadLengthOf nodeWord
+      entry-is j h =
+          let i = oldOf order j in
+          let text = n .offsets + usedBy nodes w (n .order) payload j in
+          let st = startsBy nodes w (n .order) j in
+          let same : recordOf nodes (getD w (n .order + j) 0) ≡ nodeIn r i = node-record r nodes (getD w (n .order + j) 0) refl refl ∙ ap (nodeIn r) (olds j h) in
+          let own : OffsetsAt kept (nodeTexts r i) w text =
+          subst (λ (m : ℕ). OffsetsAt kept (nodeTexts r i) w (n .offsets + m)) (sym (used-is j (omega arith)))
+          (offsets-part kept w (n .offsets) (nodeCount r) (λ m. nodeTexts r (oldOf order m)) offs j h) in
+          (λ t. recordWords (encodedBy w (n .new) text st (same t) (kindOf (same t .tag))))
+          ∙ fielded r order w (n .new) news kept text st i (parent-is i (old-below j h)) (start-is (numberOfChildren (nodesOnly nodes)) (numberOfChildren r) (λ x. refl) j h)
+          (start-is (numberOfNamed (nodesOnly nodes)) (numberOfNamed r) (λ x. refl) j h) (start-is (payloadLengthOf (nodesOnly nodes)) (payloadLengthOf r) (λ x. refl) j h) (kindOf (tagOf r i))
+          (tables r p .fields i (old-below j h)) own
+          ∙ ap (λ (l : List ℕ). newOf order (parentOf r i) ∷ placeOf r i ∷ tagOf r i ∷ l) (sym (append-nil (putFields r order kept i (replicate 7 NONE) (fieldsAt r i))))
+
+  -- what the section's writer says of sections that have these nodes and this payload
+  abbrev Told : List ℕ → List ℕ → ℕ → Sections → Type 0
+  Told out₀ out text x =
+      tablesRule x ≡ 0 → shapeRule x ≡ 0 → ((j : ℕ) → j < nodeCount x → placeIn order (oldOf order j) ≡ j) → OldsAt order w (nodeCount x) (n .order)
+      → NewsAt order w (nodeCount x) (n .new) → OffsetsAt kept (nodeUses x order) w (n .offsets)
+      → (out ≡ over (bytesOf (joinOf (nodeCount x) (λ j. nodeOut x order kept (oldOf order j)))) out₀) × (text ≡ n .offsets + length (nodeUses x order))
+
+  pub finish : (fit : NodesFit nodes payload w n) (out₀ out : List ℕ) (text : ℕ) (st : Starts) (at j : ℕ) → Going nodes payload w n out₀ out text st at j
+      → length nodes / 10 ≤ j → s .nodes ≡ nodes → s .stride ≡ nodeWords → s .payload ≡ payload → Told out₀ out text s
+  finish fit out₀ out text st at j g h e d b =
+      subst (Told out₀ out text) (sym (told s nodes (s .children) (s .named) payload d e refl refl b))
+      (λ p q place olds news offs. (
+        subst (λ (ws : List ℕ). out ≡ over (bytesOf ws) out₀)
+            (join-same (nodeCount r) _ _ (λ m k. entry-is (fit .order .olds) p q place olds news offs m k))
+            (run-front (length nodes / 10) (entry nodes payload w n) out₀ out j at (g .running) h),
+        all p q place olds news,
+      ))
+    where
+      all : tablesRule r ≡ 0 → shapeRule r ≡ 0 → ((m : ℕ) → m < nodeCount r → placeIn order (oldOf order m) ≡ m) → OldsAt order w (nodeCount r) (n .order)
+          → NewsAt order w (nodeCount r) (n .new) → text ≡ n .offsets + length (nodeUses r order)
+      all p q place olds news =
+          let last : j ≡ nodeCount r = omega (arith, g .running .within) in
+          g .texts
+          ∙ ap (λ (m : ℕ). n .offsets + m)
+          (ap (usedBy nodes w (n .order) payload) last ∙ used-is (fit .order .olds) p q place olds news (nodeCount r) (omega arith)
+          ∙ sym (join-length (nodeCount r) (λ m. nodeTexts r (oldOf order m))))

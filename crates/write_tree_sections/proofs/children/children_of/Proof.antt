@@ -1,0 +1,13 @@
+-- `write_tree_sections::children::children_of` meets its contract.
+use Rattle.laws.proofs.Cases.{cases}
+use Rattle.write_tree_sections.proofs.children.child_count.Statement.{statement}
+use Rattle.write_tree_sections.proofs.children.child_count.Tie as tie
+
+returns : tie.Need-returns
+returns c = search cases
+
+returns-2 : tie.Need-returns-2
+returns-2 c = search cases
+
+pub children-of-spec : {M : Type 1} → statement M
+children-of-spec = tie.close (tie.spec returns returns-2)

@@ -1,0 +1,86 @@
+-- `write_tree_sections::nodes::put_nodes` meets its contract.
+use Prim.Native.Nat.{_/_, _-_}
+use lib.ListN.{length}
+use native.Mathlib.Omega.{arith}
+use Rattle.write_tree_sections.proofs.NodeLoop.{Going, begin, step-room, step-text, step-texts, step-starts, step-next, finish}
+use borrow.Author.Needs.{needs}
+use Rattle.write_tree_sections.proofs.nodes.put_nodes.Statement.{statement}
+use Rattle.write_tree_sections.proofs.nodes.put_nodes.Tie as tie
+
+abbrev Inv-loop : tie.InvT-loop
+Inv-loop nodes payload work numbers out₀ order count next-text₀ starts₀ at₀ j₀ out next-text starts at j =
+    Going nodes payload work numbers out₀ out next-text starts at j
+
+abbrev μ-loop : tie.MeasureT-loop
+μ-loop nodes payload work numbers out₀ order count next-text₀ starts₀ at₀ j₀ out next-text starts at j = length nodes / 10 - j
+
+loop-holds : tie.Need-loop-holds Inv-loop μ-loop
+loop-holds c = begin _ _ _ _ (c .before .before .before .before .pre .0) _ (c .before .before .before .before .pre .1)
+
+add-word : tie.Need-add-word Inv-loop μ-loop
+add-word c = omega (arith, c .before .before .before .before .before .before .pre .0 .order .order-end)
+
+word-requires : tie.Need-word-requires Inv-loop μ-loop
+word-requires c κs = search needs
+
+cast-node-at : tie.Need-cast-node-at Inv-loop μ-loop
+cast-node-at c = search needs
+
+node-at-requires : tie.Need-node-at-requires Inv-loop μ-loop
+node-at-requires c κs = omega (arith, c .word .ensures, c .before .before .before .before .before .before .before .pre .0 .order .olds _ (c .before .loop-test .taken))
+
+encode-kind-requires : tie.Need-encode-kind-requires Inv-loop μ-loop
+encode-kind-requires c κs = (c .before .before .before .before .before .before .before .before .pre .0 .order .new-start, step-text _ _ _ _ (c .before .before .before .before .before .before .before .before .pre .0) _ _ _ _ _ _ (c .before .before .before .loop .inv) (c .before .before .loop-test .taken))
+
+put-record-requires : tie.Need-put-record-requires Inv-loop μ-loop
+put-record-requires c κs = step-room _ _ _ _ (c .before .before .before .before .before .before .before .before .before .before .pre .0) _ _ _ _ _ _ (c .before .before .before .before .before .loop .inv) (c .before .before .before .before .loop-test .taken)
+
+texts-of-requires : tie.Need-texts-of-requires Inv-loop μ-loop
+texts-of-requires c κs = search needs
+
+add-next-text : tie.Need-add-next-text Inv-loop μ-loop
+add-next-text c = let h = step-texts _ _ _ _ (c .before .before .before .before .before .before .before .before .before .before .before .before .before .before .pre .0) _ _ _ _ _ _ (c .before .before .before .before .before .before .before .before .before .loop .inv) (c .before .before .before .before .before .before .before .before .loop-test .taken) _ (c .before .before .before .before .before .before .before .word .ensures) _ (c .before .before .before .before .before .before .node-at .ensures) _ (c .texts-of .ensures) in omega (arith, c .before .before .before .before .before .before .before .before .before .before .before .before .before .before .good .1 .1 .0)
+
+after-requires : tie.Need-after-requires Inv-loop μ-loop
+after-requires c κs = step-starts _ _ _ _ (c .before .before .before .before .before .before .before .before .before .before .before .before .before .before .pre .0) _ _ _ _ _ _ (c .before .before .before .before .before .before .before .before .before .loop .inv) (c .before .before .before .before .before .before .before .before .loop-test .taken) _ (c .before .before .before .before .before .before .before .word .ensures) _ (c .before .before .before .before .before .before .node-at .ensures)
+
+add-at : tie.Need-add-at Inv-loop μ-loop
+add-at c = let h = step-room _ _ _ _ (c .before .before .before .before .before .before .before .before .before .before .before .before .before .before .before .pre .0) _ _ _ _ _ _ (c .before .before .before .before .before .before .before .before .before .before .loop .inv) (c .before .before .before .before .before .before .before .before .before .loop-test .taken) in omega (arith, c .before .before .before .before .before .before .before .before .before .before .loop .inv .running .long, c .before .before .before .before .before .before .before .before .before .before .before .before .before .before .before .good .1 .1 .1 .1 .0)
+
+add-j : tie.Need-add-j Inv-loop μ-loop
+add-j c = omega (arith, c .before .before .before .before .before .before .before .before .before .loop-test .taken, c .before .before .before .before .before .before .before .before .before .before .before .before .before .before .before .good .0)
+
+loop-less : tie.Need-loop-less Inv-loop μ-loop
+loop-less c = search needs
+
+loop-again : tie.Need-loop-again Inv-loop μ-loop
+loop-again c = step-next _ _ _ _ (c .before .before .before .before .before .before .before .before .before .before .before .before .before .before .before .pre .0) _ _ _ _ _ _ (c .before .before .before .before .before .before .before .before .before .before .loop .inv) (c .before .before .before .before .before .before .before .before .before .loop-test .taken) _ (c .before .before .before .before .before .before .before .before .word .ensures) _ (c .before .before .before .before .before .before .before .node-at .ensures) _ (c .before .before .before .before .before .before .encode-kind .ensures) _ (c .before .before .before .before .put-record .ensures) _ (c .before .texts-of .ensures) _ (c .after .ensures)
+
+same-length : tie.Need-same-length Inv-loop μ-loop
+same-length c = search needs
+
+returns : tie.Need-returns Inv-loop μ-loop
+returns c = λ s order kept e d b. finish s _ _ _ _ order kept (c .before .before .before .before .before .before .pre .0) _ _ _ _ _ _ (c .before .loop .inv) (c .loop-test .left) e d b
+
+pub put-nodes-spec : {M : Type 1} → statement M
+put-nodes-spec =
+    tie.close
+    (tie.spec
+    Inv-loop
+    μ-loop
+    loop-holds
+    add-word
+    word-requires
+    cast-node-at
+    node-at-requires
+    encode-kind-requires
+    put-record-requires
+    texts-of-requires
+    add-next-text
+    after-requires
+    add-at
+    add-j
+    loop-less
+    loop-again
+    same-length
+    returns)

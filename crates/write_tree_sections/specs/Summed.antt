@@ -1,0 +1,56 @@
+-- What the loop over the image's nodes sums: starts of children, named children and payload, and texts used; over plain lists.
+use Prim.Native.Nat.{ℕ, _+_, _/_, _≤_}
+use mathlib.Core.List.{List}
+use mathlib.Core.Bool.{cond}
+use lib.ListN.{length, getD}
+use lib.Dec.{eqb}
+use Rattle.laws.specs.Counted.{sumOf}
+use Rattle.words.specs.Words.{NONE}
+use Rattle.image.specs.declared.NodeRecord.{NodeRecord}
+use Rattle.image.specs.Entries.{recordOf}
+use Rattle.records.specs.Fields.{kindOf}
+use Rattle.write_numbering.specs.declared.numbers.Numbers.{Numbers}
+use Rattle.write_tree_sections.specs.Held.{OrderFits, childrenBy, namedBy, payloadBy}
+use Rattle.write_tree_sections.specs.declared.kinds.Starts.{Starts}
+use Rattle.write_tree_sections.specs.Encoded.{textsBy}
+
+-- ---- one node
+
+-- what a record adds to each start
+abbrev pub childrenIn : NodeRecord → ℕ
+childrenIn r = cond (eqb (r .tag) 1) (r .f4) 0
+
+abbrev pub namedIn : NodeRecord → ℕ
+namedIn r = cond (eqb (r .tag) 1) (r .f6) 0
+
+abbrev pub payloadIn : NodeRecord → ℕ
+payloadIn r = cond (eqb (r .tag) 12) (r .f1) 0
+
+pub record StartsFit (st : Starts) (r : NodeRecord) : Type 0 where
+  pub children : st .children + childrenIn r ≤ NONE
+  pub named : st .named + namedIn r ≤ NONE
+  pub payload : st .payload + payloadIn r ≤ NONE
+
+abbrev pub startsAfter : Starts → NodeRecord → Starts
+startsAfter st r = record { children = st .children + childrenIn r; named = st .named + namedIn r; payload = st .payload + payloadIn r }
+
+-- the texts of the draft's node i
+unfoldable pub textsAt : List ℕ → List ℕ → ℕ → ℕ
+textsAt nodes payload i = textsBy payload (recordOf nodes i) (kindOf (recordOf nodes i .tag))
+
+-- ---- the image's nodes before node j, whose numbers in the draft the words from `order` on hold
+
+module _ (nodes w : List ℕ) (order : ℕ) where
+  abbrev pub startsBy : ℕ → Starts
+  startsBy j = record { children = childrenBy nodes w order j; named = namedBy nodes w order j; payload = payloadBy nodes w order j }
+
+  abbrev pub usedBy : List ℕ → ℕ → ℕ
+  usedBy payload j = sumOf j (λ m. textsAt nodes payload (getD w (order + m) 0))
+
+-- numbers of nodes are there, starts are words, and there is an offset for each text
+pub record NodesFit (nodes payload w : List ℕ) (n : Numbers) : Type 0 where
+  pub order : OrderFits nodes w n
+  pub children : childrenBy nodes w (n .order) (length nodes / 10) ≤ NONE
+  pub named : namedBy nodes w (n .order) (length nodes / 10) ≤ NONE
+  pub bytes : payloadBy nodes w (n .order) (length nodes / 10) ≤ NONE
+  pub texts : n .offsets + usedBy nodes w (n .order) payload (length nodes / 10) ≤ length w

@@ -1,0 +1,103 @@
+// Section 0: the records of the image's nodes.
+ghost use mathlib.Core.Path.{_≡_};
+ghost use mathlib.Core.List.{List};
+ghost use Prim.Native.Nat.{ℕ, _+_, _*_, _/_, _≤_, _<_};
+ghost use lib.ListN.{length};
+ghost use Rattle.laws.specs.Counted.{joinOf};
+ghost use Rattle.laws.specs.Lists.{placeIn};
+ghost use Rattle.words.specs.Words.{bytesOf};
+ghost use Rattle.image.specs.Header.{nodeWords};
+ghost use Rattle.image.specs.Sections.{Sections, nodeCount};
+ghost use Rattle.draft.specs.Draft.{tablesRule, shapeRule};
+ghost use Rattle.draft.specs.Numbering.{oldOf};
+ghost use Rattle.draft_image.specs.Written.{nodeOut};
+ghost use Rattle.draft_image.specs.Ready.{OldsAt, NewsAt, OffsetsAt, nodeUses};
+ghost use Rattle.words.specs.Output.{over, putAt};
+ghost use Rattle.write_tree_sections.specs.Encoded.{recordWords};
+ghost use Rattle.write_tree_sections.specs.Summed.{StartsFit, startsAfter, NodesFit};
+use crate::kinds::Starts;
+use crate::kinds::encode_kind;
+use crate::texts_used::texts_of;
+use draft::source::node_at;
+use draft::source::word;
+use image::NodeRecord;
+use words::output::put_words;
+use write_numbering::numbers::Numbers;
+
+// Writes a record's words at `at`.
+fn put_record(node: NodeRecord, out: &mut [u8], at: usize)
+    requires { ⌜ at + 40 ≤ length (now out) ⌝ }
+    ensures { λ r. ⌜ now (out .exit) ≡ putAt (now (out .entry)) at (recordWords node) ⌝ }
+{
+    let words = [
+        node.parent,
+        node.place,
+        node.tag,
+        node.f0,
+        node.f1,
+        node.f2,
+        node.f3,
+        node.f4,
+        node.f5,
+        node.f6,
+    ];
+    put_words(out, at, &words);
+}
+
+// The starts of the node after this one.
+fn after(starts: Starts, node: NodeRecord) -> Starts
+    requires { ⌜ StartsFit starts node ⌝ }
+    ensures { λ r. ⌜ r ≡ startsAfter starts node ⌝ }
+{
+    let tag = node.tag;
+    match tag {
+        1 => Starts {
+            children: starts.children + node.f4,
+            named: starts.named + node.f6,
+            payload: starts.payload,
+        },
+        12 => Starts {
+            children: starts.children,
+            named: starts.named,
+            payload: starts.payload + node.f1,
+        },
+        _ => starts,
+    }
+}
+
+// Writes the section at the start of the output, and gives the word at which the offsets of the texts that follow begin.
+pub fn put_nodes(
+    nodes: &[u32],
+    payload: &[u8],
+    work: &[u32],
+    numbers: Numbers,
+    out: &mut [u8],
+) -> usize
+    requires { ⌜ NodesFit (now nodes) (now payload) (now work) numbers ⌝ }
+    requires { ⌜ 40 * (length (now nodes) / 10) ≤ length (now out) ⌝ }
+    ensures { λ r. ⌜ ((s : Sections) (order : List ℕ) (kept : List (List ℕ)) → s .nodes ≡ now (nodes .entry) → s .stride ≡ nodeWords → s .payload ≡ now (payload .entry) → tablesRule s ≡ 0 → shapeRule s ≡ 0 → ((j : ℕ) → j < nodeCount s → placeIn order (oldOf order j) ≡ j) → OldsAt order (now (work .entry)) (nodeCount s) (numbers .order) → NewsAt order (now (work .entry)) (nodeCount s) (numbers .new) → OffsetsAt kept (nodeUses s order) (now (work .entry)) (numbers .offsets) → (now (out .exit) ≡ over (bytesOf (joinOf (nodeCount s) (λ j. nodeOut s order kept (oldOf order j)))) (now (out .entry))) × (r ≡ numbers .offsets + length (nodeUses s order))) ⌝ }
+{
+    let order = numbers.order;
+    let count = nodes.len() / 10;
+    let mut next_text = numbers.offsets;
+    let mut starts = Starts {
+        children: 0,
+        named: 0,
+        payload: 0,
+    };
+    let mut at = 0;
+    let mut j = 0;
+    while j < count {
+        let node = node_at(nodes, word(work, order + j) as usize);
+        put_record(
+            encode_kind(node, work, numbers.new, next_text, starts),
+            out,
+            at,
+        );
+        next_text += texts_of(node, payload);
+        starts = after(starts, node);
+        at += 40;
+        j += 1;
+    }
+    next_text
+}

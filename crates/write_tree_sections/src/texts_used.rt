@@ -1,0 +1,39 @@
+// How many texts a node of the draft uses: its own, and those of a list's payload.
+ghost use mathlib.Core.Path.{_≡_};
+ghost use Rattle.records.specs.Fields.{kindOf};
+ghost use Rattle.write_tree_sections.specs.Encoded.{textsBy, listTextsIn};
+use crate::kinds::text_count;
+use image::NodeRecord;
+
+// How many texts the list has whose payload starts at `start`: a name an item, a text an origin, and the origins that items have.
+fn list_texts(payload: &[u8], start: u32) -> usize
+    ensures { λ r. ⌜ r ≡ listTextsIn (now (payload .entry)) start ⌝ }
+{
+    let at = start as usize;
+    let items = words::get(payload, at) as usize;
+    let origins = words::get(payload, at + 4) as usize;
+    let mut present = 0;
+    let mut j = 0;
+    while j < items {
+        present += text_count(words::get(payload, at + 8 + j * 20));
+        j += 1;
+    }
+    present + items + origins
+}
+
+// How many texts a node uses.
+pub fn texts_of(node: NodeRecord, payload: &[u8]) -> usize
+    ensures { λ r. ⌜ r ≡ textsBy (now (payload .entry)) node (kindOf (node .tag)) ⌝ }
+{
+    let tag = node.tag;
+    match tag {
+        1 => text_count(node.f0),
+        2 => text_count(node.f0),
+        4 => text_count(node.f0) + text_count(node.f3),
+        12 => list_texts(payload, node.f0),
+        17 => 1 + text_count(node.f2),
+        3 | 6 | 11 | 13 | 16 => 1,
+        7 | 14 => 1,
+        _ => 0,
+    }
+}

@@ -1,0 +1,124 @@
+-- From the plan to what writing the image asks for.
+use Prim.Native.Nat.{ℕ, zero, suc, _+_, _*_, _-_, _^_, _≤_, _<_}
+use mathlib.Core.Path.{_≡_, refl, sym, ap, _∙_}
+use mathlib.Core.List.{List, []}
+use native.Mathlib.Omega.{arith}
+use lib.ListN.{length, getD, drop}
+use lib.Seq.{getD-drop}
+use Rattle.laws.specs.Refusal.{unless, _▸_}
+use Rattle.laws.proofs.First.{both}
+use Rattle.words.specs.Words.{NONE}
+use Rattle.image.specs.Header.{nodeWords}
+use Rattle.image.specs.Sections.{Sections, nodeCount, childCount, namedCount, definitionCount, itemCount}
+use Rattle.records.proofs.PassedRules.{within}
+use Rattle.draft.proofs.Rules.{tables}
+use Rattle.draft.specs.Draft.{tablesRule, writeWords, reachRule, shapeRule, pathsRule}
+use Rattle.draft.specs.Numbering.{numbering, oldOf}
+use Rattle.draft_image.specs.Strings.{uses, byPath, pathOf, storedTexts}
+use Rattle.draft_image.specs.Ready.{textUses}
+use Rattle.written.proofs.Texts.{stored, offset-inside}
+use Rattle.write_text_uses.specs.Uses.{usesMost}
+use Rattle.write_text_uses.proofs.Bounds.{uses-bound}
+use Rattle.write_text_keys.specs.declared.Tables.{Tables}
+use Rattle.write_numbering.specs.declared.numbers.Numbers.{Numbers}
+use Rattle.write_plan.specs.declared.Layout.{Layout}
+use Rattle.write_plan.specs.declared.Uses.{Uses}
+use Rattle.write_plan.specs.Planned.{layoutOf, planRule, Prepared}
+use Rattle.write_plan.proofs.Premises.{once}
+use Rattle.write_plan.proofs.UseTexts.{boxes-long, uses-long}
+use Rattle.write_image.specs.declared.size.Entries.{Entries}
+use Rattle.write_image.specs.Length.{storedBytes, entriesOf, imageLength}
+use Rattle.write_image.specs.Given.{Told, Indexed, Keyed, Ready, pathsOf}
+use Rattle.writer.specs.Planned.{numbersBy, tablesBy, entriesBy}
+
+module _ (s : Sections) (z : s .stride ≡ nodeWords) (p : tablesRule s ≡ 0) (e : planRule s ≡ 0) where
+  -- the rules that the plan tests, one by one
+  pub rules : (reachRule s ≡ 0) × (shapeRule s ≡ 0) × (pathsRule s ≡ 0)
+  unfolding planRule
+  rules =
+      let a = both _ _ e in
+      let b = both _ _ (a .1) in
+      let c = both _ _ (b .1) in
+      (a .0, b .0, c .0)
+
+  module _ (w : List ℕ) (long : length w ≡ writeWords s) (u : Uses) (known : Prepared s w u) where
+    abbrev order : List ℕ
+    order = numbering s
+
+    abbrev n : ℕ
+    n = u .texts + u .paths
+
+    all : n ≡ length (uses s order)
+    all = sym (uses-long s ∙ omega (arith, known .texts, known .paths))
+
+    pub most : u .texts + u .paths ≤ usesMost s
+    most = omega (arith, known .texts, known .paths, uses-bound s order p (once s z p (rules .0)), boxes-long s z p (rules .0) (rules .2))
+
+    few : u .paths ≤ nodeCount s
+    few = omega (arith, known .paths, boxes-long s z p (rules .0) (rules .2), within s (nodeCount s) (tables s p .fields) .containers)
+
+    pub entries-known : entriesBy s u ≡ entriesOf s
+    entries-known = rw (known .paths, known .strings) refl
+
+    -- a stored path is no longer than all stored texts
+    path-short : (k : ℕ) → k < length (byPath s order) → length (pathOf s order (getD (byPath s order) k 0)) ≤ length (storedBytes s)
+    path-short k h =
+        omega (
+          arith,
+          offset-inside (storedTexts s order) (pathOf s order (getD (byPath s order) k 0)) (stored s order .index k h),
+        )
+
+    module _ (fitsOutput : imageLength s ≤ NONE) where
+      told : Told s w (numbersBy (layoutOf s) u)
+      told =
+          record {
+            wide = z;
+            tables = p;
+            reach = rules .0;
+            shape = rules .1;
+            long = fitsOutput;
+            olds = known .olds;
+            news = known .news;
+            offsets = known .offsets;
+            order-end = omega (arith, long);
+            new-start = omega (arith, long);
+            offsets-end = omega (arith, long, all, most);
+          }
+
+      word-low : (k : ℕ) → k < length (byPath s order)
+          → getD w (layoutOf s .at + layoutOf s .lengths + oldOf order (getD (byPath s order) k 0) + oldOf order (getD (byPath s order) k 0)) 0
+          ≡ length (pathOf s order (getD (byPath s order) k 0))
+      word-low k h =
+          let x = oldOf order (getD (byPath s order) k 0) in
+          let place : layoutOf s .at + (layoutOf s .lengths + x + x) ≡ layoutOf s .at + layoutOf s .lengths + x + x = omega arith in
+          let both-words = known .lengths k (omega (arith, known .paths)) in
+          let low : getD (drop (layoutOf s .at) w) (layoutOf s .lengths + x + x) 0 ≡ length (pathOf s order (getD (byPath s order) k 0)) =
+          omega (arith, both-words, path-short k h) in
+          ap (λ (i : ℕ). getD w i 0) (sym place) ∙ sym (getD-drop (layoutOf s .at) w (layoutOf s .lengths + x + x) 0) ∙ low
+
+      pub ready : Ready s w (numbersBy (layoutOf s) u) (tablesBy (layoutOf s) u) (entriesBy s u)
+      ready =
+          record {
+            told = told;
+            entries = entries-known;
+            texts = known .texts;
+            indexed =
+                record {
+                  count = known .paths;
+                  boxes =
+                      λ k h.
+                      let place : layoutOf s .at + (layoutOf s .paths + k) ≡ layoutOf s .at + layoutOf s .paths + k = omega arith in
+                      ap (λ (i : ℕ). getD w i 0) (sym place) ∙ sym (getD-drop (layoutOf s .at) w (layoutOf s .paths + k) 0)
+                      ∙ known .boxes k (omega (arith, known .paths));
+                  lengths = word-low;
+                  boxes-end = omega (arith, long, few);
+                  lengths-start = omega (arith, long);
+                };
+            keyed =
+                record {
+                  all = all;
+                  keys = known .keys;
+                  behind = omega (arith, most);
+                  placed = (omega (arith, long), omega (arith, long));
+                };
+          }
