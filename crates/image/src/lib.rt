@@ -78,11 +78,11 @@ impl ImageView {
     pub fn new(bytes: &[u8]) -> Opened
         ensures { λ r. ⌜ r ≡ openedOf (now (bytes .entry)) ⌝ }
     {
-        let refusal = crate::encoding::refusal_of(bytes);
+        let refusal = header::refusal_of(bytes);
         if refusal != 0 {
             return Opened::Refused(refusal);
         }
-        Opened::View(crate::encoding::view_at(bytes))
+        Opened::View(header::view_at(bytes))
     }
 }
 
