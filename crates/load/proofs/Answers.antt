@@ -15,7 +15,7 @@ use Rattle.image.specs.declared.ImageView.{ImageView}
 use Rattle.image.specs.declared.Opened.{Opened}
 use Rattle.image.specs.declared.Opened.the-variants as Opened
 use Rattle.image.specs.Header.{headerRule, openedBy, openedOf, viewOf, sectionsBy, sectionsOf}
-use Rattle.image.proofs.Header.{Opens, opens, view-counts}
+use Rattle.image.proofs.OpenedHeader.{Opens, opens, view-counts}
 use Rattle.image.proofs.Views.{SectionCounts}
 use Rattle.records.proofs.Tests.{refused}
 use Rattle.load.specs.declared.Loaded.{Loaded}

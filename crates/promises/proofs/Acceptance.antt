@@ -11,7 +11,7 @@ use Rattle.laws.proofs.First.{both, then, passed, pass, first-all, first-of}
 use Rattle.image.specs.Sections.{Sections, nodeCount, indexCount, tagOf, inside}
 use Rattle.image.specs.Header.{headerRule, sectionsOf}
 use Rattle.image.proofs.Tests.{both-true}
-use Rattle.image.proofs.Header.{Opens, opens, opens-of, view-counts, view-node}
+use Rattle.image.proofs.OpenedHeader.{Opens, opens, opens-of, view-counts, view-node}
 use Rattle.records.specs.Records.{containersBefore, nodeRule, parentRule, fieldsRule, rootRight, usedUp}
 use Rattle.records.proofs.PassedRules.{root, used-up, used-up-of}
 use Rattle.tree.specs.Tree.{childAt, namedAt, childRule, namedRule, treeRule}

@@ -9,7 +9,7 @@ use Rattle.words.specs.Words.{NONE}
 use Rattle.image.specs.Sections.{Sections, nodeCount, childCount}
 use Rattle.image.specs.Header.{sectionsOf, viewOf}
 use Rattle.image.proofs.Views.{stride-by}
-use Rattle.image.proofs.Header.{view-inside, view-counts, length-word}
+use Rattle.image.proofs.OpenedHeader.{view-inside, view-counts, length-word}
 use Rattle.load.specs.Load.{loadRule}
 use Rattle.promises.specs.Rules.{NodeRight, SectionsRight, BreaksNone}
 use Rattle.promises.proofs.Acceptance.{some-node, accepted-right, load-accepted}

@@ -12,7 +12,7 @@ use Rattle.names.specs.Names.{commands, operators}
 use Rattle.checksum.specs.Crc.{checksumOf}
 use Rattle.image.specs.Sections.{Sections, nodeCount, childCount, namedCount, definitionCount, itemCount, indexCount, parentOf, placeOf, tagOf, f, definitionWord, itemWord, indexWord, textAt}
 use Rattle.image.specs.Header.{sectionsOf}
-use Rattle.image.proofs.Header.{Opens}
+use Rattle.image.proofs.OpenedHeader.{Opens}
 use Rattle.records.specs.Fields.{Field, text, optional, command, operator, node, optionalNode, container, optionalContainer, plain, atMost, children, named, payload, wrong}
 use Rattle.records.specs.Records.{fieldsAt, numberOfChildren, numberOfNamed, childrenBefore, namedBefore, payloadBefore, containersBefore, listItems, listOrigins, listItemWord, listOriginWord}
 use Rattle.tree.specs.Tree.{childAt, namedAt, namedText}

@@ -1,7 +1,7 @@
 -- `load::load_view` meets its contract: checksum, work words, sections; then the words are cleared.
 use mathlib.Core.Path.{_≡_, refl, sym, ap, _∙_}
 use native.Mathlib.Omega.{arith}
-use Rattle.image.proofs.Header.{opens}
+use Rattle.image.proofs.OpenedHeader.{opens}
 use Rattle.load.proofs.Answers.{refused-load, accepted-load, left-alone-at, needed-is, sum-wrong, too-few, few-of, most-of, enough-of, sections-decide, words-after}
 use borrow.Author.Needs.{needs}
 use Rattle.load.proofs.load_view.Statement.{statement}

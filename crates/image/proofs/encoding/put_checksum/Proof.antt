@@ -1,5 +1,5 @@
 -- `image::encoding::put_checksum` meets its contract.
-use Rattle.image.proofs.Encoding.{sum-put}
+use Rattle.image.proofs.HeaderBytes.{sum-put}
 use borrow.Author.Needs.{needs}
 use Rattle.image.proofs.encoding.put_checksum.Statement.{statement}
 use Rattle.image.proofs.encoding.put_checksum.Tie as tie

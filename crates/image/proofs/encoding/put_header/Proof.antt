@@ -1,5 +1,5 @@
 -- `image::encoding::put_header` meets its contract.
-use Rattle.image.proofs.Encoding.{header-put}
+use Rattle.image.proofs.HeaderBytes.{header-put}
 use borrow.Author.Needs.{needs}
 use Rattle.image.proofs.encoding.put_header.Statement.{statement}
 use Rattle.image.proofs.encoding.put_header.Tie as tie

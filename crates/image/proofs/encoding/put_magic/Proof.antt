@@ -3,7 +3,7 @@ use Prim.Native.Nat.{_-_}
 use mathlib.Core.Path.{refl}
 use Rattle.texts.specs.Text.{ascii}
 use Rattle.image.specs.Header.{magic}
-use Rattle.image.proofs.Encoding.{Copying, copy-start, copy-more, copy-end}
+use Rattle.image.proofs.HeaderBytes.{Copying, copy-start, copy-more, copy-end}
 use borrow.Author.Needs.{needs}
 use Rattle.image.proofs.encoding.put_magic.Statement.{statement}
 use Rattle.image.proofs.encoding.put_magic.Tie as tie
