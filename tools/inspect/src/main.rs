@@ -1,40 +1,42 @@
-//! `inspect explain|tree|json FILE..`: what `image-check --explain`, `--tree` and `--json` print. `-` is standard input.
+//! `inspect explain|tree|json FILE`: what `image-check --explain`, `--tree` and `--json` print of a file; `-` is
+//! standard input.
 //!
-//! Exit status 0 if all images are accepted, 1 if one is refused, 2 for a wrong call or a file that cannot be read.
+//! Exit status 0 if the image is accepted, 1 if it is refused, 2 for a wrong call or a file that cannot be read.
 
 use inspect::{explain, json, library, tree};
 use std::io::{self, Read, Write};
 use std::process::ExitCode;
 
 fn main() -> ExitCode {
-    let mut arguments = std::env::args_os().skip(1);
-    let mode = arguments.next().and_then(|mode| mode.into_string().ok()).unwrap_or_default();
-    let files: Vec<_> = arguments.collect();
-    if !["explain", "tree", "json"].contains(&mode.as_str()) || files.is_empty() {
-        eprintln!("usage: inspect explain|tree|json FILE..");
-        return ExitCode::from(2);
-    }
-    let mut status = 0;
-    for file in &files {
-        let name = file.to_string_lossy();
-        let one = match read(file) {
-            Ok(bytes) => show(&mode, &name, &bytes, files.len() > 1),
-            Err(error) => {
-                eprintln!("image-check: {name}: {error}");
-                Ok(2)
-            }
-        };
-        match one {
-            Ok(one) => status = status.max(one),
-            // nobody reads on
-            Err(error) if error.kind() == io::ErrorKind::BrokenPipe => return ExitCode::from(status),
-            Err(error) => {
-                eprintln!("image-check: standard output: {error}");
-                return ExitCode::from(2);
-            }
+    let arguments: Vec<_> = std::env::args_os().skip(1).collect();
+    let [mode, file] = &arguments[..] else {
+        return wrong("usage: inspect explain|tree|json FILE");
+    };
+    let name = file.to_string_lossy();
+    let bytes = match read(file) {
+        Ok(bytes) => bytes,
+        Err(error) => return wrong(&format!("image-check: {name}: {error}")),
+    };
+    let loaded = library::load(&bytes);
+    let mut out = io::BufWriter::new(io::stdout().lock());
+    let shown = match (mode.to_str(), &loaded) {
+        (Some("json"), _) => json::json(&name, &bytes, &mut out),
+        (Some("tree"), Ok(image)) => {
+            writeln!(out, "{}", explain::answer(&loaded)).and_then(|()| tree::tree(image, &mut out))
         }
+        (Some("tree" | "explain"), _) => write!(out, "{}", explain::explain(&bytes)),
+        _ => return wrong("usage: inspect explain|tree|json FILE"),
+    };
+    match shown.and_then(|()| out.flush()) {
+        // a reader that stops reading is no fault
+        Err(error) if error.kind() != io::ErrorKind::BrokenPipe => wrong(&format!("image-check: output: {error}")),
+        _ => ExitCode::from(u8::from(loaded.is_err())),
     }
-    ExitCode::from(status)
+}
+
+fn wrong(what: &str) -> ExitCode {
+    eprintln!("{what}");
+    ExitCode::from(2)
 }
 
 fn read(file: &std::ffi::OsStr) -> io::Result<Vec<u8>> {
@@ -44,23 +46,4 @@ fn read(file: &std::ffi::OsStr) -> io::Result<Vec<u8>> {
     let mut bytes = vec![];
     io::stdin().lock().read_to_end(&mut bytes)?;
     Ok(bytes)
-}
-
-/// Prints what is asked of one image; the exit status it calls for.
-fn show(mode: &str, name: &str, bytes: &[u8], several: bool) -> io::Result<u8> {
-    let mut out = io::BufWriter::new(io::stdout().lock());
-    if several && mode != "json" {
-        write!(out, "{name}: ")?;
-    }
-    let loaded = library::load(bytes);
-    match (mode, &loaded) {
-        ("json", _) => json::json(name, bytes, &mut out)?,
-        ("tree", Ok(image)) => {
-            writeln!(out, "{}", explain::answer(&loaded))?;
-            tree::tree(image, &mut out)?;
-        }
-        _ => write!(out, "{}", explain::explain(bytes))?,
-    }
-    out.flush()?;
-    Ok(u8::from(loaded.is_err()))
 }
