@@ -141,3 +141,16 @@ fn definition(definition: &Definition<'_>) -> String {
     let items = definition.items.iter().map(|(name, value)| format!("{{\"name\":{},\"value\":{value}}}", text(name)));
     format!("{{\"name\":{},\"items\":{}}}", text(definition.name), array(items))
 }
+
+#[cfg(test)]
+mod tests {
+    use super::text;
+
+    #[test]
+    fn texts_are_escaped() {
+        assert_eq!(
+            text("a\"b\\c\n\r\t\0\x1f\x7f\u{e9}\u{1f634}"),
+            "\"a\\\"b\\\\c\\n\\r\\t\\u0000\\u001f\\u007f\u{e9}\u{1f634}\""
+        );
+    }
+}

@@ -27,7 +27,7 @@ fn order(image: &Image<'_>, section: Section, entry: usize, text: &str, last: Op
     match last {
         Some(last) if last >= text => {
             let rule = if section == Items { "order of items" } else { "order of definitions" };
-            let because = format!("{} stands behind {}", quoted(text), quoted(last));
+            let because = format!("{} is not above {}, which stands before it", quoted(text), quoted(last));
             Err(image.broken(17, rule, Word::new(section, entry, 0, "name"), because))
         }
         _ => Ok(()),
@@ -39,7 +39,7 @@ fn range(image: &Image<'_>, definition: usize, before: usize) -> Result<usize, B
     let (start, count) =
         (image.word(Definitions, definition, 2) as usize, image.word(Definitions, definition, 3) as usize);
     if start != before {
-        let because = format!("{start}; the definitions before have {before}");
+        let because = format!("{start}; the items of the definitions before end at {before}");
         return Err(image.broken(11, "items' start", Word::new(Definitions, definition, 2, "first item"), because));
     }
     if start + count > image.count(Items) {

@@ -23,9 +23,12 @@ pub fn rules(image: &Image<'_>) -> Rule {
 
 fn order(image: &Image<'_>, at: Word<'_>, text: &str, last: Option<&str>) -> Rule {
     match last {
-        Some(last) if last >= text => {
-            Err(image.broken(16, "order of the index", at, format!("{} stands behind {}", quoted(text), quoted(last))))
-        }
+        Some(last) if last >= text => Err(image.broken(
+            16,
+            "order of the index",
+            at,
+            format!("{} is not above {}, which stands before it", quoted(text), quoted(last)),
+        )),
         _ => Ok(()),
     }
 }

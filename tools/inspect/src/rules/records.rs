@@ -46,7 +46,7 @@ fn root(image: &Image<'_>) -> Rule {
     for (k, field) in [(PARENT, "parent"), (PLACE, "place")] {
         let word = image.word(Nodes, 0, k);
         if word != NONE {
-            let because = format!("{word}; the root has NONE");
+            let because = format!("{word}; the root has NONE there");
             return Err(image.broken(8, "root", Word::new(Nodes, 0, k, field), because));
         }
     }
@@ -134,7 +134,7 @@ fn known(image: &Image<'_>, node: usize, k: usize, what: &'static str, names: &[
 /// A node of the image.
 pub fn inside(image: &Image<'_>, node: u32, at: Word<'_>) -> Result<usize, Broken> {
     image.inside(node).ok_or_else(|| {
-        let because = format!("{}; there are {} nodes", shown(node), image.count(Nodes));
+        let because = format!("{}; a node's number is below {}", shown(node), image.count(Nodes));
         image.broken(9, "node number", at, because)
     })
 }
@@ -155,12 +155,13 @@ fn entries(image: &Image<'_>, node: usize, k: usize, section: Section, before: u
     let (start, count) = (image.field(node, k) as usize, image.field(node, k + 1) as usize);
     if start != before {
         let field = format!("start of {} (f{k})", section.name());
-        let because = format!("{start}; the containers before have {before}");
+        let because = format!("{}; those of the containers before end at {before}", shown(image.field(node, k)));
         return Err(image.broken(11, "start", Word::new(Nodes, node, F + k, &field), because));
     }
     if start + count > image.count(section) {
         let field = format!("count of {} (f{})", section.name(), k + 1);
-        let because = format!("{count} from {start} on; there are {}", image.count(section));
+        let because =
+            format!("{} from {start} on; there are {}", shown(image.field(node, k + 1)), image.count(section));
         return Err(image.broken(11, "range", Word::new(Nodes, node, F + k + 1, &field), because));
     }
     Ok(())
@@ -170,12 +171,13 @@ fn entries(image: &Image<'_>, node: usize, k: usize, section: Section, before: u
 fn payload(image: &Image<'_>, node: usize, before: usize) -> Rule {
     let (start, length) = (image.field(node, 0) as usize, image.field(node, 1) as usize);
     if start != before {
-        let because = format!("{start}; the lists before have {before} bytes");
+        let because = format!("{}; the lists before end at {before}", shown(image.field(node, 0)));
         return Err(image.broken(11, "payload start", Word::new(Nodes, node, F, "start of payload (f0)"), because));
     }
     let at = Word::new(Nodes, node, F + 1, "length of payload (f1)");
     if start + length > image.count(Payload) {
-        let because = format!("{length} bytes from {start} on; there are {}", image.count(Payload));
+        let because =
+            format!("{} bytes from {start} on; there are {}", shown(image.field(node, 1)), image.count(Payload));
         return Err(image.broken(11, "payload range", at, because));
     }
     if length < 8 {

@@ -69,7 +69,7 @@ fn named_text<'a>(image: &Image<'a>, entry: usize, last: Option<&str>) -> Result
             14,
             "order of named entries",
             at,
-            format!("{} stands behind {}", quoted(name), quoted(last)),
+            format!("{} is not above {}, which stands before it", quoted(name), quoted(last)),
         )),
         _ => Ok(name),
     }
