@@ -5,7 +5,7 @@ use crate::corpus::{self, Visitor};
 use crate::drafts::Case;
 use crate::random::Random;
 use inspect::library;
-use inspect::rules::first_broken;
+use inspect::rules::{RULES, first_broken};
 use std::collections::BTreeMap;
 
 #[derive(Default)]
@@ -43,7 +43,10 @@ impl Visitor for Places {
     }
 }
 
-/// True if some number differs.
+/// From so many cases on, every rule must come up.
+const ENOUGH: u64 = 1_000;
+
+/// True if some number differs, or a rule did not come up.
 pub fn run(cases: u64, seed: u64) -> bool {
     let mut places = Places::default();
     corpus::all("places", cases, seed, &mut places);
@@ -52,6 +55,11 @@ pub fn run(cases: u64, seed: u64) -> bool {
         println!("    {number:2} {rule:26} {count:>10}");
     }
     println!("{} images, {} of them refused", places.images, places.images - places.rules[&(0, "accepted")]);
+    let missing: Vec<_> = RULES.iter().filter(|rule| !places.rules.contains_key(rule)).collect();
+    let wanting = cases >= ENOUGH && !missing.is_empty();
+    if wanting {
+        println!("not met: {missing:?}");
+    }
     println!("{} agreed, {} differ", places.agreed, places.differ);
-    places.differ > 0
+    places.differ > 0 || wanting
 }

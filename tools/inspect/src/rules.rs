@@ -18,6 +18,50 @@ mod tree;
 
 pub use place::{Broken, Part, Place};
 
+/// All rules by number and name, in the order in which they are tested first.
+pub const RULES: [(u32, &str); 40] = [
+    (1, "whole header"),
+    (1, "magic"),
+    (2, "format version"),
+    (3, "ink version"),
+    (4, "total length"),
+    (5, "section start"),
+    (5, "section end"),
+    (5, "bytes left over"),
+    (5, "some node"),
+    (6, "checksum"),
+    (8, "root"),
+    (9, "node number"),
+    (9, "container"),
+    (9, "own parent"),
+    (12, "tag"),
+    (10, "text"),
+    (11, "entries' start"),
+    (11, "entries' range"),
+    (12, "command"),
+    (12, "operator"),
+    (12, "flag"),
+    (11, "payload start"),
+    (11, "payload range"),
+    (11, "payload length"),
+    (13, "left over"),
+    (13, "index count"),
+    (14, "child"),
+    (14, "child's parent and place"),
+    (14, "named entry's text"),
+    (14, "order of named entries"),
+    (14, "named child's parent"),
+    (15, "reached"),
+    (16, "order of the index"),
+    (16, "fit of a path"),
+    (17, "order of definitions"),
+    (11, "items' start"),
+    (11, "items' range"),
+    (17, "text"),
+    (17, "order of items"),
+    (17, "items left over"),
+];
+
 /// Passes, or is broken at a place.
 pub(crate) type Rule = Result<(), Broken>;
 

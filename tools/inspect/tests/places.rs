@@ -30,6 +30,7 @@ const OF_TWO: [&str; 11] = [
     "child's parent and place",
     "named child's parent",
     "container",
+    "entries' start",
     "fit of a path",
     "items left over",
     "items' start",
@@ -37,7 +38,6 @@ const OF_TWO: [&str; 11] = [
     "order of items",
     "order of named entries",
     "order of the index",
-    "start",
 ];
 
 /// The words of sections 0 to 5: section, start of its entry, byte of the word.

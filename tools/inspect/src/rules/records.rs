@@ -156,13 +156,13 @@ fn entries(image: &Image<'_>, node: usize, k: usize, section: Section, before: u
     if start != before {
         let field = format!("start of {} (f{k})", section.name());
         let because = format!("{}; those of the containers before end at {before}", shown(image.field(node, k)));
-        return Err(image.broken(11, "start", Word::new(Nodes, node, F + k, &field), because));
+        return Err(image.broken(11, "entries' start", Word::new(Nodes, node, F + k, &field), because));
     }
     if start + count > image.count(section) {
         let field = format!("count of {} (f{})", section.name(), k + 1);
         let because =
             format!("{} from {start} on; there are {}", shown(image.field(node, k + 1)), image.count(section));
-        return Err(image.broken(11, "range", Word::new(Nodes, node, F + k + 1, &field), because));
+        return Err(image.broken(11, "entries' range", Word::new(Nodes, node, F + k + 1, &field), because));
     }
     Ok(())
 }
