@@ -56,9 +56,10 @@ pub fn run(cases: u64, seed: u64) -> bool {
     }
     println!("{} images, {} of them refused", places.images, places.images - places.rules[&(0, "accepted")]);
     let missing: Vec<_> = RULES.iter().filter(|rule| !places.rules.contains_key(rule)).collect();
-    let wanting = cases >= ENOUGH && !missing.is_empty();
+    let unknown: Vec<_> = places.rules.keys().filter(|rule| rule.0 != 0 && !RULES.contains(rule)).collect();
+    let wanting = cases >= ENOUGH && !missing.is_empty() || !unknown.is_empty();
     if wanting {
-        println!("not met: {missing:?}");
+        println!("rules that were not met: {missing:?}; that have no name in the list: {unknown:?}");
     }
     println!("{} agreed, {} differ", places.agreed, places.differ);
     places.differ > 0 || wanting
