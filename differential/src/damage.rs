@@ -65,6 +65,13 @@ pub fn with_word(bytes: &[u8], at: usize, word: u32) -> Vec<u8> {
     damaged
 }
 
+/// How many single faults an image has: words by values, cuts, bits.
+pub fn singly_count(bytes: &[u8], parts: &Parts) -> u64 {
+    let words = word_positions(bytes).len() * values(parts.counts()).len();
+    let cuts = bytes.len() + (bytes.len() - HEADER);
+    (1 + words + cuts + 16 * bytes.len()) as u64
+}
+
 /// One random fault, or two, of any sort.
 pub fn random(parts: &Parts, random: &mut Random) -> (&'static str, Vec<u8>) {
     let bytes = parts.bytes();

@@ -1,18 +1,19 @@
-//! Compares the verified story-image library with the published Rust on generated images and drafts.
-//!
-//! `run [CASES [SEED]]` compares; `run self-check` plants mistakes and sees that they are noticed; `run replay FILE`
-//! records a sample of the published answers; `run samples FOLDER` writes the images of samples/; `run bench [SECONDS]`
-//! measures both sides.
+//! Compares the verified story-image library with the published Rust on generated images and drafts. The script `run`
+//! says how to call it.
 
 mod bench;
+mod corpus;
 mod damage;
 mod drafts;
+#[cfg(feature = "ours")]
+mod explain;
 mod guide;
 mod images;
 mod library;
 #[cfg(feature = "ours")]
 mod ours;
 mod parts;
+mod progress;
 mod published;
 mod queries;
 mod random;
@@ -29,26 +30,59 @@ mod texts;
 mod writes;
 
 use library::Library;
+use std::process::ExitCode;
 
 #[cfg(feature = "ours")]
 const OURS: Option<&dyn Library> = Some(&ours::Ours);
 #[cfg(not(feature = "ours"))]
 const OURS: Option<&dyn Library> = None;
 
-fn main() {
-    // panics of the published writer are counted, not printed
-    std::panic::set_hook(Box::new(|_| {}));
+fn main() -> ExitCode {
     let arguments: Vec<String> = std::env::args().skip(1).collect();
-    let number = |at: usize, default: u64| match arguments.get(at) {
-        Some(text) => text.replace('_', "").parse().unwrap_or(default),
-        None => default,
-    };
-    let failed = match arguments.first().map(String::as_str) {
-        Some("self-check") => run::self_check(number(1, 2000)),
-        Some("bench") => bench::run(number(1, 4)),
-        Some("samples") => samples::run(arguments.get(1).map_or("samples", String::as_str)),
-        Some("replay") => record::run(arguments.get(1).map_or("replay.data", String::as_str)),
-        _ => run::compare(number(0, 100_000), number(1, 1), OURS),
-    };
-    std::process::exit(i32::from(failed));
+    match called(&arguments) {
+        Ok(failed) => ExitCode::from(u8::from(failed)),
+        Err(why) => {
+            eprintln!("differential/run: {why}; see differential/run --help");
+            ExitCode::from(2)
+        }
+    }
+}
+
+/// Does what the words ask for: whether something failed, or what is wrong with the words.
+fn called(words: &[String]) -> Result<bool, String> {
+    let words: Vec<&str> = words.iter().map(String::as_str).collect();
+    match words[..] {
+        ["self-check", ref rest @ ..] => Ok(run::self_check(numbers(rest, [2000])?[0])),
+        ["bench", ref rest @ ..] => Ok(bench::run(numbers(rest, [4])?[0])),
+        ["explain", ref rest @ ..] => {
+            let [cases, seed] = numbers(rest, [100_000, 1])?;
+            explained(cases, seed)
+        }
+        ["samples", folder] => Ok(samples::run(folder)),
+        ["replay", file] => Ok(record::run(file)),
+        ["samples" | "replay", ..] => Err(format!("'{}' takes one name", words[0])),
+        ref rest => {
+            let [cases, seed] = numbers(rest, [100_000, 1])?;
+            Ok(run::compare(cases, seed, OURS))
+        }
+    }
+}
+
+#[cfg(feature = "ours")]
+fn explained(cases: u64, seed: u64) -> Result<bool, String> {
+    Ok(explain::run(cases, seed))
+}
+
+#[cfg(not(feature = "ours"))]
+fn explained(_: u64, _: u64) -> Result<bool, String> {
+    Err("'explain' needs our static library (rt staticlib story_image)".to_owned())
+}
+
+/// The words as numbers, in the place of the given ones.
+fn numbers<const N: usize>(words: &[&str], mut numbers: [u64; N]) -> Result<[u64; N], String> {
+    for (k, word) in words.iter().enumerate() {
+        let place = numbers.get_mut(k).ok_or_else(|| format!("'{word}' is one word too many"))?;
+        *place = word.replace('_', "").parse().map_err(|_| format!("'{word}' is no known word and no number"))?;
+    }
+    Ok(numbers)
 }

@@ -1,16 +1,13 @@
 //! A whole run over all sorts of cases, and what it must have met.
 
-use crate::damage;
-use crate::drafts;
+use crate::corpus::{self, Visitor};
+use crate::drafts::Case;
 use crate::images::image;
 use crate::library::Library;
-use crate::parts::{HEADER, Parts, repair, set_word};
 use crate::published::{MISTAKES, Mistake, Published};
 use crate::queries::KINDS;
 use crate::random::Random;
 use crate::rows::{REASONS, WRITER, row_of};
-use crate::small::{self, FAMILIES};
-use crate::stories::{Shape, Story};
 use crate::tally::Tally;
 use crate::writes;
 
@@ -20,7 +17,7 @@ const ENOUGH: u64 = 10_000;
 /// True if something failed.
 pub fn compare(cases: u64, seed: u64, ours: Option<&dyn Library>) -> bool {
     let mut tally = Tally::default();
-    all(cases, seed, ours, &mut tally);
+    corpus::all("comparison", cases, seed, &mut Comparison { ours, tally: &mut tally });
     tally.print();
     if cases >= ENOUGH {
         coverage(&mut tally);
@@ -39,65 +36,19 @@ pub fn compare(cases: u64, seed: u64, ours: Option<&dyn Library>) -> bool {
     tally.failed > 0
 }
 
-fn all(cases: u64, seed: u64, ours: Option<&dyn Library>, tally: &mut Tally) {
-    let mut random = Random::new(seed);
-    for family in &FAMILIES {
-        let visits = family.size.min(cases);
-        for visit in 0..visits {
-            // a prime step: spread over the family, and all of it where all are visited
-            let member = (visit as u128 * 2_654_435_761 % family.size as u128) as u64;
-            image(family.name, &(family.member)(member), ours, &mut random, tally);
-        }
-    }
-    for visit in 0..small::TREES.min(cases) {
-        let case = drafts::tree_member((visit as u128 * 2_654_435_761 % small::TREES as u128) as u64);
-        writes::draft(&case, ours, &mut random, tally);
-    }
-    singly(&small::smallest(), ours, &mut random, tally);
-    for _ in 0..1 + cases / 50_000 {
-        let shape = Shape { nodes: 2 + random.below(8), ..Shape::random(&mut random) };
-        let parts = Story::random(shape, &mut random).parts(&mut random);
-        singly(&parts, ours, &mut random, tally);
-    }
-    for _ in 0..cases {
-        let shape = Shape::random(&mut random);
-        let parts = Story::random(shape, &mut random).parts(&mut random);
-        image("story", &parts.bytes(), ours, &mut random, tally);
-        for _ in 0..4 {
-            let (name, bytes) = damage::random(&parts, &mut random);
-            image(name, &bytes, ours, &mut random, tally);
-        }
-    }
-    for _ in 0..cases {
-        let case = drafts::random(&mut random);
-        writes::draft(&case, ours, &mut random, tally);
-    }
+/// Compares each case with the published Rust.
+struct Comparison<'a> {
+    ours: Option<&'a dyn Library>,
+    tally: &'a mut Tally,
 }
 
-/// Every word set to every value, every cut, every bit.
-fn singly(parts: &Parts, ours: Option<&dyn Library>, random: &mut Random, tally: &mut Tally) {
-    let bytes = parts.bytes();
-    image("story", &bytes, ours, random, tally);
-    for at in damage::word_positions(&bytes) {
-        for value in damage::values(parts.counts()) {
-            image("word, each", &damage::with_word(&bytes, at, value), ours, random, tally);
-        }
+impl Visitor for Comparison<'_> {
+    fn image(&mut self, name: &'static str, bytes: &[u8], random: &mut Random) {
+        image(name, bytes, self.ours, random, self.tally);
     }
-    for length in 0..bytes.len() {
-        image("cut, each", &bytes[..length], ours, random, tally);
-        if length >= HEADER {
-            let mut cut = bytes[..length].to_vec();
-            set_word(&mut cut, 16, length as u32);
-            repair(&mut cut);
-            image("cut, each, length right", &cut, ours, random, tally);
-        }
-    }
-    for bit in 0..8 * bytes.len() {
-        let mut turned = bytes.clone();
-        turned[bit / 8] ^= 1 << (bit % 8);
-        image("bit, each", &turned, ours, random, tally);
-        repair(&mut turned);
-        image("bit, each, checksum right", &turned, ours, random, tally);
+
+    fn draft(&mut self, case: &Case, random: &mut Random) {
+        writes::draft(case, self.ours, random, self.tally);
     }
 }
 
@@ -139,7 +90,8 @@ pub fn self_check(cases: u64) -> bool {
     let mut tally = Tally::default();
     let mut check = |mistake: Mistake| {
         let mut inner = if mistake == Mistake::None { Tally::default() } else { Tally::quiet() };
-        all(cases, 1, Some(&Published(mistake)), &mut inner);
+        let ours: Option<&dyn Library> = Some(&Published(mistake));
+        corpus::all(&format!("{mistake:?}"), cases, 1, &mut Comparison { ours, tally: &mut inner });
         let noticed = inner.failed > 0;
         println!("{mistake:?}: {} passed, {} failed", inner.passed, inner.failed);
         tally.check(noticed == (mistake != Mistake::None), || format!("{mistake:?}"), &[]);

@@ -11,7 +11,9 @@ use crate::story_content::{
     ChoiceRecord, ContainerId, ContainerRecord, DivertRecord, NamedChild, NodeId, NodeKind, NodeRecord, StaticList,
     StaticListDefinition, StaticPath, StaticValue, StoryData, VariableReferenceRecord,
 };
-use std::panic::{AssertUnwindSafe, catch_unwind};
+use std::cell::Cell;
+use std::panic::{self, AssertUnwindSafe};
+use std::sync::Once;
 
 const NONE: u32 = u32::MAX;
 
@@ -60,12 +62,33 @@ impl Story {
 /// The published writer alone; it runs on where parents go in a circle.
 pub fn write_story(ink_version: u32, story: Story) -> Written {
     put_down(ink_version as i32, story.0);
-    let image = catch_unwind(AssertUnwindSafe(|| compile_json_to_image(std::io::empty())));
-    match image {
-        Ok(Ok(image)) => Written::Image(image),
-        Ok(Err(error)) => Written::Refused(error.get_message()),
-        Err(_) => Written::Panicked,
+    match published(|| compile_json_to_image(std::io::empty())) {
+        Some(Ok(image)) => Written::Image(image),
+        Some(Err(error)) => Written::Refused(error.get_message()),
+        None => Written::Panicked,
     }
+}
+
+thread_local! {
+    /// Whether this thread is inside published code.
+    static INSIDE: Cell<bool> = const { Cell::new(false) };
+}
+
+/// Runs published code; none if it panics, and that panic alone is not printed.
+fn published<T>(call: impl FnOnce() -> T) -> Option<T> {
+    static HOOK: Once = Once::new();
+    HOOK.call_once(|| {
+        let print = panic::take_hook();
+        panic::set_hook(Box::new(move |panic| {
+            if !INSIDE.get() {
+                print(panic);
+            }
+        }));
+    });
+    INSIDE.set(true);
+    let answer = panic::catch_unwind(AssertUnwindSafe(call)).ok();
+    INSIDE.set(false);
+    answer
 }
 
 /// Whether some node's parents never come to an end.

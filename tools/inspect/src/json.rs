@@ -1,0 +1,156 @@
+//! The same for other programs: one JSON object on a line.
+
+use crate::explain::{answer, broken};
+use crate::library::{self, Definition, Divert, Image, Kind, List};
+use std::io::{self, Write};
+
+/// A JSON string.
+fn text(text: &str) -> String {
+    let mut out = String::with_capacity(text.len() + 2);
+    out.push('"');
+    for character in text.chars() {
+        match character {
+            '"' => out.push_str("\\\""),
+            '\\' => out.push_str("\\\\"),
+            '\n' => out.push_str("\\n"),
+            '\r' => out.push_str("\\r"),
+            '\t' => out.push_str("\\t"),
+            '\0'..='\x1f' | '\x7f' => out.push_str(&format!("\\u{:04x}", character as u32)),
+            _ => out.push(character),
+        }
+    }
+    out.push('"');
+    out
+}
+
+fn optional_text(value: Option<&str>) -> String {
+    value.map_or("null".to_owned(), text)
+}
+
+fn number(value: Option<u32>) -> String {
+    value.map_or("null".to_owned(), |value| value.to_string())
+}
+
+fn array(members: impl IntoIterator<Item = String>) -> String {
+    format!("[{}]", members.into_iter().collect::<Vec<_>>().join(","))
+}
+
+/// What a load says of the bytes; of a refusal its place, of an image its nodes and definitions.
+pub fn json(file: &str, bytes: &[u8], out: &mut impl Write) -> io::Result<()> {
+    let loaded = library::load(bytes);
+    write!(out, "{{\"file\":{},\"length\":{},\"answer\":{}", text(file), bytes.len(), text(&answer(&loaded)))?;
+    match loaded {
+        Ok(image) => accepted(&image, out)?,
+        Err(number) => refused(bytes, number, out)?,
+    }
+    writeln!(out, "}}")
+}
+
+fn refused(bytes: &[u8], number: u32, out: &mut impl Write) -> io::Result<()> {
+    write!(out, ",\"number\":{number},\"words\":{},\"place\":", text(library::words(number)))?;
+    let Some(broken) = broken(bytes, number) else {
+        return write!(out, "null");
+    };
+    let place = &broken.place;
+    write!(out, "{{\"rule\":{},\"section\":{}", text(broken.rule), text(place.part.name()))?;
+    let entry = place.entry.map_or("null".to_owned(), |entry| entry.to_string());
+    write!(out, ",\"entry\":{entry},\"kind\":{}", optional_text(place.kind))?;
+    write!(out, ",\"field\":{},\"byte\":{},\"there\":{}}}", text(&place.field), place.byte, text(&broken.because))
+}
+
+fn accepted(image: &Image<'_>, out: &mut impl Write) -> io::Result<()> {
+    write!(out, ",\"number\":0,\"ink_version\":{},\"nodes\":[", image.ink_version())?;
+    for node in 0..image.node_count() {
+        if node > 0 {
+            write!(out, ",")?;
+        }
+        node_object(image, node, out)?;
+    }
+    let definitions = array(image.definitions().iter().map(definition));
+    write!(out, "],\"definitions\":{definitions}")
+}
+
+fn node_object(image: &Image<'_>, node: u32, out: &mut impl Write) -> io::Result<()> {
+    let Some(view) = image.node(node) else {
+        return write!(out, "null");
+    };
+    write!(out, "{{\"node\":{node},\"parent\":{},\"place\":{}", number(view.parent), number(view.place))?;
+    write!(out, ",{}", members(&view.kind))?;
+    if matches!(view.kind, Kind::Container { .. }) {
+        let named = image.named_children(node).into_iter();
+        let named = array(named.map(|(name, child)| format!("{{\"name\":{},\"node\":{child}}}", text(name))));
+        let children = array(image.children(node).iter().map(u32::to_string));
+        write!(out, ",\"children\":{children},\"named\":{named}")?;
+    }
+    write!(out, "}}")
+}
+
+/// The kind, and what it holds.
+fn members(kind: &Kind<'_>) -> String {
+    match kind {
+        Kind::Container { name, flags } => {
+            format!("\"kind\":\"container\",\"name\":{},\"flags\":{flags}", optional_text(*name))
+        }
+        Kind::Choice { target, flags } => {
+            format!("\"kind\":\"choice\",\"target\":{},\"flags\":{flags}", number(*target))
+        }
+        Kind::Command(name) => format!("\"kind\":\"command\",\"name\":{}", text(name)),
+        Kind::Divert(divert) => divert_members(divert),
+        Kind::Glue => "\"kind\":\"glue\"".to_owned(),
+        Kind::Operator(name) => format!("\"kind\":\"operator\",\"name\":{}", text(name)),
+        Kind::Tag(value) => format!("\"kind\":\"tag\",\"text\":{}", text(value)),
+        Kind::Bool(value) => format!("\"kind\":\"bool\",\"value\":{value}"),
+        Kind::Int(value) => format!("\"kind\":\"int\",\"value\":{value}"),
+        Kind::Float(bits) => {
+            let value = f32::from_bits(*bits);
+            let value = if value.is_finite() { format!("{value:?}") } else { "null".to_owned() };
+            format!("\"kind\":\"float\",\"value\":{value},\"bits\":{bits}")
+        }
+        Kind::String(value) => format!("\"kind\":\"string\",\"text\":{}", text(value)),
+        Kind::List(list) => list_members(list),
+        Kind::DivertTarget(value) => format!("\"kind\":\"divert target\",\"text\":{}", text(value)),
+        Kind::Pointer { name, context } => {
+            format!("\"kind\":\"pointer\",\"name\":{},\"context\":{context}", text(name))
+        }
+        Kind::Assignment { name, global, new_declaration } => {
+            format!("\"kind\":\"assignment\",\"name\":{},\"global\":{global},\"new\":{new_declaration}", text(name))
+        }
+        Kind::Reference { name, target } => {
+            format!("\"kind\":\"reference\",\"name\":{},\"target\":{}", text(name), number(*target))
+        }
+        Kind::Void => "\"kind\":\"void\"".to_owned(),
+    }
+}
+
+fn divert_members(divert: &Divert<'_>) -> String {
+    let texts = format!("\"path\":{},\"variable\":{}", optional_text(divert.path), optional_text(divert.variable));
+    let numbers = format!("\"target\":{},\"arguments\":{}", number(divert.target), divert.arguments);
+    let flags = format!("\"conditional\":{},\"external\":{}", divert.conditional, divert.external);
+    format!("\"kind\":\"divert\",{texts},{numbers},{flags},\"pushes\":{}", optional_text(divert.pushes))
+}
+
+fn list_members(list: &List<'_>) -> String {
+    let item = |(origin, name, value): &library::ListEntry<'_>| {
+        format!("{{\"origin\":{},\"name\":{},\"value\":{value}}}", optional_text(*origin), text(name))
+    };
+    let origins = array(list.origins.iter().map(|origin| text(origin)));
+    format!("\"kind\":\"list\",\"items\":{},\"origins\":{origins}", array(list.items.iter().map(item)))
+}
+
+fn definition(definition: &Definition<'_>) -> String {
+    let items = definition.items.iter().map(|(name, value)| format!("{{\"name\":{},\"value\":{value}}}", text(name)));
+    format!("{{\"name\":{},\"items\":{}}}", text(definition.name), array(items))
+}
+
+#[cfg(test)]
+mod tests {
+    use super::text;
+
+    #[test]
+    fn texts_are_escaped() {
+        assert_eq!(
+            text("a\"b\\c\n\r\t\0\x1f\x7f\u{e9}\u{1f634}"),
+            "\"a\\\"b\\\\c\\n\\r\\t\\u0000\\u001f\\u007f\u{e9}\u{1f634}\""
+        );
+    }
+}

@@ -1,0 +1,118 @@
+//! The nodes of an accepted image as an indented tree.
+
+use crate::library::{Divert, Image, Kind, List};
+use crate::quoted;
+use std::io::{self, Write};
+
+/// Deeper lines are not moved further in; they begin with their depth.
+const DEEPEST: usize = 40;
+
+/// How a node stands in its container.
+enum By<'a> {
+    Root,
+    Place(usize),
+    Name(&'a str),
+}
+
+/// One line a node: number, place or name in its container, kind and what it holds. A node that is met again is named
+/// only.
+pub fn tree(image: &Image<'_>, out: &mut impl Write) -> io::Result<()> {
+    let mut seen = vec![false; image.node_count() as usize];
+    let mut pending = vec![(0, 0, By::Root)];
+    while let Some((node, depth, by)) = pending.pop() {
+        let again = std::mem::replace(&mut seen[node as usize], true);
+        line(image, node, depth, &by, again, out)?;
+        if again {
+            continue;
+        }
+        let ordered = image.children(node).into_iter().enumerate().map(|(k, child)| (child, depth + 1, By::Place(k)));
+        let named = image.named_children(node).into_iter().map(|(name, child)| (child, depth + 1, By::Name(name)));
+        let first = pending.len();
+        pending.extend(ordered);
+        pending.extend(named);
+        pending[first..].reverse();
+    }
+    definitions(image, out)
+}
+
+fn line(image: &Image<'_>, node: u32, depth: usize, by: &By<'_>, again: bool, out: &mut impl Write) -> io::Result<()> {
+    write!(out, "{:width$}", "", width = 2 * depth.min(DEEPEST))?;
+    if depth > DEEPEST {
+        write!(out, "(depth {depth}) ")?;
+    }
+    match by {
+        By::Root => write!(out, "{node} ")?,
+        By::Place(place) => write!(out, "{node} .{place} ")?,
+        By::Name(name) => write!(out, "{node} {} ", quoted(name))?,
+    }
+    match image.node(node) {
+        _ if again => writeln!(out, "see above"),
+        Some(view) => writeln!(out, "{}", shown(&view.kind)),
+        None => writeln!(out, "no view"),
+    }
+}
+
+/// A kind and what it holds, in words.
+fn shown(kind: &Kind<'_>) -> String {
+    let target = |target: &Option<u32>| target.map(|node| format!(" -> {node}")).unwrap_or_default();
+    let flags = |flags: i32| if flags == 0 { String::new() } else { format!(" flags {flags}") };
+    match kind {
+        Kind::Container { name, flags: word } => {
+            format!("container{}{}", name.map(|name| format!(" {}", quoted(name))).unwrap_or_default(), flags(*word))
+        }
+        Kind::Choice { target: node, flags: word } => format!("choice{}{}", target(node), flags(*word)),
+        Kind::Command(name) => format!("command {name}"),
+        Kind::Divert(divert) => format!("divert{}{}", target(&divert.target), divert_words(divert)),
+        Kind::Glue => "glue".to_owned(),
+        Kind::Operator(name) => format!("operator {name}"),
+        Kind::Tag(text) => format!("tag {}", quoted(text)),
+        Kind::Bool(value) => format!("bool {value}"),
+        Kind::Int(value) => format!("int {value}"),
+        Kind::Float(bits) => format!("float {:?} (bits {bits:08x})", f32::from_bits(*bits)),
+        Kind::String(text) => format!("string {}", quoted(text)),
+        Kind::List(list) => format!("list {}", list_words(list)),
+        Kind::DivertTarget(text) => format!("divert target {}", quoted(text)),
+        Kind::Pointer { name, context } => format!("pointer {} context {context}", quoted(name)),
+        Kind::Assignment { name, global, new_declaration } => {
+            let (global, new) = (if *global { " global" } else { "" }, if *new_declaration { " new" } else { "" });
+            format!("assignment {}{global}{new}", quoted(name))
+        }
+        Kind::Reference { name, target: node } => format!("reference {}{}", quoted(name), target(node)),
+        Kind::Void => "void".to_owned(),
+    }
+}
+
+fn divert_words(divert: &Divert<'_>) -> String {
+    let mut words = String::new();
+    if let Some(path) = divert.path {
+        words += &format!(" path {}", quoted(path));
+    }
+    if let Some(variable) = divert.variable {
+        words += &format!(" variable {}", quoted(variable));
+    }
+    if divert.arguments != 0 {
+        words += &format!(" arguments {}", divert.arguments);
+    }
+    if let Some(pushed) = divert.pushes {
+        words += &format!(" pushes {pushed}");
+    }
+    words + if divert.conditional { " conditional" } else { "" } + if divert.external { " external" } else { "" }
+}
+
+fn list_words(list: &List<'_>) -> String {
+    let item = |(origin, name, value): &(Option<&str>, &str, i32)| {
+        let origin = origin.map(|origin| format!("{origin}.")).unwrap_or_default();
+        format!("{}: {value}", quoted(&format!("{origin}{name}")))
+    };
+    let items: Vec<_> = list.items.iter().map(item).collect();
+    let origins: Vec<_> = list.origins.iter().map(|origin| quoted(origin)).collect();
+    format!("[{}] origins [{}]", items.join(", "), origins.join(", "))
+}
+
+fn definitions(image: &Image<'_>, out: &mut impl Write) -> io::Result<()> {
+    for definition in image.definitions() {
+        let items: Vec<_> = definition.items.iter().map(|(name, value)| format!("{}: {value}", quoted(name))).collect();
+        writeln!(out, "list {}: {}", quoted(definition.name), items.join(", "))?;
+    }
+    Ok(())
+}
