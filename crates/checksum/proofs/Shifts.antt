@@ -1,4 +1,4 @@
--- A table of eight-shift values serves for a step: the low byte goes by the table, the rest comes down eight places. Assumes nothing.
+-- A table of eight-shift values serves for a step: the low byte goes by the table, the rest comes down eight places.
 use mathlib.Core.Path.{_≡_, sym, ap, ap₂, _∙_}
 use Prim.Native.Nat.{ℕ, zero, suc, _+_, _*_, _/_, _%_, _^_, _<_}
 use native.Mathlib.Nat.{mod-lt, mul-one, add-zero, zero-add, add-suc, suc-add, le-of-suc-le-suc, not-suc-le-zero}
@@ -10,7 +10,7 @@ use Rattle.checksum.proofs.Xor.{xor-assoc}
 
 -- ---- what stands at a place of the table
 
-value-from : (f : ℕ → ℕ) (n i k : ℕ) → k < n → getD (valuesFrom f n i) k 0 ≡ f (i + k)
+pub value-from : (f : ℕ → ℕ) (n i k : ℕ) → k < n → getD (valuesFrom f n i) k 0 ≡ f (i + k)
 unfolding valuesFrom
 value-from f zero i k h = absurd (not-suc-le-zero h)
 value-from f (suc n) i zero h = ap f (sym (add-zero i))
