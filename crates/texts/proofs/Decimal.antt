@@ -1,4 +1,4 @@
--- Laws of a number in decimal: one digit more, what its bytes are, that it reads as the number; the steps of a loop over its digits. Assumes nothing.
+-- Laws of a number in decimal: one digit more, what its bytes are, that it reads as the number; the steps of a loop over its digits.
 use Prim.Native.Nat.{ℕ, zero, suc, _+_, _-_, _*_, _/_, _%_, _^_, _<_, _≤_}
 use mathlib.Core.Path.{_≡_, refl, sym, ap, _∙_}
 use mathlib.Core.Logic.{⊎-elim}

@@ -1,4 +1,4 @@
--- Laws of the first dot of a text, and the steps of a search for it. Assumes nothing.
+-- Laws of the first dot of a text, and the steps of a search for it.
 use Prim.Native.Nat.{ℕ, zero, suc, _+_, _<_, _≤_}
 use mathlib.Core.Path.{_≡_, refl, sym, ap, _∙_}
 use mathlib.Core.List.{List, [], _∷_, _++_, List·Memᴰ, List·Memᴰ·head, List·Memᴰ·tail}

@@ -1,4 +1,4 @@
--- Text order is strict and total, and equality of texts is sameness: the laws, and the steps of a comparison byte by byte. Assumes nothing.
+-- Text order is strict and total, and equality of texts is sameness: the laws, and the steps of a comparison byte by byte.
 use Prim.Native.Nat.{ℕ, _+_, _<_, _≤_}
 use mathlib.Core.Path.{_≡_, refl, sym, ap, _∙_}
 use mathlib.Core.Logic.{_⊎_, inl, inr}

@@ -1,4 +1,4 @@
--- A text split at its first dot. Assumes nothing.
+-- A text split at its first dot.
 use Prim.Native.Nat.{ℕ, suc}
 use mathlib.Core.List.{List, [], _∷_}
 use mathlib.Core.Bool.{Bool, cond}

@@ -1,4 +1,4 @@
--- Texts as lists of bytes: text order, equality, literals. Assumes nothing.
+-- Texts as lists of bytes: text order, equality, literals.
 use Prim.Native.Nat.{ℕ, zero, suc}
 use Prim.Native.Char.{code}
 use Prim.Native.String.{String, [] as empty, _∷_ as _then_}

@@ -1,16 +1,14 @@
--- `texts::compare` meets its contract. The invariant: what is left of the two is ordered as the two are. Assumes nothing.
-use borrow.Author.Needs.{needs}
-use native.Mathlib.Omega.{arith}
+-- The invariant: both are alike so far.
 use Prim.Native.Nat.{_≤_, _-_}
-use mathlib.Core.Path.{_≡_, refl, sym, _∙_}
-use lib.ListN.{drop}
-use Rattle.texts.specs.Text.{orderOf}
-use Rattle.texts.proofs.Text.{byte-like, byte-less, byte-more, first-longer, second-longer, both-end}
+use native.Mathlib.Omega.{arith}
+use borrow.Author.Needs.{needs}
+use Rattle.texts.specs.Blocks.{Alike}
+use Rattle.texts.proofs.Blocks.{word-less, word-more, word-same}
 use Rattle.texts.proofs.compare.Statement.{statement}
 use Rattle.texts.proofs.compare.Tie as tie
 
 abbrev Inv-loop : tie.InvT-loop
-Inv-loop a b n i₀ i = (i ≤ n) × (orderOf a b ≡ orderOf (drop i a) (drop i b))
+Inv-loop a b n i₀ i = (i ≤ n) × Alike a b i
 
 abbrev μ-loop : tie.MeasureT-loop
 μ-loop a b n i₀ i = n - i
@@ -18,26 +16,30 @@ abbrev μ-loop : tie.MeasureT-loop
 shorter-requires : tie.Need-shorter-requires Inv-loop μ-loop
 shorter-requires c κs = search needs
 
+alike-blocks-requires : tie.Need-alike-blocks-requires Inv-loop μ-loop
+alike-blocks-requires c κs = search needs
+
 loop-holds : tie.Need-loop-holds Inv-loop μ-loop
-loop-holds c = (search needs, refl)
+loop-holds c = c .«alike-blocks» .ensures
 
-shared-slice-read-x : tie.Need-shared-slice-read-x Inv-loop μ-loop
-shared-slice-read-x c = search needs
+sub-loop : tie.Need-sub-loop Inv-loop μ-loop
+sub-loop c = search needs
 
-shared-slice-read-y : tie.Need-shared-slice-read-y Inv-loop μ-loop
-shared-slice-read-y c = search needs
+word-requires : tie.Need-word-requires Inv-loop μ-loop
+word-requires c κs = search needs
+
+word-requires-2 : tie.Need-word-requires-2 Inv-loop μ-loop
+word-requires-2 c κs = search needs
 
 returns : tie.Need-returns Inv-loop μ-loop
 returns c =
-    let at = c .before .before .before .before .before in
-    let x = at .before .before .before .before .args in
-    sym (at .loop .inv .1 ∙ byte-less (x .a .now) (x .b .now) (at .loop .i) (omega arith) (omega arith) (c .if2 .taken))
+    let words = c .before .before in
+    word-less (words .before .before .before .loop .inv .1) (words .before .word .ensures) (words .word2 .ensures) (c .if2 .taken)
 
 returns-2 : tie.Need-returns-2 Inv-loop μ-loop
 returns-2 c =
-    let at = c .before .before .before .before .before in
-    let x = at .before .before .before .before .args in
-    sym (at .loop .inv .1 ∙ byte-more (x .a .now) (x .b .now) (at .loop .i) (omega arith) (omega arith) (omega arith))
+    let words = c .before .before in
+    word-more (words .before .before .before .loop .inv .1) (words .before .word .ensures) (words .word2 .ensures) (omega arith)
 
 add-i : tie.Need-add-i Inv-loop μ-loop
 add-i c = search needs
@@ -47,27 +49,14 @@ loop-less c = search needs
 
 loop-again : tie.Need-loop-again Inv-loop μ-loop
 loop-again c =
-    let at = c .before .before .before .before in
-    let x = at .before .before .before .before .args in
-    (omega arith, at .loop .inv .1 ∙ byte-like (x .a .now) (x .b .now) (at .loop .i) (omega arith) (omega arith) (c .if1 .left))
+    let words = c .before in
+    (omega arith, word-same (words .before .before .before .loop .inv .1) (words .before .word .ensures) (words .word2 .ensures) (c .if1 .left))
+
+compare-bytes-requires : tie.Need-compare-bytes-requires Inv-loop μ-loop
+compare-bytes-requires c κs = search needs
 
 returns-3 : tie.Need-returns-3 Inv-loop μ-loop
-returns-3 c =
-    let at = c .before .before in
-    let x = at .before .before .before .before .args in
-    sym (at .loop .inv .1 ∙ first-longer (x .a .now) (x .b .now) (at .loop .i) (omega arith) (omega arith))
-
-returns-4 : tie.Need-returns-4 Inv-loop μ-loop
-returns-4 c =
-    let at = c .before .before .before in
-    let x = at .before .before .before .before .args in
-    sym (at .loop .inv .1 ∙ second-longer (x .a .now) (x .b .now) (at .loop .i) (omega arith) (omega arith))
-
-returns-5 : tie.Need-returns-5 Inv-loop μ-loop
-returns-5 c =
-    let at = c .before .before .before in
-    let x = at .before .before .before .before .args in
-    sym (at .loop .inv .1 ∙ both-end (x .a .now) (x .b .now) (at .loop .i) (omega arith) (omega arith))
+returns-3 c = c .«compare-bytes» .ensures
 
 pub compare-spec : {M : Type 1} → statement M
 compare-spec =
@@ -76,14 +65,15 @@ compare-spec =
     Inv-loop
     μ-loop
     shorter-requires
+    alike-blocks-requires
     loop-holds
-    shared-slice-read-x
-    shared-slice-read-y
+    sub-loop
+    word-requires
+    word-requires-2
     returns
     returns-2
     add-i
     loop-less
     loop-again
-    returns-3
-    returns-4
-    returns-5)
+    compare-bytes-requires
+    returns-3)

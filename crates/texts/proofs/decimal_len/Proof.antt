@@ -1,4 +1,4 @@
--- `texts::decimal_len` meets its contract. The invariant: the digits of what is left, and k - 1 more, are those of n. Assumes nothing.
+-- `texts::decimal_len` meets its contract. The invariant: the digits of what is left, and k - 1 more, are those of n.
 use borrow.Author.Needs.{needs}
 use native.Mathlib.Omega.{arith}
 use Prim.Native.Nat.{_+_}

@@ -1,4 +1,4 @@
--- `texts::equal` meets its contract. Assumes nothing.
+-- `texts::equal` meets its contract.
 use mathlib.Core.Path.{sym}
 use Rattle.texts.specs.Text.{same}
 use Rattle.texts.proofs.Text.{length-same}

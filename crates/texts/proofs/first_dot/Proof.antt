@@ -1,4 +1,4 @@
--- `texts::first_dot` meets its contract. The invariant: the first dot is i further than the first dot from i on. Assumes nothing.
+-- `texts::first_dot` meets its contract. The invariant: the first dot is i further than the first dot from i on.
 use borrow.Author.Needs.{needs}
 use native.Mathlib.Omega.{arith}
 use Prim.Native.Nat.{_≤_, _+_, _-_}

@@ -1,4 +1,4 @@
--- `texts::is_decimal` meets its contract. The invariant: the text is n in decimal if its first i bytes are what is left of n in decimal. Assumes nothing.
+-- `texts::is_decimal` meets its contract. The invariant: the text is n in decimal if its first i bytes are what is left of n in decimal.
 use borrow.Author.Needs.{needs}
 use native.Mathlib.Omega.{arith}
 use Prim.Native.Nat.{_≤_, _-_}

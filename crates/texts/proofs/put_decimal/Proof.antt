@@ -1,4 +1,4 @@
--- `texts::put_decimal` meets its contract. The invariant: what is to be written stands behind the digits of what is left. Assumes nothing.
+-- `texts::put_decimal` meets its contract. The invariant: what is to be written stands behind the digits of what is left.
 use borrow.Author.Needs.{needs}
 use native.Mathlib.Omega.{arith}
 use Prim.Native.Nat.{_≤_, _-_}
