@@ -249,10 +249,6 @@ ascii-over {s} {i} m n e a h d l t =
       ];
     }
 
--- by the bits of the block
-pub ascii-bits : {s : List ℕ} {i : ℕ} (n bits : ℕ) → AsciiTo s i → i + n ≤ length s → ltb bits 0x80 ≡ allOf n (asciiAt s i) → bits < 0x80 → AsciiTo s (i + n)
-ascii-bits {s} {i} n bits a h e l = ascii-over i n (i + n) a (omega arith) refl h (sym e ∙ lt-ltb bits 0x80 l)
-
 pub ascii-next : {s : List ℕ} {i : ℕ} (n : ℕ) → AsciiTo s i → i + n ≤ length s → allOf n (asciiAt s i) ≡ true → AsciiTo s (i + n)
 ascii-next {s} {i} n a h t = ascii-over i n (i + n) a (omega arith) refl h t
 

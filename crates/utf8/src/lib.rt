@@ -149,6 +149,9 @@ fn ascii_head(s: &[u8]) -> usize
         }
         i += 8;
     }
+    if i == s.len() {
+        return i;
+    }
     if eight_ascii(s, s.len() - 8) {
         return s.len();
     }
@@ -365,6 +368,20 @@ fn ascii_last(s: &[u8], at: usize) -> usize
     at + 32
 }
 
+// Whether the 64 bytes from `at` on are ASCII. It has one caller, so that it becomes part of its loop.
+fn block_ascii(s: &[u8], at: usize) -> bool
+    requires { ⌜ at + 64 ≤ length (now s) ⌝ }
+    ensures { λ r. ⌜ r ≡ allOf 64 (λ j. ltb (getD (now (s .entry)) (at + j) 0) 0x80) ⌝ }
+{
+    let mut bits: u8 = 0;
+    let mut j = 0;
+    while j < 64 {
+        bits = bits | s[at + j];
+        j += 1;
+    }
+    bits < 0x80
+}
+
 // Where the ASCII ends that s begins with, or before: by blocks of 64.
 fn ascii_end(s: &[u8]) -> usize
     requires { ⌜ 32 ≤ length (now s) ⌝ }
@@ -372,7 +389,7 @@ fn ascii_end(s: &[u8]) -> usize
 {
     let mut i = 0;
     while 64 <= s.len() - i {
-        if 0x80 <= block_bits(s, i) {
+        if !block_ascii(s, i) {
             return i;
         }
         i += 64;

@@ -1,10 +1,12 @@
 -- The invariant: the bytes so far are ASCII.
 use Prim.Native.Nat.{_-_}
+use mathlib.Core.Path.{sym, _∙_}
 use native.Mathlib.Omega.{arith}
 use borrow.Author.Needs.{needs}
+use borrow.Author.Tests.{not-false}
 use lib.ListN.{length}
 use Rattle.utf8.specs.Places.{AsciiTo}
-use Rattle.utf8.proofs.Blocks.{ascii-none, ascii-bits}
+use Rattle.utf8.proofs.Blocks.{ascii-none, ascii-next}
 use Rattle.utf8.proofs.ascii_end.Statement.{statement}
 use Rattle.utf8.proofs.ascii_end.Tie as tie
 
@@ -20,8 +22,8 @@ loop-holds c = ascii-none _
 sub-loop : tie.Need-sub-loop Inv-loop μ-loop
 sub-loop c = search needs
 
-block-bits-requires : tie.Need-block-bits-requires Inv-loop μ-loop
-block-bits-requires c κs = search needs
+block-ascii-requires : tie.Need-block-ascii-requires Inv-loop μ-loop
+block-ascii-requires c κs = search needs
 
 returns : tie.Need-returns Inv-loop μ-loop
 returns c = c .before .before .before .loop .inv
@@ -34,8 +36,8 @@ loop-less c = search needs
 
 loop-again : tie.Need-loop-again Inv-loop μ-loop
 loop-again c =
-    let f = c .before .block-bits in
-    ascii-bits 64 (f .result) (c .before .before .before .loop .inv) (omega arith) (f .ensures) (omega arith)
+    let f = c .before .block-ascii in
+    ascii-next 64 (c .before .before .before .loop .inv) (omega arith) (sym (f .ensures) ∙ not-false (f .result) (c .if1 .left))
 
 ascii-last-requires : tie.Need-ascii-last-requires Inv-loop μ-loop
 ascii-last-requires c κs = search needs
@@ -51,7 +53,7 @@ ascii-end-spec =
     μ-loop
     loop-holds
     sub-loop
-    block-bits-requires
+    block-ascii-requires
     returns
     add-i
     loop-less

@@ -45,20 +45,23 @@ loop-again c =
     let f = c .before .«eight-ascii» in
     ascii-next 8 (c .before .before .before .loop .inv) (omega arith) (sym (f .ensures) ∙ not-false (f .result) (c .if2 .left))
 
+returns-3 : tie.Need-returns-3 Inv-loop μ-loop
+returns-3 c = c .before .before .loop .inv
+
 sub-eight-ascii : tie.Need-sub-eight-ascii Inv-loop μ-loop
 sub-eight-ascii c = search needs
 
 eight-ascii-requires-2 : tie.Need-eight-ascii-requires-2 Inv-loop μ-loop
 eight-ascii-requires-2 c κs = search needs
 
-returns-3 : tie.Need-returns-3 Inv-loop μ-loop
-returns-3 c =
-    let s = c .before .before .before .before .before .before .before .args .s .now in
-    let f = c .before .«eight-ascii2» in
-    ascii-over (length s - 8) 8 (length s) (c .before .before .before .loop .inv) (omega arith) (omega arith) (omega arith) (sym (f .ensures) ∙ c .if3 .taken)
-
 returns-4 : tie.Need-returns-4 Inv-loop μ-loop
-returns-4 c = c .before .before .before .loop .inv
+returns-4 c =
+    let s = c .before .before .before .before .before .before .before .before .args .s .now in
+    let f = c .before .«eight-ascii2» in
+    ascii-over (length s - 8) 8 (length s) (c .before .before .before .before .loop .inv) (omega arith) (omega arith) (omega arith) (sym (f .ensures) ∙ c .if4 .taken)
+
+returns-5 : tie.Need-returns-5 Inv-loop μ-loop
+returns-5 c = c .before .before .before .before .loop .inv
 
 pub ascii-head-spec : {M : Type 1} → statement M
 ascii-head-spec =
@@ -75,7 +78,8 @@ ascii-head-spec =
     add-i
     loop-less
     loop-again
+    returns-3
     sub-eight-ascii
     eight-ascii-requires-2
-    returns-3
-    returns-4)
+    returns-4
+    returns-5)
