@@ -23,7 +23,7 @@ impl Input {
 }
 
 /// Each input is made when its turn comes.
-pub const ALL: [fn(&mut Random) -> Input; 15] = [
+pub const ALL: [fn(&mut Random) -> Input; 16] = [
     |random| asked("20,000 mixed nodes", mixed(20_000, random), random),
     |random| asked("200,000 mixed nodes", mixed(200_000, random), random),
     |random| asked("chain of 5,000 containers", chain(5_000), random),
@@ -33,12 +33,13 @@ pub const ALL: [fn(&mut Random) -> Input; 15] = [
     |random| asked("100,000 equal texts", with_strings(vec!["the same text".to_owned(); 100_000]), random),
     |_| written("2,000 equal texts of 10 kB that lie apart", with_strings(vec![front(10_000); 2_000])),
     |_| written("20,000 texts of 1 kB with a common front", with_strings(numbered(&front(1_000), 20_000))),
-    |_| written("20,000 definitions with a common front", with_names(numbered(&front(200), 20_000))),
-    |_| written("20,000 named entries with a common front", named(numbered(&front(200), 20_000))),
-    |_| written("one list of 100,000 items", one_list(100_000, 0)),
-    |_| written("one list of 100,000 items and 100,000 origins", one_list(100_000, 100_000)),
-    |_| loaded("lapped chain of 5,000 containers", lapped(5_000)),
-    |_| loaded("lapped chain of 20,000 containers", lapped(20_000)),
+    |_| written("20,000 definitions with a common front", defined(&numbered(&front(1_000), 20_000))),
+    |_| written("20,000 named entries with a common front", named(&numbered(&front(1_000), 20_000))),
+    |_| written("one list of 100,000 items and origins", one_list(100_000)),
+    |_| loaded("20,000 definitions lapped in one string", lapped(defined(&fronts(20_000)))),
+    |_| loaded("20,000 named entries lapped in one string", lapped(named(&fronts(20_000)))),
+    |_| loaded("lapped chain of 5,000 containers", lapped_chain(5_000)),
+    |_| loaded("lapped chain of 20,000 containers", lapped_chain(20_000)),
 ];
 
 fn mixed(nodes: usize, random: &mut Random) -> Parts {
@@ -176,7 +177,6 @@ fn one_text(random: &mut Random) -> Parts {
     with_strings(vec![text])
 }
 
-
 /// A text of so many bytes.
 fn front(bytes: usize) -> String {
     "the same words in front of all of them, ".chars().cycle().take(bytes).collect()
@@ -187,8 +187,13 @@ fn numbered(front: &str, count: u32) -> Vec<String> {
     (0..count).map(|number| format!("{front}{number:06}")).collect()
 }
 
+/// Each a front of the next.
+fn fronts(count: usize) -> Vec<String> {
+    (1..=count).map(|bytes| "x".repeat(bytes)).collect()
+}
+
 /// Definitions of one item each, whose names are in order.
-fn with_names(names: Vec<String>) -> Parts {
+fn defined(names: &[String]) -> Parts {
     let mut parts = with_strings(vec![]);
     for (number, name) in names.iter().enumerate() {
         let (at, length) = place(&mut parts.strings, name);
@@ -199,7 +204,7 @@ fn with_names(names: Vec<String>) -> Parts {
 }
 
 /// A root with named containers, whose names are in order.
-fn named(names: Vec<String>) -> Parts {
+fn named(names: &[String]) -> Parts {
     let mut parts = Parts { ink: 21, ..Parts::default() };
     let count = names.len() as u32;
     parts.nodes.push([NONE, NONE, 1, NONE, NONE, 0, 0, 0, 0, count]);
@@ -211,17 +216,29 @@ fn named(names: Vec<String>) -> Parts {
     parts
 }
 
-/// A root with one list: items of distinct names with one origin, then distinct origins.
-fn one_list(items: u32, origins: u32) -> Parts {
+/// The texts of `fronts`, laid over each other; the path of a container is its name.
+fn lapped(mut parts: Parts) -> Parts {
+    let texts = parts.named.iter_mut().chain(&mut parts.items).map(|entry| &mut entry[0]);
+    let names = parts.nodes.iter_mut().filter(|node| node[3] != NONE).map(|node| &mut node[3]);
+    texts.chain(names).chain(parts.definitions.iter_mut().map(|entry| &mut entry[0])).for_each(|at| *at = 0);
+    parts.strings.truncate(parts.nodes.len().max(parts.items.len()));
+    parts.strings.fill(b'x');
+    parts.index = (0..parts.nodes.len() as u32).map(|node| [0, node, node]).collect();
+    parts
+}
+
+/// A root with one list: items and origins of distinct names, in no order.
+fn one_list(count: u32) -> Parts {
     let mut parts = with_strings(vec![]);
-    let mut words = vec![items, origins];
+    let mut words = vec![count, count];
+    let shuffled = |number: u32| u64::from(number) * 7_919 % u64::from(count);
     let origin = place(&mut parts.strings, "the list");
-    for number in 0..items {
-        let name = place(&mut parts.strings, &format!("item number {number}"));
+    for number in 0..count {
+        let name = place(&mut parts.strings, &format!("item number {}", shuffled(number)));
         words.extend([origin.0, origin.1, name.0, name.1, number]);
     }
-    for number in 0..origins {
-        let name = place(&mut parts.strings, &format!("list number {number}"));
+    for number in 0..count {
+        let name = place(&mut parts.strings, &format!("list number {}", shuffled(number)));
         words.extend([name.0, name.1]);
     }
     parts.payload = words.iter().flat_map(|word| word.to_le_bytes()).collect();
@@ -232,7 +249,7 @@ fn one_list(items: u32, origins: u32) -> Parts {
 }
 
 /// A chain whose paths are all fronts of one string.
-fn lapped(nodes: u32) -> Parts {
+fn lapped_chain(nodes: u32) -> Parts {
     let mut parts = chain(nodes);
     parts.strings = (0..2 * nodes).map(|at| if at % 2 == 0 { b'0' } else { b'.' }).collect();
     parts.index = (0..nodes).map(|node| [0, (2 * node).saturating_sub(1), node]).collect();

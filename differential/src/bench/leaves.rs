@@ -70,7 +70,8 @@ mod linked {
             let bytes: Vec<u8> = (0..length).map(|_| random.below(256) as u8).collect();
             assert_eq!(plain_crc(&table, &bytes), crc(&bytes));
             let turns = 1 + ROUND / length;
-            let theirs = || timed(|| (0..turns).fold(0, |sum, _| sum ^ plain_crc(black_box(&table), black_box(&bytes))));
+            let theirs =
+                || timed(|| (0..turns).fold(0, |sum, _| sum ^ plain_crc(black_box(&table), black_box(&bytes))));
             let ours = || timed(|| (0..turns).fold(0, |sum, _| sum ^ crc(black_box(&bytes))));
             measured += duel(&format!("{turns} of {length} bytes"), "loop", long, theirs, Some(ours));
         }
