@@ -1,5 +1,5 @@
 -- Places by index, and blocks of them: what a loop over blocks sees.
-use Prim.Native.Nat.{ℕ, zero, suc, _+_, _-_, _≤_, _<_}
+use Prim.Native.Nat.{ℕ, zero, suc, _+_, _-_, _/_, _≤_, _<_}
 use mathlib.Core.Path.{_≡_, refl, sym, ap, _∙_}
 use mathlib.Core.List.{List, [], _∷_}
 use mathlib.Core.Bool.{Bool, true, false, not, _&&_, _||_}
@@ -237,6 +237,63 @@ module _ (s : List ℕ) (i : ℕ) where
 
 pub ascii-none : (s : List ℕ) → AsciiTo s 0
 ascii-none s = record { to = omega arith; low = λ k h. absurd (omega arith) }
+
+-- the bits of two bytes
+or-low : (a b : ℕ) → bitOr a b < 0x80 → (a < 0x80) × (b < 0x80)
+or-low a b h = (omega (arith, or-add-and a b, and-le-r a b), omega (arith, or-add-and a b, and-le-l a b))
+
+-- the first, the middle and the last of three bytes or fewer
+pub ascii-three : (s : List ℕ) → 0 < length s → length s < 4 → bitOr (bitOr (getD s 0 0) (getD s (length s / 2) 0)) (getD s (length s - 1) 0) < 0x80 → AsciiTo s (length s)
+ascii-three s p q h =
+    let u = or-low (bitOr (getD s 0 0) (getD s (length s / 2) 0)) (getD s (length s - 1) 0) h in
+    let v = or-low (getD s 0 0) (getD s (length s / 2) 0) (u .0) in
+    record {
+      to = omega arith;
+      low = λ k l. elim (decLt k 1) [
+        | yes a ↦ let d : k ≡ 0 = omega arith in rw d (v .0)
+        | no a ↦ elim (decLt k (length s - 1)) [
+          | yes b ↦ let d : k ≡ length s / 2 = omega arith in rw d (v .1)
+          | no b ↦ let d : k ≡ length s - 1 = omega arith in rw d (u .1)
+        ]
+      ];
+    }
+
+-- the bits of four bytes from i on, behind others
+four-low : (s : List ℕ) (x i a b c : ℕ) → a ≡ i + 1 → b ≡ i + 2 → c ≡ i + 3 → bitOr (bitOr (bitOr (bitOr x (getD s i 0)) (getD s a 0)) (getD s b 0)) (getD s c 0) < 0x80
+    → (x < 0x80) × ((k : ℕ) → i ≤ k → k < i + 4 → getD s k 0 < 0x80)
+four-low s x i a b c ea eb ec h =
+    let p = or-low (bitOr (bitOr (bitOr x (getD s i 0)) (getD s a 0)) (getD s b 0)) (getD s c 0) h in
+    let q = or-low (bitOr (bitOr x (getD s i 0)) (getD s a 0)) (getD s b 0) (p .0) in
+    let r = or-low (bitOr x (getD s i 0)) (getD s a 0) (q .0) in
+    let t = or-low x (getD s i 0) (r .0) in (
+      t .0,
+      λ k l u. elim (decLt k a) [
+        | yes v ↦ let d : k ≡ i = omega arith in rw d (t .1)
+        | no v ↦ elim (decLt k b) [
+          | yes w ↦ let d : k ≡ a = omega arith in rw d (r .1)
+          | no w ↦ elim (decLt k c) [
+            | yes z ↦ let d : k ≡ b = omega arith in rw d (q .1)
+            | no z ↦ let d : k ≡ c = omega arith in rw d (p .1)
+          ]
+        ]
+      ],
+    )
+
+-- two fours of seven bytes or fewer
+pub ascii-seven : (s : List ℕ) → 4 ≤ length s → length s < 8
+    → bitOr (bitOr (bitOr (bitOr (bitOr (bitOr (bitOr (getD s 0 0) (getD s 1 0)) (getD s 2 0)) (getD s 3 0)) (getD s (length s - 4) 0)) (getD s (length s - 3) 0)) (getD s (length s - 2) 0)) (getD s (length s - 1) 0) < 0x80
+    → AsciiTo s (length s)
+ascii-seven s p q h =
+    let n = length s in
+    let back = four-low s (bitOr (bitOr (bitOr (getD s 0 0) (getD s 1 0)) (getD s 2 0)) (getD s 3 0)) (n - 4) (n - 3) (n - 2) (n - 1) (omega arith) (omega arith) (omega arith) h in
+    let front = four-low s 0 0 1 2 3 refl refl refl (back .0) in
+    record {
+      to = omega arith;
+      low = λ k l. elim (decLt k 4) [
+        | yes a ↦ front .1 k (omega arith) (omega arith)
+        | no a ↦ back .1 k (omega arith) (omega arith)
+      ];
+    }
 
 -- a block that may lie over bytes that are ASCII already
 pub ascii-over : {s : List ℕ} {i : ℕ} (m n e : ℕ) → AsciiTo s i → m ≤ i → m + n ≡ e → e ≤ length s → allOf n (asciiAt s m) ≡ true → AsciiTo s e

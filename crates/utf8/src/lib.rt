@@ -397,12 +397,42 @@ fn ascii_end(s: &[u8]) -> usize
     ascii_last(s, i)
 }
 
+// The length of s if all its bytes are ASCII, else 0, for texts of three bytes or fewer: the places may be one.
+fn ascii_three(s: &[u8]) -> usize
+    requires { ⌜ length (now s) < 4 ⌝ }
+    ensures { λ r. ⌜ AsciiTo (now (s .entry)) r ⌝ }
+{
+    let n = s.len();
+    if n == 0 {
+        return 0;
+    }
+    if s[0] | s[n / 2] | s[n - 1] < 0x80 {
+        return n;
+    }
+    0
+}
+
+// The same for texts of four to seven bytes: two fours that may lie over each other.
+fn ascii_seven(s: &[u8]) -> usize
+    requires { ⌜ (4 ≤ length (now s)) × (length (now s) < 8) ⌝ }
+    ensures { λ r. ⌜ AsciiTo (now (s .entry)) r ⌝ }
+{
+    let n = s.len();
+    if s[0] | s[1] | s[2] | s[3] | s[n - 4] | s[n - 3] | s[n - 2] | s[n - 1] < 0x80 {
+        return n;
+    }
+    0
+}
+
 // Where the ASCII ends that s begins with, or before, in the way that is quick for its length.
 fn ascii_front(s: &[u8]) -> usize
     ensures { λ r. ⌜ AsciiTo (now (s .entry)) r ⌝ }
 {
+    if s.len() < 4 {
+        return ascii_three(s);
+    }
     if s.len() < 8 {
-        return 0;
+        return ascii_seven(s);
     }
     if s.len() < 32 {
         return ascii_head(s);
