@@ -6,7 +6,7 @@ ghost use lib.Dec.{eqb};
 ghost use lib.ListN.{length, drop, getD};
 ghost use Rattle.laws.specs.Counted.{allOf};
 ghost use Rattle.texts.specs.Text.{orderOf, same};
-ghost use Rattle.texts.specs.Blocks.{Alike, numberFrom, WordAt};
+ghost use Rattle.texts.specs.Blocks.{Alike, numberFrom, WordAt, firstOf};
 ghost use Rattle.texts.specs.Dots.{firstDot};
 ghost use Rattle.texts.specs.Decimal.{digit, decimal};
 
@@ -97,7 +97,7 @@ fn compare_bytes(a: &[u8], b: &[u8], at: usize) -> Order
 }
 
 // The order of two texts: past blocks that are alike, by words of eight bytes, the last few bytes one by one.
-pub fn compare(a: &[u8], b: &[u8]) -> Order
+fn compare_words(a: &[u8], b: &[u8]) -> Order
     ensures { λ r. ⌜ r ≡ orderOf (now (a .entry)) (now (b .entry)) ⌝ }
 {
     let n = shorter(a.len(), b.len());
@@ -116,6 +116,31 @@ pub fn compare(a: &[u8], b: &[u8]) -> Order
     compare_bytes(a, b, i)
 }
 
+// The first byte plus 1, 0 where there is none.
+fn first(s: &[u8]) -> u32
+    ensures { λ r. ⌜ r ≡ firstOf (now (s .entry)) ⌝ }
+{
+    if s.len() == 0 {
+        return 0;
+    }
+    (s[0] as u32) + 1
+}
+
+// The order of two texts. Most differ in the first byte, so that this much becomes part of the caller.
+pub fn compare(a: &[u8], b: &[u8]) -> Order
+    ensures { λ r. ⌜ r ≡ orderOf (now (a .entry)) (now (b .entry)) ⌝ }
+{
+    let x = first(a);
+    let y = first(b);
+    if x < y {
+        return Order::Less;
+    }
+    if y < x {
+        return Order::Greater;
+    }
+    compare_words(a, b)
+}
+
 // Whether the two are one text. Unlike lengths answer at once.
 pub fn equal(a: &[u8], b: &[u8]) -> bool
     ensures { λ r. ⌜ r ≡ same (now (a .entry)) (now (b .entry)) ⌝ }
@@ -123,7 +148,7 @@ pub fn equal(a: &[u8], b: &[u8]) -> bool
     if a.len() != b.len() {
         return false;
     }
-    let o = compare(a, b);
+    let o = compare_words(a, b);
     match o {
         Order::Less => false,
         Order::Equal => true,
