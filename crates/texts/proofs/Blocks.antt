@@ -16,7 +16,7 @@ use Rattle.laws.specs.Counted.{allOf}
 use Rattle.texts.specs.declared.Order.{Order}
 use Rattle.texts.specs.declared.Order.the-variants.{Less, Equal, Greater}
 use Rattle.texts.specs.Text.{orderOf}
-use Rattle.texts.specs.Blocks.{Alike, numberFrom, WordAt, firstOf}
+use Rattle.texts.specs.Blocks.{Alike, numberFrom, WordAt}
 use Rattle.texts.proofs.Text.{order-turned, turned, byte-like}
 
 -- ---- differences, gathered
@@ -206,25 +206,3 @@ alike-turned {a} {b} {i} p =
 
 pub word-more : {a b : List ℕ} {i x y : ℕ} → Alike a b i → WordAt a i x → WordAt b i y → y < x → Greater ≡ orderOf a b
 word-more {a} {b} p u v h = ap turned (word-less (alike-turned p) v u h) ∙ sym (order-turned b a)
-
--- ---- first bytes
-
-pub first-none : (s : List ℕ) → length s ≡ 0 → 0 ≡ firstOf s
-unfolding firstOf
-first-none [] e = refl
-first-none (b ∷ s) e = absurd (omega arith)
-
-pub first-some : (s : List ℕ) → (length s ≡ 0 → ⊥) → getD s 0 0 + 1 ≡ firstOf s
-unfolding firstOf
-first-some [] d = absurd (d refl)
-first-some (b ∷ s) d = refl
-
-pub first-less : (s t : List ℕ) (x y : ℕ) → x ≡ firstOf s → y ≡ firstOf t → x < y → Less ≡ orderOf s t
-unfolding firstOf orderOf
-first-less [] [] x y p q h = absurd (omega arith)
-first-less [] (b ∷ t) x y p q h = refl
-first-less (a ∷ s) [] x y p q h = absurd (omega arith)
-first-less (a ∷ s) (b ∷ t) x y p q h = rw (lt-ltb a b (omega arith))
-
-pub first-more : (s t : List ℕ) (x y : ℕ) → x ≡ firstOf s → y ≡ firstOf t → y < x → Greater ≡ orderOf s t
-first-more s t x y p q h = ap turned (first-less t s y x q p h) ∙ sym (order-turned t s)

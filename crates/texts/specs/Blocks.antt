@@ -21,8 +21,3 @@ pub record WordAt (s : List ℕ) (i w : ℕ) : Type 0 where
   pub room : i + 8 ≤ length s
   pub number : w ≡ numberFrom 0 (take 8 (drop i s))
   pub bytes : (k : ℕ) → getD s k 0 < 256
-
--- the first byte plus 1, 0 where there is none: it is ordered as the texts are
-unfoldable pub firstOf : List ℕ → ℕ
-firstOf [] = 0
-firstOf (b ∷ bs) = b + 1

@@ -6,7 +6,7 @@ ghost use lib.Dec.{eqb};
 ghost use lib.ListN.{length, drop, getD};
 ghost use Rattle.laws.specs.Counted.{allOf};
 ghost use Rattle.texts.specs.Text.{orderOf, same};
-ghost use Rattle.texts.specs.Blocks.{Alike, numberFrom, WordAt, firstOf};
+ghost use Rattle.texts.specs.Blocks.{Alike, numberFrom, WordAt};
 ghost use Rattle.texts.specs.Dots.{firstDot};
 ghost use Rattle.texts.specs.Decimal.{digit, decimal};
 
@@ -116,27 +116,12 @@ fn compare_words(a: &[u8], b: &[u8]) -> Order
     compare_bytes(a, b, i)
 }
 
-// The first byte plus 1, 0 where there is none.
-fn first(s: &[u8]) -> u32
-    ensures { λ r. ⌜ r ≡ firstOf (now (s .entry)) ⌝ }
-{
-    if s.len() == 0 {
-        return 0;
-    }
-    (s[0] as u32) + 1
-}
-
-// The order of two texts. Most differ in the first byte, so that this much becomes part of the caller.
+// The order of two texts. Short ones are compared byte by byte, which becomes part of the caller.
 pub fn compare(a: &[u8], b: &[u8]) -> Order
     ensures { λ r. ⌜ r ≡ orderOf (now (a .entry)) (now (b .entry)) ⌝ }
 {
-    let x = first(a);
-    let y = first(b);
-    if x < y {
-        return Order::Less;
-    }
-    if y < x {
-        return Order::Greater;
+    if shorter(a.len(), b.len()) < 8 {
+        return compare_bytes(a, b, 0);
     }
     compare_words(a, b)
 }
@@ -148,7 +133,7 @@ pub fn equal(a: &[u8], b: &[u8]) -> bool
     if a.len() != b.len() {
         return false;
     }
-    let o = compare_words(a, b);
+    let o = compare(a, b);
     match o {
         Order::Less => false,
         Order::Equal => true,
