@@ -5,6 +5,7 @@ use mathlib.Core.List.{List, []}
 use mathlib.Core.Bool.{Bool, true, not, cond, _&&_, _||_}
 use lib.ListN.{length, getD}
 use lib.Dec.{leb, ltb, eqb}
+use Rattle.laws.specs.Counted.{allOf}
 
 -- 1 where the test passes, else 0
 unfoldable pub flag : Bool → ℕ
@@ -55,6 +56,12 @@ pub record Passed (s : List ℕ) (i : ℕ) : Type 0 where
   pub room : i + 3 ≤ length s
   pub start : starts s ≡ true
   pub all : (k : ℕ) → k < i → rightAt s k ≡ true
+
+-- the three bytes from i on and the n after them are ASCII
+abbrev pub asciiBlock : List ℕ → ℕ → ℕ → Bool
+asciiBlock s i n =
+    ((ltb (getD s i 0) 0x80 && ltb (getD s (i + 1) 0) 0x80) && ltb (getD s (i + 2) 0) 0x80)
+    && allOf n (λ j. ltb (getD s (i + 3 + j) 0) 0x80)
 
 -- the bytes before e are ASCII
 pub record AsciiTo (s : List ℕ) (e : ℕ) : Type 0 where

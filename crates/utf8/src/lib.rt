@@ -9,7 +9,7 @@ ghost use lib.ListN.{length, drop, getD};
 ghost use Rattle.laws.specs.Counted.{allOf};
 ghost use Rattle.utf8.specs.Utf8.{_··_, within, rows, fits, sizeIn, utf8};
 ghost use Rattle.utf8.specs.Seconds.{lowestAfter, highestAfter};
-ghost use Rattle.utf8.specs.Places.{flag, due, never, tooLow, tooHigh, wrong, rightAt, starts, ends, AsciiTo, Passed};
+ghost use Rattle.utf8.specs.Places.{flag, due, never, tooLow, tooHigh, wrong, rightAt, starts, ends, asciiBlock, AsciiTo, Passed};
 ghost use Rattle.utf8.specs.White.{whites, begins, frontOf, blank};
 
 // Whether b lies from `low` to `high`.
@@ -96,7 +96,7 @@ fn highest(b: u8) -> u8
     0xbf
 }
 
-// How many bytes the sequence at `at` has, or 0 if none begins there. Branches go by the length: these are foretold best.
+// How many bytes the sequence at `at` has, or 0 if none begins there. Branches go by its length, which is predicted best.
 fn sequence(s: &[u8], at: usize) -> usize
     requires { ⌜ at < length (now s) ⌝ }
     ensures { λ r. ⌜ r ≡ sizeIn rows (drop at (now (s .entry))) ⌝ }
@@ -258,7 +258,7 @@ fn block_bits(s: &[u8], at: usize) -> u8
 // Whether the 67 bytes from `at` on are ASCII.
 fn blocks_ascii(s: &[u8], at: usize) -> bool
     requires { ⌜ at + 67 ≤ length (now s) ⌝ }
-    ensures { λ r. ⌜ r ≡ (((ltb (getD (now (s .entry)) at 0) 0x80 && ltb (getD (now (s .entry)) (at + 1) 0) 0x80) && ltb (getD (now (s .entry)) (at + 2) 0) 0x80) && allOf 64 (λ j. ltb (getD (now (s .entry)) (at + 3 + j) 0) 0x80)) ⌝ }
+    ensures { λ r. ⌜ r ≡ asciiBlock (now (s .entry)) at 64 ⌝ }
 {
     s[at] | s[at + 1] | s[at + 2] | block_bits(s, at + 3) < 0x80
 }
