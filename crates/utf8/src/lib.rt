@@ -418,6 +418,9 @@ fn ascii_seven(s: &[u8]) -> usize
     ensures { λ r. ⌜ AsciiTo (now (s .entry)) r ⌝ }
 {
     let n = s.len();
+    if 0x80 <= s[0] {
+        return 0;
+    }
     if s[0] | s[1] | s[2] | s[3] | s[n - 4] | s[n - 3] | s[n - 2] | s[n - 1] < 0x80 {
         return n;
     }
