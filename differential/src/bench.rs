@@ -1,24 +1,21 @@
-//! Both sides measured in one process, in turns, by processor time: load, node views, walks and list look-ups, writing.
+//! Both sides measured in one process, in turns, by processor time: load, node views, walks and list look-ups, writing;
+//! then the leaves by themselves, and the size of the library.
 
-use crate::parts::{NONE, Parts, word_at};
+mod archive;
+mod inputs;
+mod leaves;
+
 use crate::random::Random;
-use crate::stories::{Shape, Story};
-use crate::texts::{self, Laying};
-use reference::{Draft, Step, Walk, Written};
+use inputs::Input;
+use reference::Walk;
 use std::hint::black_box;
 use std::time::{Duration, Instant};
 
 /// At most so many rounds, and at least three.
 const ROUNDS: usize = 15;
 
-/// A draft, the image that it becomes, and what is asked of it.
-struct Input {
-    name: &'static str,
-    draft: Draft,
-    image: Vec<u8>,
-    walks: Vec<(u32, bool, Vec<Step>)>,
-    items: Vec<String>,
-}
+/// The other side of all but the leaves.
+const PUBLISHED: &str = "published";
 
 /// Measures each thing for so many seconds, or until all rounds are done.
 pub fn run(seconds: u64) -> bool {
@@ -26,140 +23,21 @@ pub fn run(seconds: u64) -> bool {
     let mut random = Random::new(5);
     println!("median of up to {ROUNDS} rounds; ratio of ours to the published Rust: median (lowest to highest)");
     let mut measured = 0;
-    for input in inputs(&mut random) {
-        println!("{}: {} bytes, {} nodes", input.name, input.image.len(), input.draft.nodes.len() / 10);
+    for make in inputs::ALL {
+        let input = make(&mut random);
+        println!("{}: {} bytes, {} nodes", input.name, input.image.len(), input.nodes());
         measured += measure(&input, long);
     }
+    measured += leaves::run(long, &mut random);
+    measured += archive::run();
     println!("{measured} passed, 0 failed");
     false
-}
-
-fn inputs(random: &mut Random) -> Vec<Input> {
-    let mixed = |nodes, random: &mut Random| {
-        let laying = Laying::Shared;
-        let shape = Shape { nodes, containers: 3, depth: 3, plain: true, laying, shuffled: true, loose: false };
-        with_definitions(Story::random(shape, random).parts(random))
-    };
-    let small = mixed(20_000, random);
-    let large = mixed(200_000, random);
-    vec![
-        input("20,000 mixed nodes", small, random),
-        input("200,000 mixed nodes", large, random),
-        input("chain of 5,000 containers", chain(5_000), random),
-        input("texts of 500 characters", text_heavy(random), random),
-        input("1 MB of random UTF-8", one_text(random), random),
-        input("100,000 distinct texts", with_strings(distinct_texts(100_000)), random),
-        input("100,000 equal texts", with_strings(vec!["the same text".to_owned(); 100_000]), random),
-    ]
-}
-
-fn input(name: &'static str, parts: Parts, random: &mut Random) -> Input {
-    let draft = parts.draft();
-    let Written::Image(image) = reference::write(21, &draft) else {
-        panic!("{name}: a sound draft");
-    };
-    let view = reference::load(&image).expect_view();
-    // a published step up tests the node's texts again, so few walks where few nodes hold much text
-    let count = (50 * view.node_count()).min(10_000);
-    let walks = (0..count).map(|_| walk(&view, &image, random)).collect();
-    let items = (0..1_000).map(|turn| format!("{}item {turn}", if turn % 2 == 0 { "list 3." } else { "" })).collect();
-    Input { name, draft, image, walks, items }
-}
-
-/// Up to eight steps down by name or place, sometimes up again.
-fn walk(view: &reference::Image<'_>, image: &[u8], random: &mut Random) -> (u32, bool, Vec<Step>) {
-    let strings = word_at(image, 76) as usize;
-    let (mut at, mut steps) = (0, vec![]);
-    for _ in 0..8 {
-        let (children, named) = (view.child_count(at).unwrap_or(0), view.named_child_count(at).unwrap_or(0));
-        let step = if random.once_in(8) && at != 0 {
-            Step::Parent
-        } else if named > 0 && random.once_in(2) {
-            let entry = view.named_child_at(at, random.below(named)).expect("a named child");
-            let name = &image[strings + entry.name.0 as usize..][..entry.name.1 as usize];
-            Step::Name(core::str::from_utf8(name).expect("a name").to_owned())
-        } else if children > 0 {
-            Step::Index(random.below(children) as u32)
-        } else {
-            break;
-        };
-        at = view.resolve_path(at, true, std::slice::from_ref(&step)).unwrap_or(0);
-        steps.push(step);
-    }
-    (0, random.once_in(2), steps)
-}
-
-fn place(strings: &mut Vec<u8>, text: &str) -> (u32, u32) {
-    let at = strings.len() as u32;
-    strings.extend_from_slice(text.as_bytes());
-    (at, text.len() as u32)
-}
-
-/// Eight lists of 500 items, each in two lists.
-fn with_definitions(mut parts: Parts) -> Parts {
-    (parts.definitions, parts.items) = (vec![], vec![]);
-    for list in 0..8 {
-        let (at, length) = place(&mut parts.strings, &format!("list {list}"));
-        parts.definitions.push([at, length, parts.items.len() as u32, 500]);
-        let mut names: Vec<String> = (0..500).map(|item| format!("item {}", list / 2 * 500 + item)).collect();
-        names.sort();
-        for (value, name) in names.iter().enumerate() {
-            let (at, length) = place(&mut parts.strings, name);
-            parts.items.push([at, length, value as u32]);
-        }
-    }
-    parts
-}
-
-fn chain(nodes: u32) -> Parts {
-    let mut parts = Parts { ink: 21, ..Parts::default() };
-    for node in 0..nodes {
-        let (parent, place) = if node == 0 { (NONE, NONE) } else { (node - 1, 0) };
-        let last = node + 1 == nodes;
-        parts.nodes.push([parent, place, 1, NONE, NONE, 0, node, u32::from(!last), 0, 0]);
-        if !last {
-            parts.children.push(node + 1);
-        }
-    }
-    parts
-}
-
-/// Texts in no order.
-fn distinct_texts(count: u64) -> Vec<String> {
-    (0..count).map(|turn| format!("text number {}", turn * 7_919 % count)).collect()
-}
-
-fn with_strings(texts: Vec<String>) -> Parts {
-    let mut parts = Parts { ink: 21, ..Parts::default() };
-    parts.nodes.push([NONE, NONE, 1, NONE, NONE, 0, 0, texts.len() as u32, 0, 0]);
-    for (index, text) in texts.iter().enumerate() {
-        let (at, length) = place(&mut parts.strings, text);
-        parts.nodes.push([0, index as u32, 11, at, length, NONE, NONE, NONE, NONE, NONE]);
-        parts.children.push(index as u32 + 1);
-    }
-    parts
-}
-
-fn text_heavy(random: &mut Random) -> Parts {
-    let text = |turn: usize, random: &mut Random| -> String {
-        let ascii = (0..500).map(|_| (32 + random.below(95)) as u8 as char);
-        if turn % 4 == 0 { (0..500).map(|_| texts::any_char(random)).collect() } else { ascii.collect() }
-    };
-    with_strings((0..4_000).map(|turn| text(turn, random)).collect())
-}
-
-fn one_text(random: &mut Random) -> Parts {
-    let mut text = String::new();
-    while text.len() < 1 << 20 {
-        let number = random.below(0x11_0000) as u32;
-        text.extend(char::from_u32(number));
-    }
-    with_strings(vec![text])
 }
 
 /// Times of both sides, taken in turns.
 fn duel(
     name: &str,
+    other: &str,
     long: Duration,
     mut theirs: impl FnMut() -> Duration,
     mut ours: Option<impl FnMut() -> Duration>,
@@ -184,13 +62,13 @@ fn duel(
     let middle = their.len() / 2;
     match our.get(middle) {
         Some(mine) => println!(
-            "    {name:16} published {:>12.3?} ours {mine:>12.3?} ratio {:.2} ({:.2} to {:.2})",
+            "    {name:16} {other} {:>12.3?} ours {mine:>12.3?} ratio {:.2} ({:.2} to {:.2})",
             their[middle],
             ratios[middle],
             ratios[0],
             ratios[ratios.len() - 1]
         ),
-        None => println!("    {name:16} published {:>12.3?}", their[middle]),
+        None => println!("    {name:16} {other} {:>12.3?}", their[middle]),
     }
     1
 }
@@ -224,37 +102,36 @@ fn timed<T>(work: impl FnOnce() -> T) -> Duration {
     processor_time() - start
 }
 
-trait ExpectView<'a> {
-    fn expect_view(self) -> reference::Image<'a>;
-}
-
-impl<'a> ExpectView<'a> for Result<reference::Image<'a>, String> {
-    fn expect_view(self) -> reference::Image<'a> {
-        self.unwrap_or_else(|reason| panic!("{reason}"))
-    }
-}
-
 fn measure(input: &Input, long: Duration) -> u64 {
     let image = &input.image[..];
-    let nodes = input.draft.nodes.len() as u32 / 10;
-    let theirs = reference::load(image).expect_view();
+    let ours = ours::Measured::new(input);
+    let load = || timed(|| reference::load(black_box(image)).is_ok());
+    let mut measured = duel("load", PUBLISHED, long, load, ours.load());
+    if input.asked {
+        measured += ask(input, &ours, long);
+    }
+    if let Some(draft) = &input.draft {
+        let write = || {
+            let story = reference::Story::new(draft).expect("a story");
+            timed(|| reference::write_story(21, story))
+        };
+        measured += duel("write", PUBLISHED, long, write, ours.write());
+    }
+    measured
+}
+
+/// What a player asks of a loaded image.
+fn ask(input: &Input, ours: &ours::Measured, long: Duration) -> u64 {
+    let theirs = inputs::view(&input.image);
     let walks: Vec<(u32, Walk)> =
         input.walks.iter().map(|(origin, relative, steps)| (*origin, Walk::new(*relative, steps))).collect();
-    let load = || timed(|| reference::load(black_box(image)).is_ok());
-    let views = || timed(|| (0..nodes).filter(|node| theirs.has_view(*node)).count());
+    let views = || timed(|| (0..input.nodes()).filter(|node| theirs.has_view(*node)).count());
     let walked = || timed(|| walks.iter().filter_map(|(origin, walk)| theirs.walk(*origin, walk)).count());
     let looked = || timed(|| input.items.iter().filter(|name| theirs.has_list_item(name)).count());
-    let write = || {
-        let story = reference::Story::new(&input.draft).expect("a story");
-        timed(|| reference::write_story(21, story))
-    };
-    let ours = ours::Measured::new(input);
-    duel("load", long, load, ours.load())
-        + duel("node views", long, views, ours.views())
-        + duel("views as enums", long, views, ours.enums())
-        + duel("walks", long, walked, ours.walks())
-        + duel("list look-ups", long, looked, ours.items())
-        + duel("write", long, write, ours.write())
+    duel("node views", PUBLISHED, long, views, ours.views())
+        + duel("views as enums", PUBLISHED, long, views, ours.enums())
+        + duel("walks", PUBLISHED, long, walked, ours.walks())
+        + duel("list look-ups", PUBLISHED, long, looked, ours.items())
 }
 
 #[cfg(not(feature = "ours"))]
@@ -399,7 +276,7 @@ mod ours {
     #[cfg(feature = "write")]
     impl Measured<'_> {
         pub fn write(&self) -> Option<impl FnMut() -> Duration> {
-            let draft = draft_of(&self.input.draft);
+            let draft = draft_of(self.input.draft.as_ref()?);
             let mut work = vec![0; draft.work_words()];
             let mut output = vec![0; self.input.image.len()];
             Some(move || timed(|| story_image::write(21, &draft, &mut work, &mut output).is_ok()))

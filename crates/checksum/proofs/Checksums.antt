@@ -40,7 +40,7 @@ drop-min (suc n) [] = drop-nil (min (suc n) 0)
 drop-min (suc n) (x ∷ s) = ap (λ m. drop m (x ∷ s)) (suc-min-suc n (length s)) ∙ drop-min n s
 
 -- a part that runs to the end
-to-end : (k : ℕ) (s : List ℕ) → take (length s - k) (drop k s) ≡ drop k s
+pub to-end : (k : ℕ) (s : List ℕ) → take (length s - k) (drop k s) ≡ drop k s
 to-end k s = take-all (length s - k) (drop k s) (simp length-drop (omega arith))
 
 -- ---- the checksum, made of two parts

@@ -5,3 +5,6 @@ pub mod Polynomials
 pub mod Division
 pub mod Bits
 pub mod Standard
+pub mod Linear
+pub mod Tables
+pub mod Lanes

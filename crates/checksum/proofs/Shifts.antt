@@ -10,7 +10,7 @@ use Rattle.checksum.proofs.Xor.{xor-assoc}
 
 -- ---- what stands at a place of the table
 
-value-from : (f : ℕ → ℕ) (n i k : ℕ) → k < n → getD (valuesFrom f n i) k 0 ≡ f (i + k)
+pub value-from : (f : ℕ → ℕ) (n i k : ℕ) → k < n → getD (valuesFrom f n i) k 0 ≡ f (i + k)
 unfolding valuesFrom
 value-from f zero i k h = absurd (not-suc-le-zero h)
 value-from f (suc n) i zero h = ap f (sym (add-zero i))

@@ -1,3 +1,4 @@
 pub mod Text
+pub mod Blocks
 pub mod Decimal
 pub mod Dots

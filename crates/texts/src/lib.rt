@@ -1,9 +1,12 @@
 // Texts as bytes: order, equality, numbers in decimal, the first dot.
 ghost use mathlib.Core.Path.{_≡_};
-ghost use mathlib.Core.List.{_++_};
-ghost use Prim.Native.Nat.{min, _<_, _≤_};
-ghost use lib.ListN.{length, drop};
+ghost use mathlib.Core.List.{[], _∷_, _++_};
+ghost use Prim.Native.Nat.{_+_, min, _<_, _≤_};
+ghost use lib.Dec.{eqb};
+ghost use lib.ListN.{length, drop, getD};
+ghost use Rattle.laws.specs.Counted.{allOf};
 ghost use Rattle.texts.specs.Text.{orderOf, same};
+ghost use Rattle.texts.specs.Blocks.{Alike, numberFrom, WordAt};
 ghost use Rattle.texts.specs.Dots.{firstDot};
 ghost use Rattle.texts.specs.Decimal.{digit, decimal};
 
@@ -19,12 +22,59 @@ fn shorter(m: usize, n: usize) -> usize
     if m < n { m } else { n }
 }
 
-// The order of two texts: the first byte that differs decides, else the length.
-pub fn compare(a: &[u8], b: &[u8]) -> Order
+// Whether the 64 bytes of both from `at` on are alike. Their differences are gathered: this compiles to vector code.
+fn block_alike(a: &[u8], b: &[u8], at: usize) -> bool
+    requires { ⌜ (at + 64 ≤ length (now a)) × (at + 64 ≤ length (now b)) ⌝ }
+    ensures { λ r. ⌜ r ≡ allOf 64 (λ j. eqb (getD (now (a .entry)) (at + j) 0) (getD (now (b .entry)) (at + j) 0)) ⌝ }
+{
+    let mut bits: u8 = 0;
+    let mut j = 0;
+    while j < 64 {
+        bits = bits | (a[at + j] ^ b[at + j]);
+        j += 1;
+    }
+    bits == 0
+}
+
+// Goes past blocks that are alike, within the first n bytes.
+fn alike_blocks(a: &[u8], b: &[u8], n: usize) -> usize
+    requires { ⌜ (n ≤ length (now a)) × (n ≤ length (now b)) ⌝ }
+    ensures { λ r. ⌜ (r ≤ n) × Alike (now (a .entry)) (now (b .entry)) r ⌝ }
+{
+    let mut i = 0;
+    while 64 <= n - i {
+        if !block_alike(a, b, i) {
+            return i;
+        }
+        i += 64;
+    }
+    i
+}
+
+// Four bytes as a number, the first one highest.
+fn half(a: u8, b: u8, c: u8, d: u8) -> u32
+    ensures { λ r. ⌜ r ≡ numberFrom 0 (a ∷ b ∷ c ∷ d ∷ []) ⌝ }
+{
+    (d as u32) + 256 * ((c as u32) + 256 * ((b as u32) + 256 * (a as u32)))
+}
+
+// The eight bytes from `at` on as a number, which is ordered as they are. By halves: this compiles to one read.
+fn word(s: &[u8], at: usize) -> u64
+    requires { ⌜ at + 8 ≤ length (now s) ⌝ }
+    ensures { λ r. ⌜ WordAt (now (s .entry)) at r ⌝ }
+{
+    let front = half(s[at], s[at + 1], s[at + 2], s[at + 3]);
+    let back = half(s[at + 4], s[at + 5], s[at + 6], s[at + 7]);
+    4294967296 * (front as u64) + (back as u64)
+}
+
+// The order of two texts that are alike before `at`: the first byte that differs decides, else the length.
+fn compare_bytes(a: &[u8], b: &[u8], at: usize) -> Order
+    requires { ⌜ Alike (now a) (now b) at ⌝ }
     ensures { λ r. ⌜ r ≡ orderOf (now (a .entry)) (now (b .entry)) ⌝ }
 {
     let n = shorter(a.len(), b.len());
-    let mut i = 0;
+    let mut i = at;
     while i < n {
         let x = a[i];
         let y = b[i];
@@ -44,6 +94,36 @@ pub fn compare(a: &[u8], b: &[u8]) -> Order
     } else {
         Order::Equal
     }
+}
+
+// The order of two texts: past blocks that are alike, by words of eight bytes, the last few bytes one by one.
+fn compare_words(a: &[u8], b: &[u8]) -> Order
+    ensures { λ r. ⌜ r ≡ orderOf (now (a .entry)) (now (b .entry)) ⌝ }
+{
+    let n = shorter(a.len(), b.len());
+    let mut i = alike_blocks(a, b, n);
+    while 8 <= n - i {
+        let x = word(a, i);
+        let y = word(b, i);
+        if x != y {
+            if x < y {
+                return Order::Less;
+            }
+            return Order::Greater;
+        }
+        i += 8;
+    }
+    compare_bytes(a, b, i)
+}
+
+// The order of two texts. Short ones are compared byte by byte, which becomes part of the caller.
+pub fn compare(a: &[u8], b: &[u8]) -> Order
+    ensures { λ r. ⌜ r ≡ orderOf (now (a .entry)) (now (b .entry)) ⌝ }
+{
+    if shorter(a.len(), b.len()) < 8 {
+        return compare_bytes(a, b, 0);
+    }
+    compare_words(a, b)
 }
 
 // Whether the two are one text. Unlike lengths answer at once.

@@ -57,15 +57,9 @@ module _ {front : List ℕ → ℕ} {s : List ℕ} where
   pub passes-next : {i e : ℕ} (k : ℕ) → Passes front s i e → e < length s → k ≡ front (drop e s) → (k ≡ 0 → ⊥) → e + k ≤ length s → Passes front s i (e + k)
   passes-next {i} {e} k p h q d l = record { from = omega arith; to = l; same = p .same ∙ run-next front s e k h q d l }
 
-  pub passes-on : {i e k : ℕ} → Passes front s i e → Passes front s e k → Passes front s i k
-  passes-on p q = record { from = omega arith; to = q .to; same = p .same ∙ q .same }
-
   -- a piece is missing at e
   pub advances-not : {i e : ℕ} (k : ℕ) → Passes front s i e → e < length s → k ≡ front (drop e s) → k ≡ 0 → Advances front s i i
   advances-not {i} {e} k p h q z = record { passes = passes-none i (omega arith); stays = λ r. p .same ∙ run-stop front s e k h q z }
-
-  pub advances : {i e : ℕ} → Passes front s i e → i < e → Advances front s i e
-  advances p h = record { passes = p; stays = λ r. absurd (omega arith) }
 
   -- pieces from the start to the end
   pub run-all : {e : ℕ} → Passes front s 0 e → length s ≤ e → true ≡ isRun front s

@@ -1,34 +1,32 @@
--- `utf8::ascii_end` meets its contract. The invariant: whole sequences have passed.
+-- The invariant: the bytes so far are ASCII.
 use Prim.Native.Nat.{_-_}
 use mathlib.Core.Path.{sym, _∙_}
 use native.Mathlib.Omega.{arith}
 use borrow.Author.Needs.{needs}
 use borrow.Author.Tests.{not-false}
 use lib.ListN.{length}
-use Rattle.utf8.specs.Runs.{Passes}
-use Rattle.utf8.specs.Utf8.{rows, sizeIn}
-use Rattle.utf8.proofs.Runs.{passes-none, passes-on}
-use Rattle.utf8.proofs.Ascii.{ascii-passes}
+use Rattle.utf8.specs.Places.{AsciiTo}
+use Rattle.utf8.proofs.Blocks.{ascii-none, ascii-next}
 use Rattle.utf8.proofs.ascii_end.Statement.{statement}
 use Rattle.utf8.proofs.ascii_end.Tie as tie
 
 abbrev Inv-loop : tie.InvT-loop
-Inv-loop s at i₀ i = Passes (sizeIn rows) s at i
+Inv-loop s i₀ i = AsciiTo s i
 
 abbrev μ-loop : tie.MeasureT-loop
-μ-loop s at i₀ i = length s - i
+μ-loop s i₀ i = length s - i
 
 loop-holds : tie.Need-loop-holds Inv-loop μ-loop
-loop-holds c = passes-none _ (c .before .pre)
+loop-holds c = ascii-none _
 
 sub-loop : tie.Need-sub-loop Inv-loop μ-loop
 sub-loop c = search needs
 
-all-ascii-requires : tie.Need-all-ascii-requires Inv-loop μ-loop
-all-ascii-requires c κs = search needs
+block-ascii-requires : tie.Need-block-ascii-requires Inv-loop μ-loop
+block-ascii-requires c κs = search needs
 
 returns : tie.Need-returns Inv-loop μ-loop
-returns c = search needs
+returns c = c .before .before .before .loop .inv
 
 add-i : tie.Need-add-i Inv-loop μ-loop
 add-i c = search needs
@@ -38,9 +36,11 @@ loop-less c = search needs
 
 loop-again : tie.Need-loop-again Inv-loop μ-loop
 loop-again c =
-    let l = c .before .before .before .loop in
-    let f = c .before .«all-ascii» in
-    passes-on (l .inv) (ascii-passes _ (l .i) 32 (omega arith) (sym (f .ensures) ∙ not-false (f .result) (c .if1 .left)))
+    let f = c .before .block-ascii in
+    ascii-next 64 (c .before .before .before .loop .inv) (omega arith) (sym (f .ensures) ∙ not-false (f .result) (c .if1 .left))
+
+ascii-last-requires : tie.Need-ascii-last-requires Inv-loop μ-loop
+ascii-last-requires c κs = search needs
 
 returns-2 : tie.Need-returns-2 Inv-loop μ-loop
 returns-2 c = search needs
@@ -53,9 +53,10 @@ ascii-end-spec =
     μ-loop
     loop-holds
     sub-loop
-    all-ascii-requires
+    block-ascii-requires
     returns
     add-i
     loop-less
     loop-again
+    ascii-last-requires
     returns-2)

@@ -6,8 +6,8 @@ use borrow.Author.Needs.{needs}
 use denote.Ref.{now}
 use Rattle.checksum.specs.Crc.{crcFrom}
 use Rattle.checksum.proofs.Checksums.{crc-next, crc-end}
-use Rattle.checksum.proofs.update_all.Statement.{statement}
-use Rattle.checksum.proofs.update_all.Tie as tie
+use Rattle.checksum.proofs.update_bytes.Statement.{statement}
+use Rattle.checksum.proofs.update_bytes.Tie as tie
 
 abbrev Inv-loop : tie.InvT-loop
 Inv-loop table crc bytes c₀ i₀ c i = (i ≤ length bytes) × (crcFrom c (drop i bytes) ≡ crcFrom crc bytes)
@@ -40,8 +40,8 @@ returns c =
     let loop = c .before .loop in
     crc-end (loop .c) (now (c .before .before .before .args .bytes)) (loop .i) (c .loop-test .left) ∙ loop .inv .1
 
-pub update-all-spec : {M : Type 1} → statement M
-update-all-spec =
+pub update-bytes-spec : {M : Type 1} → statement M
+update-bytes-spec =
     tie.close
     (tie.spec
     Inv-loop

@@ -1,0 +1,34 @@
+-- The answer of `compare`, arm by arm.
+use borrow.Author.Needs.{needs}
+use Rattle.texts.specs.Text.{before}
+use Rattle.leaves.proofs.leaf_before.Statement.{statement}
+use Rattle.leaves.proofs.leaf_before.Tie as tie
+
+compare-requires : tie.Need-compare-requires
+compare-requires c κs = search needs
+
+enum-told : tie.Need-enum-told
+enum-told c = search needs
+
+enum-told-2 : tie.Need-enum-told-2
+enum-told-2 c = search needs
+
+enum-told-3 : tie.Need-enum-told-3
+enum-told-3 c = search needs
+
+returns : tie.Need-returns
+unfolding before
+returns c = rw (← c .before .before .compare .ensures, c .enum-told .given .1)
+
+returns-2 : tie.Need-returns-2
+unfolding before
+returns-2 c = rw (← c .before .before .compare .ensures, c .enum-told2 .given .1)
+
+returns-3 : tie.Need-returns-3
+unfolding before
+returns-3 c = rw (← c .before .before .compare .ensures, c .enum-told3 .given .1)
+
+pub leaf-before-spec : {M : Type 1} → statement M
+leaf-before-spec =
+    tie.close
+    (tie.spec compare-requires enum-told enum-told-2 enum-told-3 returns returns-2 returns-3)
