@@ -120,9 +120,13 @@ present at len = not (isNone at || isNone len)
 abbrev pub absent : ℕ → ℕ → Bool
 absent at len = isNone at && isNone len
 
--- a good text of the strings: present, inside and UTF-8
+-- the bytes that a good text may have: UTF-8
+unfoldable pub goodBytes : List ℕ → Bool
+goodBytes bs = utf8 bs
+
+-- a good text of the strings: present, inside and of good bytes
 unfoldable pub goodIn : List ℕ → ℕ → ℕ → Bool
-goodIn strings at len = present at len && leb (at + len) (length strings) && utf8 (partAt strings at len)
+goodIn strings at len = present at len && leb (at + len) (length strings) && goodBytes (partAt strings at len)
 
 -- optional text is absent only if both words are NONE
 abbrev pub optionalIn : List ℕ → ℕ → ℕ → Bool
@@ -140,17 +144,23 @@ textOrEmpty strings at len = cond (leb (at + len) (length strings)) (partAt stri
 
 -- ---- nodes
 
--- NONE is no node, whatever the count
+-- among so many nodes; NONE is no node, whatever the count
+abbrev pub insideAmong : ℕ → ℕ → Bool
+insideAmong count n = ltb n count && not (isNone n)
+
 abbrev pub inside : Sections → ℕ → Bool
-inside s n = ltb n (nodeCount s) && not (isNone n)
+inside s n = insideAmong (nodeCount s) n
+
+abbrev pub containerTag : ℕ
+containerTag = 1
 
 abbrev pub isContainer : Sections → ℕ → Bool
-isContainer s n = eqb (tagOf s n) 1
+isContainer s n = eqb (tagOf s n) containerTag
 
 abbrev pub insideContainer : Sections → ℕ → Bool
 insideContainer s n = inside s n && isContainer s n
 
 -- names on an `unfolding` line what a computation with this module needs
 unfoldable pub sections : Unit {0}
-unfolding nodeWords nodeWord childWord namedWord definitionWord itemWord indexWord partAt goodIn textOrEmpty utf8s
+unfolding nodeWords nodeWord childWord namedWord definitionWord itemWord indexWord partAt goodBytes goodIn textOrEmpty utf8s
 sections = tt

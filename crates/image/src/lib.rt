@@ -3,13 +3,14 @@ ghost use mathlib.Core.Path.{_≡_};
 ghost use Prim.Native.Nat.{_+_, _*_, _/_, _≤_, _<_};
 ghost use lib.ListN.{length, getD};
 ghost use Rattle.words.specs.Words.{wordsOf};
-ghost use Rattle.image.specs.Sections.{nodeWords, textEntrySize, definitionSize, goodIn, optionalIn, textOrEmpty};
+ghost use Rattle.image.specs.Sections.{nodeWords, textEntrySize, definitionSize, goodIn, goodBytes, insideAmong, optionalIn, textOrEmpty};
 ghost use Rattle.image.specs.Header.{sectionBytes, sizes, openedOf};
 ghost use Rattle.image.specs.Entries.{recordOf, textEntryOf, definitionOf};
 
 pub mod encoding;
 mod header;
 pub mod refusal;
+pub mod tag;
 
 // Where a section begins, in bytes, and how many entries it has.
 pub struct Section {
@@ -200,6 +201,17 @@ pub fn node_record(part: &[u8], version: u32, i: usize) -> NodeRecord
     }
 }
 
+// Whether a number is one of so many nodes; NONE never is.
+pub fn is_inside(count: usize, n: u32) -> bool
+    ensures { λ r. ⌜ r ≡ insideAmong count n ⌝ }
+{
+    if n == NONE {
+        false
+    } else {
+        (n as usize) < count
+    }
+}
+
 // Entry `j` of the bytes of the named entries, the items or the index.
 pub fn text_entry(part: &[u8], j: usize) -> TextEntry
     requires { ⌜ textEntrySize * j + textEntrySize ≤ length (now part) ⌝ }
@@ -240,7 +252,14 @@ pub fn text_part(strings: &[u8], offset: u32, len: u32) -> &[u8]
     }
 }
 
-// Whether a text is present, inside the strings and UTF-8.
+// Whether bytes may be those of a good text: whether they are UTF-8.
+pub fn good_bytes(bytes: &[u8]) -> bool
+    ensures { λ r. ⌜ r ≡ goodBytes (now (bytes .entry)) ⌝ }
+{
+    utf8::valid(bytes)
+}
+
+// Whether a text is present, inside the strings and of good bytes.
 pub fn good_text(strings: &[u8], offset: u32, len: u32) -> bool
     ensures { λ r. ⌜ r ≡ goodIn (now (strings .entry)) offset len ⌝ }
 {
@@ -253,7 +272,7 @@ pub fn good_text(strings: &[u8], offset: u32, len: u32) -> bool
     let start = offset as usize;
     let end = start + len as usize;
     if end <= strings.len() {
-        utf8::valid(&strings[start..end])
+        good_bytes(&strings[start..end])
     } else {
         false
     }
