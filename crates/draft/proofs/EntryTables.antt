@@ -14,6 +14,7 @@ use Rattle.laws.proofs.First.{both, second, pass, fail, passed, first-next}
 use Rattle.image.specs.declared.TextEntry.{TextEntry}
 use Rattle.image.specs.declared.Definition.{Definition}
 use Rattle.image.specs.Sections.{Sections, definitionCount, childWord, goodIn}
+use Rattle.image.specs.Header.{nodeWords}
 use Rattle.image.specs.Entries.{textEntryOf, definitionOf, definitionIn}
 use Rattle.image.proofs.Entries.{named-entry, item-entry, definition-entry}
 use Rattle.records.specs.Shown.{insideAmong, startsNext}
@@ -42,10 +43,10 @@ module _ (n k : ℕ) (b : Bool) (f : ℕ → ℕ) (p : firstOf n f ≡ 0) (e : u
 
 -- ---- ordered children, items
 
-pub child-told : (ns cs : List ℕ) (j : ℕ) (b : Bool) → b ≡ insideAmong (length ns / 10) (getD cs j 0)
+pub child-told : (ns cs : List ℕ) (count : ℕ) → count ≡ length ns / nodeWords → (j : ℕ) (b : Bool) → b ≡ insideAmong count (getD cs j 0)
     → unless b 19 ≡ draftChildRule (draftOf ns cs [] [] [] [] []) j
 unfolding draftChildRule childWord
-child-told ns cs j b e = ap (λ (x : Bool). unless x 19) e
+child-told ns cs count k j b e = ap (λ (x : Bool). unless x 19) (e ∙ ap (λ (n : ℕ). insideAmong n (getD cs j 0)) k)
 
 pub item-told : (is ts : List ℕ) (j : ℕ) (entry : TextEntry) (b : Bool) → entry ≡ textEntryOf is j → b ≡ goodIn ts (entry .offset) (entry .len)
     → unless b 19 ≡ draftItemRule (draftOf [] [] [] [] is [] ts) j
@@ -56,13 +57,14 @@ item-told is ts j entry b r e =
 
 -- ---- named entries
 
-pub entry-told : (ns ms ts : List ℕ) (j : ℕ) (entry : TextEntry) (x : ℕ) → entry ≡ textEntryOf ms j
-    → x ≡ (unless (goodIn ts (entry .offset) (entry .len)) 19 ▸ unless (insideAmong (length ns / 10) (entry .value)) 19)
+pub entry-told : (ns ms ts : List ℕ) (count : ℕ) → count ≡ length ns / nodeWords → (j : ℕ) (entry : TextEntry) (x : ℕ) → entry ≡ textEntryOf ms j
+    → x ≡ (unless (goodIn ts (entry .offset) (entry .len)) 19 ▸ unless (insideAmong count (entry .value)) 19)
     → x ≡ draftNamedRule (draftOf ns [] ms [] [] [] ts) j
 unfolding draftNamedRule
-entry-told ns ms ts j entry x r e =
+entry-told ns ms ts count k j entry x r e =
     e
-    ∙ ap (λ (y : TextEntry). unless (goodIn ts (y .offset) (y .len)) 19 ▸ unless (insideAmong (length ns / 10) (y .value)) 19)
+    ∙ ap (λ (n : ℕ). unless (goodIn ts (entry .offset) (entry .len)) 19 ▸ unless (insideAmong n (entry .value)) 19) k
+    ∙ ap (λ (y : TextEntry). unless (goodIn ts (y .offset) (y .len)) 19 ▸ unless (insideAmong (length ns / nodeWords) (y .value)) 19)
     (r ∙ named-entry (draftOf ns [] ms [] [] [] ts) ms j refl)
 
 -- ---- definitions

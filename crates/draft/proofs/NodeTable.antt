@@ -12,13 +12,14 @@ use Rattle.laws.specs.Refusal.{unless, countsAs, _▸_, firstOf}
 use Rattle.laws.proofs.First.{both, second, pass, fail, as-zero, zero-as, first-next, first-all}
 use Rattle.image.specs.declared.NodeRecord.{NodeRecord}
 use Rattle.image.specs.Sections.{Sections, nodeCount, nodeWord, parentOf, inside}
+use Rattle.image.specs.Header.{nodeWords}
 use Rattle.image.specs.Entries.{nodeIn, recordOf}
 use Rattle.image.proofs.Entries.{node-record}
 use Rattle.records.specs.declared.Counts.{Counts}
 use Rattle.records.specs.declared.Sums.{Sums}
 use Rattle.records.specs.Fields.{kindOf}
 use Rattle.records.specs.Records.{targetIn, fieldsRule, containersBefore, usedUp}
-use Rattle.records.specs.Shown.{Shows, tagIn, sumsBefore, insideAmong}
+use Rattle.records.specs.Shown.{Shows, countsOf, tagIn, sumsBefore, insideAmong}
 use Rattle.records.proofs.Tests.{refused, first-broken, first-done}
 use Rattle.records.proofs.PassedRules.{first-sums, within}
 use Rattle.draft.specs.Source.{NodesFrom, draftOf}
@@ -82,11 +83,15 @@ module _ (s : Sections) (ns ps ts : List ℕ) (counts : Counts) (g : NodesFrom s
 -- ---- the loop
 
 -- the counts of a draft, as the code makes them
-abbrev pub countsIn : List ℕ → List ℕ → List ℕ → Counts
-countsIn ns cs ms = record { nodes = length ns / 10; children = length cs; named = length ms / 3 }
+abbrev pub countsIn : ℕ → List ℕ → List ℕ → Counts
+countsIn count cs ms = record { nodes = count; children = length cs; named = length ms / 3 }
 
-pub given : (ns cs ms ds is ps ts : List ℕ) → NodesFrom (draftOf ns cs ms ds is ps ts) ns ps ts (countsIn ns cs ms)
-given ns cs ms ds is ps ts = record { stride = refl; nodes-are = refl; payload-is = refl; strings-are = refl; counts = refl }
+module _ (ns cs ms ds is ps ts : List ℕ) (count : ℕ) (e : count ≡ length ns / nodeWords) where
+  pub counts-are : countsIn count cs ms ≡ countsOf (draftOf ns cs ms ds is ps ts)
+  counts-are = ap (λ (n : ℕ). countsIn n cs ms) e
+
+  pub given : NodesFrom (draftOf ns cs ms ds is ps ts) ns ps ts (countsIn count cs ms)
+  given = record { stride = refl; nodes-are = refl; payload-is = refl; strings-are = refl; counts = counts-are }
 
 -- the nodes before i pass, and the sums are theirs
 pub record Passing (s : Sections) (i : ℕ) (sums : Sums) : Type 0 where

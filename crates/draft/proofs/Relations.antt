@@ -4,7 +4,6 @@ use mathlib.Core.Path.{_≡_, refl, sym, ap, _∙_}
 use mathlib.Core.List.{List, []}
 use mathlib.Core.Bool.{Bool, true, false, cond, not, _&&_}
 use native.Mathlib.Omega.{arith}
-use native.Mathlib.Nat.{add-zero}
 use lib.ListN.{length, getD}
 use lib.Dec.{eqb}
 use borrow.Author.Tests.{not-true, not-false, eq-eqb, ne-eqb}
@@ -17,19 +16,22 @@ use Rattle.image.specs.declared.NodeRecord.{NodeRecord}
 use Rattle.image.specs.declared.TextEntry.{TextEntry}
 use Rattle.image.specs.declared.Definition.{Definition}
 use Rattle.image.specs.Sections.{Sections, nodeWord, childWord, parentOf, placeOf, tagOf, f, inside, isContainer, insideContainer, goodText, textOrEmpty}
+use Rattle.image.specs.Header.{nodeWords}
 use Rattle.image.specs.Entries.{textEntryOf, definitionOf, nodeIn, namedIn}
 use Rattle.image.proofs.Entries.{IsNode, is-node, named-entry, item-entry, definition-entry}
 use Rattle.image.proofs.Parts.{good-part}
 use Rattle.records.specs.Records.{numberOfChildren, numberOfNamed, parentRule}
 use Rattle.records.specs.Shown.{ShowsParent, tagIn, insideAmong}
 use Rattle.records.proofs.Tests.{stop, go}
+use Rattle.tree.proofs.Members.{both-true}
 use Rattle.tree.specs.Tree.{childAt, namedAt, namedText, rightChild, childRule, namedRule, entriesRule}
 use Rattle.index.specs.Definitions.{definitionText, itemText, itemTextOf, firstItem, numberOfItems}
 use Rattle.index.proofs.RisingTexts.{rising-next}
-use Rattle.draft.specs.Source.{draftOf}
+use Rattle.draft.specs.Source.{draftOf, wordOf}
 use Rattle.draft.specs.Draft.{relationRule, orderRule}
 use Rattle.draft.specs.Shown.{shownEntry, shownDefinition, rightContainer, namedRight, TreePassed, ListsPassed}
-use Rattle.draft.proofs.NodeTable.{countsIn}
+use Rattle.draft.proofs.NodeTable.{countsIn, counts-are}
+use Rattle.draft.proofs.Widths.{among-below}
 use Rattle.draft.proofs.Runs.{as-passes, passes-unless, passes-both, passes-all, unless-both, unless-all, rising-upto, all-like}
 
 -- ---- the order of two texts
@@ -56,14 +58,14 @@ module _ (ns : List ℕ) where
   abbrev alone : Sections
   alone = draftOf ns [] [] [] [] [] []
 
-  module _ (x i j : ℕ) (b : Bool) (e : b ≡ insideAmong (length ns / 10) x) where
+  module _ (x i j : ℕ) (b : Bool) (e : b ≡ insideAmong (length ns / nodeWords) x) where
     pub child-outside : not b ≡ true → false ≡ rightChild alone x i j
     child-outside q = ap (λ (t : Bool). t && eqb (parentOf alone x) i && eqb (placeOf alone x) j) (sym (sym e ∙ not-true b q))
 
-    module _ (q : not b ≡ false) (p : ℕ) (k : p ≡ getD ns (x * 10) 0) where
+    module _ (q : not b ≡ false) (p : ℕ) (k : p ≡ wordOf ns x 0) where
       parent-is : p ≡ parentOf alone x
       unfolding nodeWord
-      parent-is = rw add-zero k
+      parent-is = k
 
       by-parent : rightChild alone x i j ≡ (eqb p i && eqb (placeOf alone x) j)
       by-parent =
@@ -73,7 +75,7 @@ module _ (ns : List ℕ) where
       pub child-astray : (p ≡ i → ⊥) → false ≡ rightChild alone x i j
       child-astray d = sym (by-parent ∙ ap (λ (t : Bool). t && eqb (placeOf alone x) j) (ne-eqb p i d))
 
-      pub child-placed : p ≡ i → (n : ℕ) → n ≡ getD ns (x * 10 + 1) 0 → eqb n j ≡ rightChild alone x i j
+      pub child-placed : p ≡ i → (n : ℕ) → n ≡ wordOf ns x 1 → eqb n j ≡ rightChild alone x i j
       unfolding nodeWord
       child-placed d n r = sym (by-parent ∙ ap (λ (t : Bool). t && eqb (placeOf alone x) j) (eq-eqb p i d) ∙ ap (λ (m : ℕ). eqb m j) (sym r))
 
@@ -89,10 +91,14 @@ module _ (ns : List ℕ) where
     pub no-container : (tag ≡ 1 → ⊥) → false ≡ rightContainer ns n i
     no-container d = sym (ap (λ (t : Bool). t && eqb (parentOf alone n) i) (container-is ∙ ne-eqb tag 1 d))
 
-    pub its-container : tag ≡ 1 → (p : ℕ) → p ≡ getD ns (n * 10) 0 → eqb p i ≡ rightContainer ns n i
+    pub its-container : tag ≡ 1 → (p : ℕ) → p ≡ wordOf ns n 0 → eqb p i ≡ rightContainer ns n i
     unfolding nodeWord
     its-container d p k =
-        sym (ap (λ (t : Bool). t && eqb (parentOf alone n) i) (container-is ∙ eq-eqb tag 1 d) ∙ ap (λ (x : ℕ). eqb x i) (rw add-zero (sym k)))
+        sym (ap (λ (t : Bool). t && eqb (parentOf alone n) i) (container-is ∙ eq-eqb tag 1 d) ∙ ap (λ (x : ℕ). eqb x i) (sym k))
+
+    -- a node that has a tag is one
+    pub container-there : tag ≡ 1 → n < length ns / nodeWords
+    container-there d = among-below (length ns / nodeWords) n _ refl (both-true (inside alone n) _ (container-is ∙ eq-eqb tag 1 d) .0)
 
 -- ---- a named entry
 
@@ -110,7 +116,7 @@ module _ (ns ms ts : List ℕ) (i first j : ℕ) (b : Bool) (e : b ≡ rising (s
 
 -- ---- the rules of node i
 
-module _ (ns cs ms ts : List ℕ) (g : TreePassed (draftOf ns cs ms [] [] [] ts)) (i : ℕ) (h : i < length ns / 10) (r : NodeRecord)
+module _ (ns cs ms ts : List ℕ) (g : TreePassed (draftOf ns cs ms [] [] [] ts)) (i : ℕ) (h : i < length ns / nodeWords) (r : NodeRecord)
     (node : r ≡ nodeIn (draftOf ns cs ms [] [] [] ts) i) where
   abbrev s : Sections
   s = draftOf ns cs ms [] [] [] ts
@@ -118,9 +124,11 @@ module _ (ns cs ms ts : List ℕ) (g : TreePassed (draftOf ns cs ms [] [] [] ts)
   node-words : IsNode s i r
   node-words = is-node s i r node
 
-  pub parent-told : (tag : ℕ) → tag ≡ tagIn (alone ns) (r .parent) → ShowsParent s i r (countsIn ns cs ms) tag
+  pub parent-told : (count tag : ℕ) → count ≡ length ns / nodeWords → tag ≡ tagIn (alone ns) (r .parent)
+      → ShowsParent s i r (countsIn count cs ms) tag
   unfolding tagIn nodeWord
-  parent-told tag e = record { node = node; counts = refl; parent = e ∙ ap (λ (x : NodeRecord). tagIn (alone ns) (x .parent)) node }
+  parent-told count tag k e =
+      record { node = node; counts = counts-are ns cs ms [] [] [] ts count k; parent = e ∙ ap (λ (x : NodeRecord). tagIn (alone ns) (x .parent)) node }
 
   by-passing : relationRule s i ≡ unless (passes (parentRule s i) && passes (entriesRule s i)) 21
   unfolding relationRule

@@ -1,5 +1,5 @@
 -- The rules of a draft, numbers 19 to 22: sections without an index, in any numbering with root 0.
-use Prim.Native.Nat.{ℕ, zero, suc, _+_, _*_, _%_}
+use Prim.Native.Nat.{ℕ, zero, suc, _%_}
 use mathlib.Core.List.{List}
 use mathlib.Core.Bool.{Bool, true, false, _&&_, _||_, not}
 use lib.ListN.{length}
@@ -13,6 +13,7 @@ use Rattle.records.specs.Records.{fieldsRule, parentRule, rootRight, usedUp, re
 use Rattle.tree.specs.Tree.{entriesRule, readWalk, allSeen, Walked, trees}
 use Rattle.index.specs.Paths.{nameless, canonicalPath, paths}
 use Rattle.index.specs.Definitions.{goodDefinition, goodItem, itemsRight, numberOfItems, itemsUsedUp, definitionText, itemTextOf, definitions}
+use Rattle.draft.specs.Needs.{entryCounts, wordsFor}
 
 -- ---- 19: the tables
 
@@ -49,10 +50,10 @@ tablesRule s =
     ▸ unless (itemsUsedUp s) 19
     ▸ firstOf (itemCount s) (draftItemRule s)
 
--- ---- 7: 16 words a node, 4 for each other entry and payload byte
+-- ---- 7: the work words
 
 abbrev pub writeWords : Sections → ℕ
-writeWords s = 16 * nodeCount s + 4 * (childCount s + namedCount s + definitionCount s + itemCount s + length (s .payload))
+writeWords s = wordsFor (entryCounts s)
 
 -- ---- 20: every node is reached by entries from the root
 

@@ -44,3 +44,9 @@ pub record ListsPassed (s : Sections) : Type 0 where
   pub ranges : (d : ℕ) → d < definitionCount s → firstItem s d + numberOfItems s d ≤ itemCount s
   pub definitions : (d : ℕ) → d < definitionCount s → goodDefinition s d ≡ true
   pub items : (j : ℕ) → j < itemCount s → goodItem s j ≡ true
+
+-- there is a root, and both of these hold
+pub record TablesPassed (s : Sections) : Type 0 where
+  pub some : 0 < nodeCount s
+  pub tree : TreePassed s
+  pub lists : ListsPassed s

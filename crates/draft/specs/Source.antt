@@ -1,7 +1,8 @@
 -- A draft's sections, out of its words and bytes: a draft has no index.
-use Prim.Native.Nat.{ℕ}
+use Prim.Native.Nat.{ℕ, _+_, _*_}
 use mathlib.Core.Path.{_≡_}
 use mathlib.Core.List.{List, []}
+use lib.ListN.{getD}
 use Rattle.image.specs.Header.{nodeWords}
 use Rattle.image.specs.Sections.{Sections}
 use Rattle.records.specs.declared.Counts.{Counts}
@@ -20,6 +21,10 @@ draftOf nodes children named definitions items payload strings =
       payload = payload;
       strings = strings;
     }
+
+-- word k of node n, in the nodes' words: 0 past the end
+abbrev pub wordOf : List ℕ → ℕ → ℕ → ℕ
+wordOf nodes n k = getD nodes (n * nodeWords + k) 0
 
 -- sections whose nodes, payload and strings are these, with their counts
 pub record NodesFrom (s : Sections) (nodes payload strings : List ℕ) (c : Counts) : Type 0 where

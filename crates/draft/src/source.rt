@@ -1,15 +1,22 @@
-// A draft's words and entries. The writer reads a draft by these functions alone.
+// A draft's words, nodes and entries. The writer reads a draft by these functions alone.
 ghost use mathlib.Core.Path.{_≡_};
-ghost use Prim.Native.Nat.{_+_, _*_, _≤_};
-ghost use lib.ListN.{length, getD};
-ghost use Rattle.image.specs.Entries.{recordOf, textEntryOf, definitionOf};
 ghost use mathlib.Core.List.{[]};
+ghost use Prim.Native.Nat.{ℕ, _+_, _*_, _/_, _≤_, _<_};
+ghost use lib.ListN.{length, getD};
+ghost use Rattle.image.specs.Header.{nodeWords};
+ghost use Rattle.image.specs.Entries.{recordOf, textEntryOf, definitionOf};
 ghost use Rattle.records.specs.Shown.{insideAmong, tagIn};
-ghost use Rattle.draft.specs.Source.{draftOf};
+ghost use Rattle.draft.specs.Source.{draftOf, wordOf};
 use image::Definition;
+use image::ImageView;
 use image::NONE;
 use image::NodeRecord;
 use image::TextEntry;
+
+// How the words of a draft are to be read: the format version decides how many of them a node has.
+pub struct Source {
+    pub version: u32,
+}
 
 // A word: 0 past the end.
 pub fn word(words: &[u32], i: usize) -> u32
@@ -18,12 +25,41 @@ pub fn word(words: &[u32], i: usize) -> u32
     if i < words.len() { words[i] } else { 0 }
 }
 
-// Node `i` of the nodes' words.
-pub fn node_at(nodes: &[u32], i: usize) -> NodeRecord
-    requires { ⌜ i * 10 + 10 ≤ length (now nodes) ⌝ }
-    ensures { λ r. ⌜ r ≡ recordOf (now (nodes .entry)) i ⌝ }
+// Words a node.
+pub fn node_words(source: Source) -> usize
+    ensures { λ r. ⌜ r ≡ nodeWords ⌝ }
 {
-    let at = i * 10;
+    ImageView::NODE_WORDS
+}
+
+// How many nodes there are.
+pub fn node_count(nodes: &[u32], source: Source) -> usize
+    ensures { λ r. ⌜ r ≡ length (now (nodes .entry)) / nodeWords ⌝ }
+{
+    nodes.len() / node_words(source)
+}
+
+// Word `k` of node `i`.
+pub fn node_word(nodes: &[u32], i: usize, k: usize, source: Source) -> u32
+    requires { ⌜ (i < length (now nodes) / nodeWords) × (k < nodeWords) ⌝ }
+    ensures { λ r. ⌜ r ≡ getD (now (nodes .entry)) (i * nodeWords + k) 0 ⌝ }
+{
+    nodes[i * node_words(source) + k]
+}
+
+// Word `k` of the node that a word names: 0 past the end.
+pub fn word_of(nodes: &[u32], n: u32, k: usize, source: Source) -> u32
+    requires { ⌜ k < nodeWords ⌝ }
+    ensures { λ r. ⌜ r ≡ wordOf (now (nodes .entry)) n k ⌝ }
+{
+    word(nodes, n as usize * node_words(source) + k)
+}
+
+// The node whose words begin at `at`.
+fn record_at(nodes: &[u32], at: usize) -> NodeRecord
+    requires { ⌜ at + 9 < length (now nodes) ⌝ }
+    ensures { λ r. ⌜ ((i : ℕ) → at ≡ i * nodeWords → r ≡ recordOf (now (nodes .entry)) i) ⌝ }
+{
     NodeRecord {
         parent: nodes[at],
         place: nodes[at + 1],
@@ -36,6 +72,14 @@ pub fn node_at(nodes: &[u32], i: usize) -> NodeRecord
         f5: nodes[at + 8],
         f6: nodes[at + 9],
     }
+}
+
+// Node `i`.
+pub fn node_at(nodes: &[u32], i: usize, source: Source) -> NodeRecord
+    requires { ⌜ i < length (now nodes) / nodeWords ⌝ }
+    ensures { λ r. ⌜ r ≡ recordOf (now (nodes .entry)) i ⌝ }
+{
+    record_at(nodes, i * node_words(source))
 }
 
 // Entry `j` of the words of the named entries or the items.
@@ -77,11 +121,11 @@ pub fn is_node(nodes: usize, n: u32) -> bool
 }
 
 // The tag of node `n`, 0 where there is no such node.
-pub fn tag_at(nodes: &[u32], n: u32) -> u32
+pub fn tag_at(nodes: &[u32], n: u32, source: Source) -> u32
     ensures { λ r. ⌜ r ≡ tagIn (draftOf (now (nodes .entry)) [] [] [] [] [] []) n ⌝ }
 {
-    if is_node(nodes.len() / 10, n) {
-        word(nodes, n as usize * 10 + 2)
+    if is_node(node_count(nodes, source), n) {
+        node_word(nodes, n as usize, 2, source)
     } else {
         0
     }

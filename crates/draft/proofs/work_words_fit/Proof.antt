@@ -1,56 +1,52 @@
--- `draft::work_words_fit` meets its contract.
 use borrow.Author.Needs.{needs}
-use Rattle.draft.proofs.WorkWords.{few-nodes, few-children, few-named, few-definitions, few-items, few-payload, enough, after-nodes, after-next, quarter}
 use Rattle.draft.proofs.work_words_fit.Statement.{statement}
 use Rattle.draft.proofs.work_words_fit.Tie as tie
+use Rattle.draft.proofs.work_words_fit.Reads as reads
+use Rattle.draft.proofs.work_words_fit.Lts as lts
 
+-- src/lib.rt:70:9
 returns : tie.Need-returns
-returns c = few-nodes _ _ _ _ _ _ _ (c .if1 .taken)
+returns c = ?
 
+-- src/lib.rt:72:26
 mul-left : tie.Need-mul-left
 mul-left c = search needs
 
+-- src/lib.rt:72:20
 sub-left : tie.Need-sub-left
 sub-left c = search needs
 
+-- src/lib.rt:74:9
 returns-2 : tie.Need-returns-2
-returns-2 c = few-children _ _ _ _ _ _ _ _ (after-nodes _ _ (c .before .if1 .left)) (c .if2 .taken)
+returns-2 c = ?
 
-sub-left-2 : tie.Need-sub-left-2
-sub-left-2 c = search needs
-
+-- src/lib.rt:78:9
 returns-3 : tie.Need-returns-3
-returns-3 c = few-named _ _ _ _ _ _ _ _ (after-next _ _ _ _ (after-nodes _ _ (c .before .before .if1 .left)) (c .before .if2 .left)) (c .if3 .taken)
+returns-3 c = ?
 
-sub-left-3 : tie.Need-sub-left-3
-sub-left-3 c = search needs
-
+-- src/lib.rt:82:9
 returns-4 : tie.Need-returns-4
-returns-4 c = few-definitions _ _ _ _ _ _ _ _ (after-next _ _ _ _ (after-next _ _ _ _ (after-nodes _ _ (c .before .before .before .if1 .left)) (c .before .before .if2 .left)) (c .before .if3 .left)) (c .if4 .taken)
+returns-4 c = ?
 
-sub-left-4 : tie.Need-sub-left-4
-sub-left-4 c = search needs
-
+-- src/lib.rt:86:9
 returns-5 : tie.Need-returns-5
-returns-5 c = few-items _ _ _ _ _ _ _ _ (after-next _ _ _ _ (after-next _ _ _ _ (after-next _ _ _ _ (after-nodes _ _ (c .before .before .before .before .if1 .left)) (c .before .before .before .if2 .left)) (c .before .before .if3 .left)) (c .before .if4 .left)) (c .if5 .taken)
+returns-5 c = ?
 
-sub-left-5 : tie.Need-sub-left-5
-sub-left-5 c = search needs
-
+-- src/lib.rt:90:9
 returns-6 : tie.Need-returns-6
-returns-6 c = few-payload _ _ _ _ _ _ _ _ (after-next _ _ _ _ (after-next _ _ _ _ (after-next _ _ _ _ (after-next _ _ _ _ (after-nodes _ _ (c .before .before .before .before .before .if1 .left)) (c .before .before .before .before .if2 .left)) (c .before .before .before .if3 .left)) (c .before .before .if4 .left)) (c .before .if5 .left)) (c .if6 .taken)
+returns-6 c = ?
 
-sub-t12 : tie.Need-sub-t12
-sub-t12 c = search needs
+-- src/lib.rt:92:20
+sub-t7 : tie.Need-sub-t7
+sub-t7 c = search needs
 
-sub-t11 : tie.Need-sub-t11
-sub-t11 c = search needs
+-- src/lib.rt:92:19
+mul-t8 : tie.Need-mul-t8
+mul-t8 c = ?
 
-mul-t14 : tie.Need-mul-t14
-mul-t14 c = quarter _ _ (c .before .before .before .before .before .before .fits .work)
-
+-- src/lib.rt:65:1
 returns-7 : tie.Need-returns-7
-returns-7 c = enough _ _ _ _ _ _ _ _ (after-next _ _ _ _ (after-next _ _ _ _ (after-next _ _ _ _ (after-next _ _ _ _ (after-next _ _ _ _ (after-nodes _ _ (c .before .before .before .before .before .if1 .left)) (c .before .before .before .before .if2 .left)) (c .before .before .before .if3 .left)) (c .before .before .if4 .left)) (c .before .if5 .left)) (c .if6 .left))
+returns-7 c = ?
 
 pub work-words-fit-spec : {M : Type 1} → statement M
 work-words-fit-spec =
@@ -60,15 +56,10 @@ work-words-fit-spec =
     mul-left
     sub-left
     returns-2
-    sub-left-2
     returns-3
-    sub-left-3
     returns-4
-    sub-left-4
     returns-5
-    sub-left-5
     returns-6
-    sub-t12
-    sub-t11
-    mul-t14
+    sub-t7
+    mul-t8
     returns-7)
