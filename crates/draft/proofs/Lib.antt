@@ -1,4 +1,4 @@
-pub mod Widths
+pub mod NodeCount
 pub mod Rules
 pub mod ReachedNodes
 pub mod NodeTable

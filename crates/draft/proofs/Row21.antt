@@ -23,16 +23,16 @@ tables-passed s t =
       lists = record { ranges = λ d h. items-end s t d h; definitions = λ d h. t .definitions d h .0; items = t .items };
     }
 
-module _ (ns cs ms ds is ps ts : List ℕ) where
+module _ (v : ℕ) (ns cs ms ds is ps ts : List ℕ) where
   abbrev s : Sections
-  s = draftOf ns cs ms ds is ps ts
+  s = draftOf v ns cs ms ds is ps ts
 
   -- the sections of the tree; of the definitions
   abbrev tree : Sections
-  tree = draftOf ns cs ms [] [] [] ts
+  tree = draftOf v ns cs ms [] [] [] ts
 
   abbrev lists : Sections
-  lists = draftOf [] [] [] ds is [] ts
+  lists = draftOf 0 [] [] [] ds is [] ts
 
   -- ---- what row 19 has shown
 

@@ -8,7 +8,7 @@ use Rattle.laws.specs.Refusal.{unless, countsAs, _▸_, firstOf, refusals}
 use Rattle.laws.specs.Counted.{allOf, counted}
 use Rattle.words.specs.Words.{isNone}
 use Rattle.texts.specs.Text.{same, rising, before, texts}
-use Rattle.image.specs.Sections.{Sections, nodeCount, childCount, namedCount, definitionCount, itemCount, nodeWord, parentOf, placeOf, tagOf, childWord, namedWord, goodText, inside, isContainer}
+use Rattle.image.specs.Sections.{Sections, nodeWords, textEntryWords, definitionWords, nodeCount, childCount, namedCount, definitionCount, itemCount, nodeWord, parentOf, placeOf, tagOf, childWord, namedWord, goodText, inside, isContainer}
 use Rattle.records.specs.Records.{fieldsRule, parentRule, rootRight, usedUp, records}
 use Rattle.tree.specs.Tree.{entriesRule, readWalk, allSeen, Walked, trees}
 use Rattle.index.specs.Paths.{nameless, canonicalPath, paths}
@@ -20,7 +20,7 @@ use Rattle.draft.specs.Needs.{entryCounts, wordsFor}
 -- each section is whole entries, and there is a node
 unfoldable pub wholeEntries : Sections → Bool
 wholeEntries s =
-    eqb (length (s .nodes) % s .stride) 0 && eqb (length (s .named) % 3) 0 && eqb (length (s .definitions) % 4) 0 && eqb (length (s .items) % 3) 0
+    eqb (length (s .nodes) % nodeWords (s .version)) 0 && eqb (length (s .named) % textEntryWords) 0 && eqb (length (s .definitions) % definitionWords) 0 && eqb (length (s .items) % textEntryWords) 0
     && not (eqb (nodeCount s) 0)
 
 -- the record rules of a node, and that its parent is a node, the root aside

@@ -9,6 +9,7 @@ ghost use Rattle.image.specs.Header.{inkRight};
 ghost use Rattle.draft.specs.Source.{draftOf};
 ghost use Rattle.draft.specs.Needs.{entryCounts, wordsFor, neededOf};
 use crate::source::Source;
+use image::ImageView;
 
 // Whether an ink version is one that can be written.
 pub fn ink_right(version: u32) -> bool
@@ -46,16 +47,16 @@ pub fn entry_counts(
     payload: &[u8],
     source: Source,
 ) -> EntryCounts
-    ensures { λ r. ⌜ (let s = draftOf (now (nodes .entry)) (now (children .entry)) (now (named .entry)) (now (definitions .entry))
-            (now (items .entry)) (now (payload .entry)) [] in
+    ensures { λ r. ⌜ (let s = draftOf (source .version) (now (nodes .entry)) (now (children .entry)) (now (named .entry)) (now (definitions .entry))
+        (now (items .entry)) (now (payload .entry)) [] in
         r ≡ entryCounts s) ⌝ }
 {
     EntryCounts {
         nodes: source::node_count(nodes, source),
         children: children.len(),
-        named: named.len() / 3,
-        definitions: definitions.len() / 4,
-        items: items.len() / 3,
+        named: named.len() / ImageView::TEXT_ENTRY_WORDS,
+        definitions: definitions.len() / ImageView::DEFINITION_WORDS,
+        items: items.len() / ImageView::TEXT_ENTRY_WORDS,
         payload: payload.len(),
     }
 }

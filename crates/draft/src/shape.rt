@@ -6,14 +6,16 @@ ghost use lib.ListN.{length, getD};
 ghost use Rattle.laws.specs.Refusal.{firstOf};
 ghost use Rattle.laws.specs.Counted.{allOf};
 ghost use Rattle.texts.specs.Text.{before, rising};
-ghost use Rattle.image.specs.Sections.{nodeCount, definitionCount, textOrEmpty};
+ghost use Rattle.image.specs.Sections.{textEntryWords, definitionWords, nodeCount, definitionCount, textOrEmpty};
 ghost use Rattle.tree.specs.Tree.{rightChild};
 ghost use Rattle.draft.specs.Source.{draftOf};
 ghost use Rattle.draft.specs.Draft.{relationRule, orderRule, shapeRule};
 ghost use Rattle.draft.specs.Shown.{shownEntry, shownDefinition, rightContainer, namedRight, TreePassed, ListsPassed, TablesPassed};
 use crate::source;
 use crate::source::Source;
+use image::ImageView;
 use image::refusal::DRAFT_SHAPE;
+use image::tag::CONTAINER;
 use records::Counts;
 use texts::Order;
 
@@ -34,7 +36,7 @@ fn comes_before(strings: &[u8], offset: u32, len: u32, next_offset: u32, next_le
 
 // Whether the text of an entry, the `place`-th from entry `first` on, comes after that of the entry before it.
 fn entry_rises(entries: &[u32], strings: &[u8], first: usize, place: usize) -> bool
-    requires { ⌜ (first + place) * 3 + 3 ≤ length (now entries) ⌝ }
+    requires { ⌜ (first + place) * textEntryWords + textEntryWords ≤ length (now entries) ⌝ }
     ensures { λ r. ⌜ r ≡ rising (shownEntry (now (entries .entry)) (now (strings .entry)) first) place ⌝ }
 {
     if place == 0 {
@@ -47,7 +49,7 @@ fn entry_rises(entries: &[u32], strings: &[u8], first: usize, place: usize) -> b
 
 // Whether the text of definition `d` comes after that of the definition before it.
 fn definition_rises(definitions: &[u32], strings: &[u8], d: usize) -> bool
-    requires { ⌜ d * 4 + 4 ≤ length (now definitions) ⌝ }
+    requires { ⌜ d * definitionWords + definitionWords ≤ length (now definitions) ⌝ }
     ensures { λ r. ⌜ r ≡ rising (shownDefinition (now (definitions .entry)) (now (strings .entry))) d ⌝ }
 {
     if d == 0 {
@@ -66,9 +68,9 @@ fn definition_rises(definitions: &[u32], strings: &[u8], d: usize) -> bool
 
 // Whether the word is a node whose parent is `id` and that stands at `place` among the ordered children.
 fn right_child(nodes: &[u32], child: u32, id: usize, place: usize, source: Source) -> bool
-    ensures { λ r. ⌜ r ≡ rightChild (draftOf (now (nodes .entry)) [] [] [] [] [] []) child id place ⌝ }
+    ensures { λ r. ⌜ r ≡ rightChild (draftOf (source .version) (now (nodes .entry)) [] [] [] [] [] []) child id place ⌝ }
 {
-    if !source::is_node(source::node_count(nodes, source), child) {
+    if !image::is_inside(source::node_count(nodes, source), child) {
         return false;
     }
     if source::node_word(nodes, child as usize, 0, source) as usize != id {
@@ -87,7 +89,7 @@ fn right_children(
     source: Source,
 ) -> bool
     requires { ⌜ start + count ≤ length (now children) ⌝ }
-    ensures { λ r. ⌜ (let s = draftOf (now (nodes .entry)) [] [] [] [] [] [] in
+    ensures { λ r. ⌜ (let s = draftOf (source .version) (now (nodes .entry)) [] [] [] [] [] [] in
         r ≡ allOf count (λ j. rightChild s (getD (now (children .entry)) (start + j) 0) id j)) ⌝ }
 {
     let mut j = 0;
@@ -102,9 +104,9 @@ fn right_children(
 
 // Whether the word is a container whose parent is `id`.
 fn right_container(nodes: &[u32], n: u32, id: usize, source: Source) -> bool
-    ensures { λ r. ⌜ r ≡ rightContainer (now (nodes .entry)) n id ⌝ }
+    ensures { λ r. ⌜ r ≡ rightContainer (source .version) (now (nodes .entry)) n id ⌝ }
 {
-    if source::tag_at(nodes, n, source) != 1 {
+    if source::tag_at(nodes, n, source) != CONTAINER {
         return false;
     }
     source::node_word(nodes, n as usize, 0, source) as usize == id
@@ -120,8 +122,8 @@ fn right_entry(
     place: usize,
     source: Source,
 ) -> bool
-    requires { ⌜ (first + place) * 3 + 3 ≤ length (now named) ⌝ }
-    ensures { λ r. ⌜ r ≡ namedRight (now (nodes .entry)) (now (named .entry)) (now (strings .entry)) id first place ⌝ }
+    requires { ⌜ (first + place) * textEntryWords + textEntryWords ≤ length (now named) ⌝ }
+    ensures { λ r. ⌜ r ≡ namedRight (source .version) (now (nodes .entry)) (now (named .entry)) (now (strings .entry)) id first place ⌝ }
 {
     if !entry_rises(named, strings, first, place) {
         return false;
@@ -144,8 +146,8 @@ fn right_entries(
     count: usize,
     source: Source,
 ) -> bool
-    requires { ⌜ (first + count) * 3 ≤ length (now named) ⌝ }
-    ensures { λ r. ⌜ r ≡ allOf count (namedRight (now (nodes .entry)) (now (named .entry)) (now (strings .entry)) id first) ⌝ }
+    requires { ⌜ (first + count) * textEntryWords ≤ length (now named) ⌝ }
+    ensures { λ r. ⌜ r ≡ allOf count (namedRight (source .version) (now (nodes .entry)) (now (named .entry)) (now (strings .entry)) id first) ⌝ }
 {
     let mut j = 0;
     while j < count {
@@ -159,7 +161,7 @@ fn right_entries(
 
 // Whether all of so many items, from `first` on, have their texts in order.
 fn items_rise(items: &[u32], strings: &[u8], first: usize, count: usize) -> bool
-    requires { ⌜ (first + count) * 3 ≤ length (now items) ⌝ }
+    requires { ⌜ (first + count) * textEntryWords ≤ length (now items) ⌝ }
     ensures { λ r. ⌜ r ≡ allOf count (rising (shownEntry (now (items .entry)) (now (strings .entry)) first)) ⌝ }
 {
     let mut j = 0;
@@ -181,21 +183,21 @@ fn relation_rule(
     i: usize,
     source: Source,
 ) -> u32
-    requires { ⌜ (let s = draftOf (now nodes) (now children) (now named) [] [] [] (now strings) in TreePassed s × (i < nodeCount s)) ⌝ }
-    ensures { λ r. ⌜ (let s = draftOf (now (nodes .entry)) (now (children .entry)) (now (named .entry)) [] [] [] (now (strings .entry)) in
+    requires { ⌜ (let s = draftOf (source .version) (now nodes) (now children) (now named) [] [] [] (now strings) in TreePassed s × (i < nodeCount s)) ⌝ }
+    ensures { λ r. ⌜ (let s = draftOf (source .version) (now (nodes .entry)) (now (children .entry)) (now (named .entry)) [] [] [] (now (strings .entry)) in
         r ≡ relationRule s i) ⌝ }
 {
     let counts = Counts {
         nodes: source::node_count(nodes, source),
         children: children.len(),
-        named: named.len() / 3,
+        named: named.len() / ImageView::TEXT_ENTRY_WORDS,
     };
     let node = source::node_at(nodes, i, source);
     let parent_tag = source::tag_at(nodes, node.parent, source);
     if records::parent_rule(node, i, counts, parent_tag) != 0 {
         return DRAFT_SHAPE;
     }
-    if node.tag != 1 {
+    if node.tag != CONTAINER {
         return 0;
     }
     if !right_children(
@@ -231,8 +233,8 @@ fn relations_rule(
     strings: &[u8],
     source: Source,
 ) -> u32
-    requires { ⌜ TreePassed (draftOf (now nodes) (now children) (now named) [] [] [] (now strings)) ⌝ }
-    ensures { λ r. ⌜ (let s = draftOf (now (nodes .entry)) (now (children .entry)) (now (named .entry)) [] [] [] (now (strings .entry)) in
+    requires { ⌜ TreePassed (draftOf (source .version) (now nodes) (now children) (now named) [] [] [] (now strings)) ⌝ }
+    ensures { λ r. ⌜ (let s = draftOf (source .version) (now (nodes .entry)) (now (children .entry)) (now (named .entry)) [] [] [] (now (strings .entry)) in
         r ≡ firstOf (nodeCount s) (relationRule s)) ⌝ }
 {
     let count = source::node_count(nodes, source);
@@ -249,8 +251,8 @@ fn relations_rule(
 
 // The order of definition `d` and of its items.
 fn order_rule(definitions: &[u32], items: &[u32], strings: &[u8], d: usize) -> u32
-    requires { ⌜ (let s = draftOf [] [] [] (now definitions) (now items) [] (now strings) in ListsPassed s × (d < definitionCount s)) ⌝ }
-    ensures { λ r. ⌜ (let s = draftOf [] [] [] (now (definitions .entry)) (now (items .entry)) [] (now (strings .entry)) in r ≡ orderRule s d) ⌝ }
+    requires { ⌜ (let s = draftOf 0 [] [] [] (now definitions) (now items) [] (now strings) in ListsPassed s × (d < definitionCount s)) ⌝ }
+    ensures { λ r. ⌜ (let s = draftOf 0 [] [] [] (now (definitions .entry)) (now (items .entry)) [] (now (strings .entry)) in r ≡ orderRule s d) ⌝ }
 {
     if !definition_rises(definitions, strings, d) {
         return DRAFT_SHAPE;
@@ -270,11 +272,11 @@ fn order_rule(definitions: &[u32], items: &[u32], strings: &[u8], d: usize) -> u
 
 // The order of every definition and of its items.
 fn orders_rule(definitions: &[u32], items: &[u32], strings: &[u8]) -> u32
-    requires { ⌜ ListsPassed (draftOf [] [] [] (now definitions) (now items) [] (now strings)) ⌝ }
-    ensures { λ r. ⌜ (let s = draftOf [] [] [] (now (definitions .entry)) (now (items .entry)) [] (now (strings .entry)) in
+    requires { ⌜ ListsPassed (draftOf 0 [] [] [] (now definitions) (now items) [] (now strings)) ⌝ }
+    ensures { λ r. ⌜ (let s = draftOf 0 [] [] [] (now (definitions .entry)) (now (items .entry)) [] (now (strings .entry)) in
         r ≡ firstOf (definitionCount s) (orderRule s)) ⌝ }
 {
-    let count = definitions.len() / 4;
+    let count = definitions.len() / ImageView::DEFINITION_WORDS;
     let mut d = 0;
     while d < count {
         let refused = order_rule(definitions, items, strings, d);
@@ -297,9 +299,9 @@ pub fn shape_rule(
     strings: &[u8],
     source: Source,
 ) -> u32
-    requires { ⌜ TablesPassed (draftOf (now nodes) (now children) (now named) (now definitions) (now items) (now payload) (now strings)) ⌝ }
-    ensures { λ r. ⌜ (let s = draftOf (now (nodes .entry)) (now (children .entry)) (now (named .entry)) (now (definitions .entry))
-            (now (items .entry)) (now (payload .entry)) (now (strings .entry)) in
+    requires { ⌜ TablesPassed (draftOf (source .version) (now nodes) (now children) (now named) (now definitions) (now items) (now payload) (now strings)) ⌝ }
+    ensures { λ r. ⌜ (let s = draftOf (source .version) (now (nodes .entry)) (now (children .entry)) (now (named .entry)) (now (definitions .entry))
+        (now (items .entry)) (now (payload .entry)) (now (strings .entry)) in
         r ≡ shapeRule s) ⌝ }
 {
     if !records::root_right(source::node_at(nodes, 0, source)) {

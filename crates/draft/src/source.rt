@@ -3,13 +3,12 @@ ghost use mathlib.Core.Path.{_≡_};
 ghost use mathlib.Core.List.{[]};
 ghost use Prim.Native.Nat.{ℕ, _+_, _*_, _/_, _≤_, _<_};
 ghost use lib.ListN.{length, getD};
-ghost use Rattle.image.specs.Header.{nodeWords};
+ghost use Rattle.image.specs.Sections.{nodeWords, textEntryWords, definitionWords};
 ghost use Rattle.image.specs.Entries.{recordOf, textEntryOf, definitionOf};
-ghost use Rattle.records.specs.Shown.{insideAmong, tagIn};
+ghost use Rattle.records.specs.Shown.{tagIn};
 ghost use Rattle.draft.specs.Source.{draftOf, wordOf};
 use image::Definition;
 use image::ImageView;
-use image::NONE;
 use image::NodeRecord;
 use image::TextEntry;
 
@@ -27,38 +26,46 @@ pub fn word(words: &[u32], i: usize) -> u32
 
 // Words a node.
 pub fn node_words(source: Source) -> usize
-    ensures { λ r. ⌜ r ≡ nodeWords ⌝ }
+    ensures { λ r. ⌜ r ≡ nodeWords (source .version) ⌝ }
 {
-    ImageView::NODE_WORDS
+    image::node_size(source.version) as usize / 4
 }
 
 // How many nodes there are.
 pub fn node_count(nodes: &[u32], source: Source) -> usize
-    ensures { λ r. ⌜ r ≡ length (now (nodes .entry)) / nodeWords ⌝ }
+    ensures { λ r. ⌜ r ≡ length (now (nodes .entry)) / nodeWords (source .version) ⌝ }
 {
     nodes.len() / node_words(source)
 }
 
+// The first word of node `i`.
+fn first_word(i: usize, source: Source) -> usize
+    requires { ⌜ i * nodeWords (source .version) ≤ 18446744073709551615 ⌝ }
+    ensures { λ r. ⌜ r ≡ i * nodeWords (source .version) ⌝ }
+{
+    i * node_words(source)
+}
+
 // Word `k` of node `i`.
 pub fn node_word(nodes: &[u32], i: usize, k: usize, source: Source) -> u32
-    requires { ⌜ (i < length (now nodes) / nodeWords) × (k < nodeWords) ⌝ }
-    ensures { λ r. ⌜ r ≡ getD (now (nodes .entry)) (i * nodeWords + k) 0 ⌝ }
+    requires { ⌜ (i < length (now nodes) / nodeWords (source .version)) × (k < nodeWords (source .version)) ⌝ }
+    ensures { λ r. ⌜ r ≡ getD (now (nodes .entry)) (i * nodeWords (source .version) + k) 0 ⌝ }
 {
-    nodes[i * node_words(source) + k]
+    nodes[first_word(i, source) + k]
 }
 
 // Word `k` of the node that a word names: 0 past the end.
 pub fn word_of(nodes: &[u32], n: u32, k: usize, source: Source) -> u32
-    requires { ⌜ k < nodeWords ⌝ }
-    ensures { λ r. ⌜ r ≡ wordOf (now (nodes .entry)) n k ⌝ }
+    requires { ⌜ k < nodeWords (source .version) ⌝ }
+    ensures { λ r. ⌜ r ≡ wordOf (source .version) (now (nodes .entry)) n k ⌝ }
 {
-    word(nodes, n as usize * node_words(source) + k)
+    word(nodes, first_word(n as usize, source) + k)
 }
 
 // The node whose words begin at `at`.
 fn record_at(nodes: &[u32], at: usize) -> NodeRecord
     requires { ⌜ at + 9 < length (now nodes) ⌝ }
-    ensures { λ r. ⌜ ((i : ℕ) → at ≡ i * nodeWords → r ≡ recordOf (now (nodes .entry)) i) ⌝ }
+    ensures { λ r. ⌜ ((version i : ℕ) → at ≡ i * nodeWords version → r ≡ recordOf version (now (nodes .entry)) i) ⌝ }
 {
     NodeRecord {
         parent: nodes[at],
@@ -76,18 +83,18 @@ fn record_at(nodes: &[u32], at: usize) -> NodeRecord
 
 // Node `i`.
 pub fn node_at(nodes: &[u32], i: usize, source: Source) -> NodeRecord
-    requires { ⌜ i < length (now nodes) / nodeWords ⌝ }
-    ensures { λ r. ⌜ r ≡ recordOf (now (nodes .entry)) i ⌝ }
+    requires { ⌜ i < length (now nodes) / nodeWords (source .version) ⌝ }
+    ensures { λ r. ⌜ r ≡ recordOf (source .version) (now (nodes .entry)) i ⌝ }
 {
-    record_at(nodes, i * node_words(source))
+    record_at(nodes, first_word(i, source))
 }
 
 // Entry `j` of the words of the named entries or the items.
 pub fn entry_at(entries: &[u32], j: usize) -> TextEntry
-    requires { ⌜ j * 3 + 3 ≤ length (now entries) ⌝ }
+    requires { ⌜ j * textEntryWords + textEntryWords ≤ length (now entries) ⌝ }
     ensures { λ r. ⌜ r ≡ textEntryOf (now (entries .entry)) j ⌝ }
 {
-    let at = j * 3;
+    let at = j * ImageView::TEXT_ENTRY_WORDS;
     TextEntry {
         offset: entries[at],
         len: entries[at + 1],
@@ -97,10 +104,10 @@ pub fn entry_at(entries: &[u32], j: usize) -> TextEntry
 
 // Definition `j` of the definitions' words.
 pub fn definition_at(definitions: &[u32], j: usize) -> Definition
-    requires { ⌜ j * 4 + 4 ≤ length (now definitions) ⌝ }
+    requires { ⌜ j * definitionWords + definitionWords ≤ length (now definitions) ⌝ }
     ensures { λ r. ⌜ r ≡ definitionOf (now (definitions .entry)) j ⌝ }
 {
-    let at = j * 4;
+    let at = j * ImageView::DEFINITION_WORDS;
     Definition {
         offset: definitions[at],
         len: definitions[at + 1],
@@ -109,22 +116,11 @@ pub fn definition_at(definitions: &[u32], j: usize) -> Definition
     }
 }
 
-// Whether the word is a node's number, among so many nodes; NONE never is.
-pub fn is_node(nodes: usize, n: u32) -> bool
-    ensures { λ r. ⌜ r ≡ insideAmong nodes n ⌝ }
-{
-    if n == NONE {
-        false
-    } else {
-        (n as usize) < nodes
-    }
-}
-
 // The tag of node `n`, 0 where there is no such node.
 pub fn tag_at(nodes: &[u32], n: u32, source: Source) -> u32
-    ensures { λ r. ⌜ r ≡ tagIn (draftOf (now (nodes .entry)) [] [] [] [] [] []) n ⌝ }
+    ensures { λ r. ⌜ r ≡ tagIn (draftOf (source .version) (now (nodes .entry)) [] [] [] [] [] []) n ⌝ }
 {
-    if is_node(node_count(nodes, source), n) {
+    if image::is_inside(node_count(nodes, source), n) {
         node_word(nodes, n as usize, 2, source)
     } else {
         0

@@ -3,16 +3,17 @@ ghost use mathlib.Core.Path.{_≡_};
 ghost use mathlib.Core.List.{List, []};
 ghost use Prim.Native.Nat.{ℕ};
 ghost use Rattle.laws.specs.Refusal.{unless, _▸_, firstOf};
-ghost use Rattle.image.specs.Sections.{Sections, nodeCount, childCount, namedCount, definitionCount, itemCount, goodIn};
+ghost use Rattle.image.specs.Sections.{Sections, insideAmong, nodeCount, childCount, namedCount, definitionCount, itemCount, goodIn};
 ghost use Rattle.image.specs.Entries.{nodeIn};
 ghost use Rattle.records.specs.Records.{usedUp};
-ghost use Rattle.records.specs.Shown.{sumsBefore, insideAmong, startsNext};
+ghost use Rattle.records.specs.Shown.{sumsBefore, startsNext};
 ghost use Rattle.index.specs.Definitions.{itemsUsedUp};
 ghost use Rattle.draft.specs.Source.{NodesFrom, draftOf};
 ghost use Rattle.draft.specs.Draft.{wholeEntries, draftNodeRule, draftChildRule, draftNamedRule, draftDefinitionRule, draftItemRule, tablesRule};
 use crate::source;
 use crate::source::Source;
 use image::Definition;
+use image::ImageView;
 use image::NodeRecord;
 use image::TextEntry;
 use image::refusal::BAD_DRAFT;
@@ -27,19 +28,19 @@ fn whole_entries(
     items: &[u32],
     source: Source,
 ) -> bool
-    ensures { λ r. ⌜ (let s = draftOf (now (nodes .entry)) [] (now (named .entry)) (now (definitions .entry)) (now (items .entry)) [] [] in
+    ensures { λ r. ⌜ (let s = draftOf (source .version) (now (nodes .entry)) [] (now (named .entry)) (now (definitions .entry)) (now (items .entry)) [] [] in
         r ≡ wholeEntries s) ⌝ }
 {
     if nodes.len() % source::node_words(source) != 0 {
         return false;
     }
-    if named.len() % 3 != 0 {
+    if named.len() % ImageView::TEXT_ENTRY_WORDS != 0 {
         return false;
     }
-    if definitions.len() % 4 != 0 {
+    if definitions.len() % ImageView::DEFINITION_WORDS != 0 {
         return false;
     }
-    if items.len() % 3 != 0 {
+    if items.len() % ImageView::TEXT_ENTRY_WORDS != 0 {
         return false;
     }
     source::node_count(nodes, source) != 0
@@ -56,7 +57,7 @@ fn node_rule(
     node: NodeRecord,
     source: Source,
 ) -> u32
-    ensures { λ r. ⌜ ((s : Sections) → NodesFrom s (now (nodes .entry)) (now (payload .entry)) (now (strings .entry)) counts
+    ensures { λ r. ⌜ ((s : Sections) → NodesFrom s (source .version) (now (nodes .entry)) (now (payload .entry)) (now (strings .entry)) counts
         → sums ≡ sumsBefore s i → node ≡ nodeIn s i → r ≡ draftNodeRule s i) ⌝ }
 {
     let target_tag = source::tag_at(nodes, records::target_of(node), source);
@@ -66,7 +67,7 @@ fn node_rule(
     if i == 0 {
         return 0;
     }
-    if source::is_node(counts.nodes, node.parent) {
+    if image::is_inside(counts.nodes, node.parent) {
         0
     } else {
         BAD_DRAFT
@@ -83,13 +84,14 @@ fn nodes_rule(
     source: Source,
 ) -> u32
     ensures { λ r. ⌜ ((ds is : List ℕ)
-        → (let s = draftOf (now (nodes .entry)) (now (children .entry)) (now (named .entry)) ds is (now (payload .entry)) (now (strings .entry)) in
+        → (let s = draftOf (source .version) (now (nodes .entry)) (now (children .entry)) (now (named .entry)) ds is
+        (now (payload .entry)) (now (strings .entry)) in
         r ≡ (firstOf (nodeCount s) (draftNodeRule s) ▸ unless (usedUp s) 19))) ⌝ }
 {
     let counts = Counts {
         nodes: source::node_count(nodes, source),
         children: children.len(),
-        named: named.len() / 3,
+        named: named.len() / ImageView::TEXT_ENTRY_WORDS,
     };
     let mut sums = Sums {
         children: 0,
@@ -115,12 +117,13 @@ fn nodes_rule(
 
 // Every ordered child is a node.
 fn children_rule(nodes: &[u32], children: &[u32], source: Source) -> u32
-    ensures { λ r. ⌜ (let s = draftOf (now (nodes .entry)) (now (children .entry)) [] [] [] [] [] in r ≡ firstOf (childCount s) (draftChildRule s)) ⌝ }
+    ensures { λ r. ⌜ (let s = draftOf (source .version) (now (nodes .entry)) (now (children .entry)) [] [] [] [] [] in
+        r ≡ firstOf (childCount s) (draftChildRule s)) ⌝ }
 {
     let count = source::node_count(nodes, source);
     let mut j = 0;
     while j < children.len() {
-        if !source::is_node(count, children[j]) {
+        if !image::is_inside(count, children[j]) {
             return BAD_DRAFT;
         }
         j += 1;
@@ -136,7 +139,7 @@ fn entry_rule(entry: TextEntry, nodes: usize, strings: &[u8]) -> u32
     if !image::good_text(strings, entry.offset, entry.len) {
         return BAD_DRAFT;
     }
-    if source::is_node(nodes, entry.value) {
+    if image::is_inside(nodes, entry.value) {
         0
     } else {
         BAD_DRAFT
@@ -145,10 +148,11 @@ fn entry_rule(entry: TextEntry, nodes: usize, strings: &[u8]) -> u32
 
 // The rules of every named entry.
 fn named_rule(nodes: &[u32], named: &[u32], strings: &[u8], source: Source) -> u32
-    ensures { λ r. ⌜ (let s = draftOf (now (nodes .entry)) [] (now (named .entry)) [] [] [] (now (strings .entry)) in r ≡ firstOf (namedCount s) (draftNamedRule s)) ⌝ }
+    ensures { λ r. ⌜ (let s = draftOf (source .version) (now (nodes .entry)) [] (now (named .entry)) [] [] [] (now (strings .entry)) in
+        r ≡ firstOf (namedCount s) (draftNamedRule s)) ⌝ }
 {
     let nodes = source::node_count(nodes, source);
-    let count = named.len() / 3;
+    let count = named.len() / ImageView::TEXT_ENTRY_WORDS;
     let mut j = 0;
     while j < count {
         let refused = entry_rule(source::entry_at(named, j), nodes, strings);
@@ -177,11 +181,11 @@ fn definition_rule(definition: Definition, used: usize, items: usize, strings: &
 
 // The rules of every definition, and that they use up the items.
 fn definitions_rule(definitions: &[u32], items: &[u32], strings: &[u8]) -> u32
-    ensures { λ r. ⌜ (let s = draftOf [] [] [] (now (definitions .entry)) (now (items .entry)) [] (now (strings .entry)) in
+    ensures { λ r. ⌜ (let s = draftOf 0 [] [] [] (now (definitions .entry)) (now (items .entry)) [] (now (strings .entry)) in
         r ≡ (firstOf (definitionCount s) (draftDefinitionRule s) ▸ unless (itemsUsedUp s) 19)) ⌝ }
 {
-    let count = definitions.len() / 4;
-    let all = items.len() / 3;
+    let count = definitions.len() / ImageView::DEFINITION_WORDS;
+    let all = items.len() / ImageView::TEXT_ENTRY_WORDS;
     let mut used = 0;
     let mut d = 0;
     while d < count {
@@ -197,9 +201,9 @@ fn definitions_rule(definitions: &[u32], items: &[u32], strings: &[u8]) -> u32
 
 // The text of every item is good.
 fn items_rule(items: &[u32], strings: &[u8]) -> u32
-    ensures { λ r. ⌜ (let s = draftOf [] [] [] [] (now (items .entry)) [] (now (strings .entry)) in r ≡ firstOf (itemCount s) (draftItemRule s)) ⌝ }
+    ensures { λ r. ⌜ (let s = draftOf 0 [] [] [] [] (now (items .entry)) [] (now (strings .entry)) in r ≡ firstOf (itemCount s) (draftItemRule s)) ⌝ }
 {
-    let count = items.len() / 3;
+    let count = items.len() / ImageView::TEXT_ENTRY_WORDS;
     let mut j = 0;
     while j < count {
         let item = source::entry_at(items, j);
@@ -222,8 +226,8 @@ pub fn tables_rule(
     strings: &[u8],
     source: Source,
 ) -> u32
-    ensures { λ r. ⌜ (let s = draftOf (now (nodes .entry)) (now (children .entry)) (now (named .entry)) (now (definitions .entry))
-            (now (items .entry)) (now (payload .entry)) (now (strings .entry)) in
+    ensures { λ r. ⌜ (let s = draftOf (source .version) (now (nodes .entry)) (now (children .entry)) (now (named .entry)) (now (definitions .entry))
+        (now (items .entry)) (now (payload .entry)) (now (strings .entry)) in
         r ≡ tablesRule s) ⌝ }
 {
     if !whole_entries(nodes, named, definitions, items, source) {

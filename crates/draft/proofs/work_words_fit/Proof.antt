@@ -1,52 +1,67 @@
+-- `draft::work_words_fit` meets its contract.
 use borrow.Author.Needs.{needs}
+use Rattle.draft.proofs.WorkWords.{few-nodes, few-children, few-named, few-definitions, few-items, few-payload, enough, after-nodes, after-next, quarter}
 use Rattle.draft.proofs.work_words_fit.Statement.{statement}
 use Rattle.draft.proofs.work_words_fit.Tie as tie
-use Rattle.draft.proofs.work_words_fit.Reads as reads
-use Rattle.draft.proofs.work_words_fit.Lts as lts
 
--- src/lib.rt:70:9
 returns : tie.Need-returns
-returns c = ?
+returns c = few-nodes _ _ (c .if1 .taken)
 
--- src/lib.rt:72:26
 mul-left : tie.Need-mul-left
 mul-left c = search needs
 
--- src/lib.rt:72:20
 sub-left : tie.Need-sub-left
 sub-left c = search needs
 
--- src/lib.rt:74:9
 returns-2 : tie.Need-returns-2
-returns-2 c = ?
+returns-2 c =
+    let after1 = after-nodes _ _ (c .before .before .before .if1 .left) in
+    few-children _ _ _ after1 (c .if2 .taken)
 
--- src/lib.rt:78:9
 returns-3 : tie.Need-returns-3
-returns-3 c = ?
+returns-3 c =
+    let after1 = after-nodes _ _ (c .before .before .before .before .before .before .if1 .left) in
+    let after2 = after-next _ _ _ _ after1 (c .before .before .before .if2 .left) in
+    few-named _ _ _ after2 (c .if3 .taken)
 
--- src/lib.rt:82:9
 returns-4 : tie.Need-returns-4
-returns-4 c = ?
+returns-4 c =
+    let after1 = after-nodes _ _ (c .before .before .before .before .before .before .before .before .before .if1 .left) in
+    let after2 = after-next _ _ _ _ after1 (c .before .before .before .before .before .before .if2 .left) in
+    let after3 = after-next _ _ _ _ after2 (c .before .before .before .if3 .left) in
+    few-definitions _ _ _ after3 (c .if4 .taken)
 
--- src/lib.rt:86:9
 returns-5 : tie.Need-returns-5
-returns-5 c = ?
+returns-5 c =
+    let after1 = after-nodes _ _ (c .before .before .before .before .before .before .before .before .before .before .before .before .if1 .left) in
+    let after2 = after-next _ _ _ _ after1 (c .before .before .before .before .before .before .before .before .before .if2 .left) in
+    let after3 = after-next _ _ _ _ after2 (c .before .before .before .before .before .before .if3 .left) in
+    let after4 = after-next _ _ _ _ after3 (c .before .before .before .if4 .left) in
+    few-items _ _ _ after4 (c .if5 .taken)
 
--- src/lib.rt:90:9
 returns-6 : tie.Need-returns-6
-returns-6 c = ?
+returns-6 c =
+    let after1 = after-nodes _ _ (c .before .before .before .before .before .before .before .before .before .before .before .before .before .before .before .if1 .left) in
+    let after2 = after-next _ _ _ _ after1 (c .before .before .before .before .before .before .before .before .before .before .before .before .if2 .left) in
+    let after3 = after-next _ _ _ _ after2 (c .before .before .before .before .before .before .before .before .before .if3 .left) in
+    let after4 = after-next _ _ _ _ after3 (c .before .before .before .before .before .before .if4 .left) in
+    let after5 = after-next _ _ _ _ after4 (c .before .before .before .if5 .left) in
+    few-payload _ _ _ after5 (c .if6 .taken)
 
--- src/lib.rt:92:20
 sub-t7 : tie.Need-sub-t7
 sub-t7 c = search needs
 
--- src/lib.rt:92:19
 mul-t8 : tie.Need-mul-t8
-mul-t8 c = ?
+mul-t8 c = quarter _ _ (c .before .before .before .before .before .before .before .before .before .before .before .before .before .before .before .before .before .before .fits .work)
 
--- src/lib.rt:65:1
 returns-7 : tie.Need-returns-7
-returns-7 c = ?
+returns-7 c =
+    let after1 = after-nodes _ _ (c .before .before .before .before .before .before .before .before .before .before .before .before .before .before .before .before .if1 .left) in
+    let after2 = after-next _ _ _ _ after1 (c .before .before .before .before .before .before .before .before .before .before .before .before .before .if2 .left) in
+    let after3 = after-next _ _ _ _ after2 (c .before .before .before .before .before .before .before .before .before .before .if3 .left) in
+    let after4 = after-next _ _ _ _ after3 (c .before .before .before .before .before .before .before .if4 .left) in
+    let after5 = after-next _ _ _ _ after4 (c .before .before .before .before .if5 .left) in
+    enough _ _ _ (after-next _ _ _ _ after5 (c .before .if6 .left))
 
 pub work-words-fit-spec : {M : Type 1} → statement M
 work-words-fit-spec =

@@ -1,25 +1,17 @@
 -- `draft::source::node_at` meets its contract.
-use Prim.Native.Nat.{ℕ, _*_}
-use mathlib.Core.Path.{ap}
 use native.Mathlib.Omega.{arith}
-use borrow.Author.Needs.{needs}
-use Rattle.draft.proofs.Widths.{node-there}
+use Rattle.image.proofs.Widths.{node-within}
 use Rattle.draft.proofs.source.node_at.Statement.{statement}
 use Rattle.draft.proofs.source.node_at.Tie as tie
 
-node-words-requires : tie.Need-node-words-requires
-node-words-requires c κs = search needs
-
-mul-record-at : tie.Need-mul-record-at
-mul-record-at c = let there = node-there _ _ (c .before .before .pre) in rw (c .node-words .ensures) (omega (arith, there .words))
+first-word-requires : tie.Need-first-word-requires
+first-word-requires c κs = let to = c .before in omega (arith, node-within (to .args .nodes .now) (to .args .source .version) (to .args .i) (to .pre))
 
 record-at-requires : tie.Need-record-at-requires
-record-at-requires c κs =
-    let there = node-there _ _ (c .before .before .pre) in
-    rw (c .node-words .ensures) (omega (arith, there .words, there .least))
+record-at-requires c κs = let to = c .before .before in omega (arith, node-within (to .args .nodes .now) (to .args .source .version) (to .args .i) (to .pre))
 
 returns : tie.Need-returns
-returns c = let i = c .before .before .args .i in c .record-at .ensures i (ap (λ (w : ℕ). i * w) (c .before .node-words .ensures))
+returns c = c .record-at .ensures _ _ (c .before .first-word .ensures)
 
 pub node-at-spec : {M : Type 1} → statement M
-node-at-spec = tie.close (tie.spec node-words-requires mul-record-at record-at-requires returns)
+node-at-spec = tie.close (tie.spec first-word-requires record-at-requires returns)

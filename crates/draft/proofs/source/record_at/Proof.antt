@@ -94,7 +94,7 @@ shared-slice-read-t41 c = search needs
 
 returns : tie.Need-returns
 unfolding recordOf
-returns c = λ i e. cc
+returns c = λ v i e. cc
 
 pub record-at-spec : {M : Type 1} → statement M
 record-at-spec =
