@@ -47,7 +47,7 @@ node-count-requires : tie.Need-node-count-requires
 node-count-requires c κs = search needs
 
 clear-requires : tie.Need-clear-requires
-clear-requires c κs = ?
+clear-requires c κs = let counted = c .before in omega (arith, counted .node-count .ensures, Begun counted .pre .3)
 
 walk-requires : tie.Need-walk-requires
 walk-requires c κs =
@@ -64,7 +64,10 @@ walk-requires c κs =
     )
 
 all-marked-requires : tie.Need-all-marked-requires
-all-marked-requires c κs = ?
+all-marked-requires c κs =
+    let walked = c .before .before .before in
+    let counted = Counted walked in
+    omega (arith, walked .walk .kept .1 .1 .1 .0, walked .before .before .before .before .clear .kept .0, Begun counted .pre .3, counted .node-count .ensures)
 
 same-length : tie.Need-same-length
 same-length c = search needs
