@@ -39,6 +39,12 @@ pub record Bounded (n : ℕ) (w x : List ℕ) (k total : ℕ) : Type 0 where
 pub bounds-of : (key : ℕ → List ℕ) (n : ℕ) (w x : List ℕ) (k total : ℕ) → Assigning key n w x k total → Bounded n w x k total
 bounds-of key n w x k total A = record { bound = A .bound; room = A .room; behind = A .behind; fits = A .fits }
 
+-- of texts by a number, as they go by the format version: all of this, and the bounds by one of them
+pub assign-all : (key : ℕ → ℕ → List ℕ) (n : ℕ) (w x : List ℕ) (k total v : ℕ) → Firsts (key v) n w
+    → ((u : ℕ) → Firsts (key u) n w → Assigning (key u) n w x k total)
+    → Bounded n w x k total × ((u : ℕ) → Firsts (key u) n w → Assigning (key u) n w x k total)
+assign-all key n w x k total v f all = (bounds-of (key v) n w x k total (all v f), all)
+
 pub assign-none : (key : ℕ → List ℕ) (n : ℕ) (w : List ℕ) → Assigning key n w w 0 0
 unfolding storedOf flatMap joinOf distinct
 assign-none key n w =

@@ -8,7 +8,7 @@ use lib.ListN.{getD, drop, length}
 use Rattle.write_text_keys.specs.Keys.{keyOf, keyIn}
 use Rattle.write_sorting.proofs.MergeInPlace.{drop-later}
 use Rattle.write_interning.specs.Uses.{Firsts}
-use Rattle.write_interning.proofs.OffsetLoop.{Assigning, Bounded, bounds-of, assign-none, first-early, assign-next, assign-old, assign-long, assigned-long, assigned-whole}
+use Rattle.write_interning.proofs.OffsetLoop.{Assigning, Bounded, assign-all, assign-none, first-early, assign-next, assign-old, assign-long, assigned-long, assigned-whole}
 use borrow.Author.Needs.{needs}
 use Rattle.write_interning.proofs.assign.Statement.{statement}
 use Rattle.write_interning.proofs.assign.Tie as tie
@@ -64,8 +64,9 @@ own c v =
 loop-holds : tie.Need-loop-holds Inv-loop μ-loop
 loop-holds c =
     let to = c .before .before .before in
-    let none = λ (v : ℕ). assign-none (keyIn v (to .args .nodes .now) (to .args .strings .now) (to .args .t) (to .args .w .now)) (to .args .n) (to .args .w .now) in
-    (bounds-of _ _ _ _ _ _ (none 0), λ v f. none v)
+    let a = to .args in
+    assign-all (λ v. keyIn v (a .nodes .now) (a .strings .now) (a .t) (a .w .now)) (a .n) (a .w .now) (a .w .now) 0 0 (a .source .version) (to .pre .1)
+    (λ v f. assign-none (keyIn v (a .nodes .now) (a .strings .now) (a .t) (a .w .now)) (a .n) (a .w .now))
 
 add-word : tie.Need-add-word Inv-loop μ-loop
 add-word c = search needs
@@ -142,13 +143,15 @@ loop-again c =
     ⊎-elim
     (λ w.
     let o = own (record { before = record { before = record { before = c .before; if1 = w .0 }; key-length-arg = w .1 }; key-length = w .2 }) in
-    let next = λ (v : ℕ) (f : Firsts (key at v) (to .args .n) (to .args .w .now)).
-    assign-next (key at v) (to .args .n) (to .args .w .now) (omega arith) f (at .loop .w) (at .loop .k) (at .loop .total) (at .loop .inv .1 v f) test (w .2 .result) (o v .size) (o v .self) (omega (arith, w .3 .left)) in
-    rw (w .4, w .5) (bounds-of _ _ _ _ _ _ (next (version at) (to .pre .1)), next))
+    rw (w .4, w .5)
+    (assign-all (key at) (to .args .n) (to .args .w .now) _ _ _ (version at) (to .pre .1)
+    (λ v f.
+    assign-next (key at v) (to .args .n) (to .args .w .now) (omega arith) f (at .loop .w) (at .loop .k) (at .loop .total) (at .loop .inv .1 v f) test (w .2 .result) (o v .size) (o v .self) (omega (arith, w .3 .left)))))
     (λ w.
-    let next = λ (v : ℕ) (f : Firsts (key at v) (to .args .n) (to .args .w .now)).
-    assign-old (key at v) (to .args .n) (to .args .w .now) (omega arith) f (at .loop .w) (at .loop .k) (at .loop .total) (at .loop .inv .1 v f) test (λ z. w .0 .left (c .before .word .ensures ∙ z)) in
-    rw (w .3, w .4, w .2 .ensures, c .before .word .ensures) (bounds-of _ _ _ _ _ _ (next (version at) (to .pre .1)), next))
+    rw (w .3, w .4, w .2 .ensures, c .before .word .ensures)
+    (assign-all (key at) (to .args .n) (to .args .w .now) _ _ _ (version at) (to .pre .1)
+    (λ v f.
+    assign-old (key at v) (to .args .n) (to .args .w .now) (omega arith) f (at .loop .w) (at .loop .k) (at .loop .total) (at .loop .inv .1 v f) test (λ z. w .0 .left (c .before .word .ensures ∙ z)))))
     (c .if1 .came)
 
 same-length-2 : tie.Need-same-length-2 Inv-loop μ-loop
