@@ -36,16 +36,37 @@ word-requires-4 : tie.Need-word-requires-4
 word-requires-4 c κs = search needs
 
 put-optional-requires : tie.Need-put-optional-requires
-put-optional-requires c κs = first-room _ _ _ _ _ (item-is _ _ _ _ _ _ _ (c .before .before .before .before .word .ensures) (c .before .before .before .word2 .ensures) (c .before .before .word3 .ensures) (c .before .word4 .ensures)) (c .before .before .before .before .before .before .before .pre .1)
+put-optional-requires c κs =
+    let asked = c .before .before .before .before .before .before .before .pre in
+    let word = c .before .before .before .before .word in
+    let word2 = c .before .before .before .word2 in
+    first-room _ _ _ _ _ (item-is _ _ _ _ _ _ _ (word .ensures) (word2 .ensures) (c .before .before .word3 .ensures) (c .before .word4 .ensures))
+    (asked .1)
 
 put-use-requires : tie.Need-put-use-requires
-put-use-requires c κs = second-room _ _ _ _ _ (item-is _ _ _ _ _ _ _ (c .before .before .before .before .before .before .before .before .word .ensures) (c .before .before .before .before .before .before .before .word2 .ensures) (c .before .before .before .before .before .before .word3 .ensures) (c .before .before .before .before .before .word4 .ensures)) (c .before .before .before .before .before .before .before .before .before .before .before .pre .1) _ _ (c .before .before .before .put-optional .ensures)
+put-use-requires c κs =
+    let asked = c .before .before .before .before .before .before .before .before .before .before .before .pre in
+    let word = c .before .before .before .before .before .before .before .before .word in
+    let word2 = c .before .before .before .before .before .before .before .word2 in
+    let word3 = c .before .before .before .before .before .before .word3 in
+    let word4 = c .before .before .before .before .before .word4 in
+    let put-optional = c .before .before .before .put-optional in
+    second-room _ _ _ _ _ (item-is _ _ _ _ _ _ _ (word .ensures) (word2 .ensures) (word3 .ensures) (word4 .ensures)) (asked .1) _ _
+    (put-optional .ensures)
 
 same-length : tie.Need-same-length
 same-length c = search needs
 
 returns : tie.Need-returns
-returns c = two-put _ _ _ _ _ (item-is _ _ _ _ _ _ _ (c .before .before .before .before .before .before .before .before .before .before .before .word .ensures) (c .before .before .before .before .before .before .before .before .before .before .word2 .ensures) (c .before .before .before .before .before .before .before .before .before .word3 .ensures) (c .before .before .before .before .before .before .before .before .word4 .ensures)) (c .before .before .before .before .before .before .before .before .before .before .before .before .before .before .pre .1) _ _ (c .before .before .before .before .before .before .put-optional .ensures) _ _ (c .before .before .put-use .ensures)
+returns c =
+    let asked = c .before .before .before .before .before .before .before .before .before .before .before .before .before .before .pre in
+    let word = c .before .before .before .before .before .before .before .before .before .before .before .word in
+    let word2 = c .before .before .before .before .before .before .before .before .before .before .word2 in
+    let word3 = c .before .before .before .before .before .before .before .before .before .word3 in
+    let word4 = c .before .before .before .before .before .before .before .before .word4 in
+    let put-optional = c .before .before .before .before .before .before .put-optional in
+    two-put _ _ _ _ _ (item-is _ _ _ _ _ _ _ (word .ensures) (word2 .ensures) (word3 .ensures) (word4 .ensures)) (asked .1) _ _
+    (put-optional .ensures) _ _ (c .before .before .put-use .ensures)
 
 pub put-list-item-spec : {M : Type 1} → statement M
 put-list-item-spec =

@@ -32,7 +32,13 @@ cast-i : tie.Need-cast-i Inv-loop μ-loop
 cast-i c = omega (arith, c .slice-known2 .given (c .before .before .before .before .before .before .args .order + c .before .before .loop .j))
 
 put-container-requires : tie.Need-put-container-requires Inv-loop μ-loop
-put-container-requires c κs = container-needs (c .before .before .before .before .before .before .before .args .nodes .now) _ (c .before .before .before .before .before .before .before .pre .0) _ _ (c .before .before .loop-test .taken) (old-read _ _ _ _ _ _ _ _ (c .before .before .before .loop .inv) (c .before .before .loop-test .taken)) (ordered-room _ _ _ _ _ _ _ _ (c .before .before .before .loop .inv) (c .before .before .loop-test .taken))
+put-container-requires c κs =
+    let to = c .before .before .before .before .before .before .before .args in
+    let asked = c .before .before .before .before .before .before .before .pre in
+    let loop = c .before .before .before .loop in
+    let test = c .before .before .loop-test in
+    container-needs (to .nodes .now) _ (asked .0) _ _ (test .taken) (old-read _ _ _ _ _ _ _ _ (loop .inv) (test .taken))
+    (ordered-room _ _ _ _ _ _ _ _ (loop .inv) (test .taken))
 
 add-j : tie.Need-add-j Inv-loop μ-loop
 add-j c = search needs
@@ -41,7 +47,10 @@ loop-less : tie.Need-loop-less Inv-loop μ-loop
 loop-less c = search needs
 
 loop-again : tie.Need-loop-again Inv-loop μ-loop
-loop-again c = ordered-next _ _ _ _ _ _ _ _ (c .before .before .before .before .before .before .loop .inv) (c .before .before .before .before .before .loop-test .taken) _ _ (c .before .before .put-container .ensures)
+loop-again c =
+    let loop = c .before .before .before .before .before .before .loop in
+    let test = c .before .before .before .before .before .loop-test in
+    ordered-next _ _ _ _ _ _ _ _ (loop .inv) (test .taken) _ _ (c .before .before .put-container .ensures)
 
 same-length : tie.Need-same-length Inv-loop μ-loop
 same-length c = search needs

@@ -32,7 +32,12 @@ cast-i : tie.Need-cast-i Inv-loop μ-loop
 cast-i c = omega (arith, c .slice-known2 .given (c .before .before .before .before .before .before .args .order + c .before .before .loop .j))
 
 put-node-requires : tie.Need-put-node-requires Inv-loop μ-loop
-put-node-requires c κs = node-needs _ _ _ (c .before .before .before .before .before .before .before .pre .0) _ _ (c .before .before .loop-test .taken) (old-read _ _ _ _ _ _ _ _ (c .before .before .before .loop .inv) (c .before .before .loop-test .taken)) (ordered-room _ _ _ _ _ _ _ _ (c .before .before .before .loop .inv) (c .before .before .loop-test .taken))
+put-node-requires c κs =
+    let asked = c .before .before .before .before .before .before .before .pre in
+    let loop = c .before .before .before .loop in
+    let test = c .before .before .loop-test in
+    node-needs _ _ _ (asked .0) _ _ (test .taken) (old-read _ _ _ _ _ _ _ _ (loop .inv) (test .taken))
+    (ordered-room _ _ _ _ _ _ _ _ (loop .inv) (test .taken))
 
 add-j : tie.Need-add-j Inv-loop μ-loop
 add-j c = search needs
@@ -41,7 +46,10 @@ loop-less : tie.Need-loop-less Inv-loop μ-loop
 loop-less c = search needs
 
 loop-again : tie.Need-loop-again Inv-loop μ-loop
-loop-again c = ordered-next _ _ _ _ _ _ _ _ (c .before .before .before .before .before .before .loop .inv) (c .before .before .before .before .before .loop-test .taken) _ _ (c .before .before .put-node .ensures)
+loop-again c =
+    let loop = c .before .before .before .before .before .before .loop in
+    let test = c .before .before .before .before .before .loop-test in
+    ordered-next _ _ _ _ _ _ _ _ (loop .inv) (test .taken) _ _ (c .before .before .put-node .ensures)
 
 same-length : tie.Need-same-length Inv-loop μ-loop
 same-length c = search needs

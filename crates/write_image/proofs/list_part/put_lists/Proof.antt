@@ -53,7 +53,8 @@ part-put-index-end c = search needs
 
 put-index-requires : tie.Need-put-index-requires
 put-index-requires c κs =
-    let r = c .before .before .before .before .before .before .before .before .before .before .before .before .before .pre in (index-fit _ _ _ _ _ _ _ _ _ (r .told) _ _ (r .indexed) (r .at .paths), omega (arith, lists-room _ _ _ _ _ _ _ _ r))
+    let asked = c .before .before .before .before .before .before .before .before .before .before .before .before .before .pre in
+    let r = asked in (index-fit _ _ _ _ _ _ _ _ _ (r .told) _ _ (r .indexed) (r .at .paths), omega (arith, lists-room _ _ _ _ _ _ _ _ r))
 
 same-length : tie.Need-same-length
 same-length c = search needs

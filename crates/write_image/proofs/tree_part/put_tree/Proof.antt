@@ -29,7 +29,8 @@ part-put-children-end c = search needs
 
 put-children-requires : tie.Need-put-children-requires
 put-children-requires c κs =
-    let r = c .before .before .before .before .before .before .before .before .before .before .before .pre in (order-fits _ _ _ _ _ _ _ _ _ (r .told), omega (arith, tree-room _ _ _ _ _ _ _ r, children-sum _ _ _ _ _ _ _ _ _ (r .told)))
+    let asked = c .before .before .before .before .before .before .before .before .before .before .before .pre in
+    let r = asked in (order-fits _ _ _ _ _ _ _ _ _ (r .told), omega (arith, tree-room _ _ _ _ _ _ _ r, children-sum _ _ _ _ _ _ _ _ _ (r .told)))
 
 mul-at-named : tie.Need-mul-at-named
 mul-at-named c = search needs

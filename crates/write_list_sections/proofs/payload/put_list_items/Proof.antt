@@ -61,13 +61,24 @@ slice-aggregate-put-words : tie.Need-slice-aggregate-put-words Inv-loop μ-loop
 slice-aggregate-put-words c = search needs
 
 put-words-requires : tie.Need-put-words-requires Inv-loop μ-loop
-put-words-requires c κs = list-room _ _ _ _ _ _ _ _ _ _ _ (c .before .before .before .before .before .before .before .before .before .before .loop .inv) (c .before .before .before .before .before .before .before .before .before .loop-test .taken)
+put-words-requires c κs =
+    let loop = c .before .before .before .before .before .before .before .before .before .before .loop in
+    let test = c .before .before .before .before .before .before .before .before .before .loop-test in
+    list-room _ _ _ _ _ _ _ _ _ _ _ (loop .inv) (test .taken)
 
 add-k : tie.Need-add-k Inv-loop μ-loop
-add-k c = omega (arith, list-inside _ _ _ _ _ _ _ _ _ _ _ (c .before .before .before .before .before .before .before .before .before .before .before .before .before .loop .inv) (c .before .before .before .before .before .before .before .before .before .before .before .before .loop-test .taken) _ _ (c .before .before .before .before .before .before .before .before .before .before .before .get .ensures) (c .before .before .before .before .before .before .before .before .before .before .text-count .ensures))
+add-k c =
+    let loop = c .before .before .before .before .before .before .before .before .before .before .before .before .before .loop in
+    let test = c .before .before .before .before .before .before .before .before .before .before .before .before .loop-test in
+    let get = c .before .before .before .before .before .before .before .before .before .before .before .get in
+    let text-count = c .before .before .before .before .before .before .before .before .before .before .text-count in
+    omega (arith, list-inside _ _ _ _ _ _ _ _ _ _ _ (loop .inv) (test .taken) _ _ (get .ensures) (text-count .ensures))
 
 add-place : tie.Need-add-place Inv-loop μ-loop
-add-place c = omega (arith, list-room _ _ _ _ _ _ _ _ _ _ _ (c .before .before .before .before .before .before .before .before .before .before .before .before .before .loop .inv) (c .before .before .before .before .before .before .before .before .before .before .before .before .loop-test .taken))
+add-place c =
+    let loop = c .before .before .before .before .before .before .before .before .before .before .before .before .before .loop in
+    let test = c .before .before .before .before .before .before .before .before .before .before .before .before .loop-test in
+    omega (arith, list-room _ _ _ _ _ _ _ _ _ _ _ (loop .inv) (test .taken))
 
 add-j : tie.Need-add-j Inv-loop μ-loop
 add-j c = search needs
@@ -76,7 +87,18 @@ loop-less : tie.Need-loop-less Inv-loop μ-loop
 loop-less c = search needs
 
 loop-again : tie.Need-loop-again Inv-loop μ-loop
-loop-again c = list-next _ _ _ _ _ _ _ _ _ _ _ (c .before .before .before .before .before .before .before .before .before .before .before .before .before .loop .inv) (c .before .before .before .before .before .before .before .before .before .before .before .before .loop-test .taken) _ _ (c .before .before .before .before .before .before .before .before .before .before .before .get .ensures) (c .before .before .before .before .before .before .before .before .before .before .text-count .ensures) _ _ _ _ _ (c .before .before .before .before .before .before .before .before .before .optional-offset .ensures) (c .before .before .before .before .before .before .before .before .get2 .ensures) (c .before .before .before .before .before .before .before .word .ensures) (c .before .before .before .before .before .before .get3 .ensures) (c .before .before .before .before .before .get4 .ensures) _ (c .before .before .put-words .ensures)
+loop-again c =
+    let loop = c .before .before .before .before .before .before .before .before .before .before .before .before .before .loop in
+    let test = c .before .before .before .before .before .before .before .before .before .before .before .before .loop-test in
+    let get = c .before .before .before .before .before .before .before .before .before .before .before .get in
+    let text-count = c .before .before .before .before .before .before .before .before .before .before .text-count in
+    let optional-offset = c .before .before .before .before .before .before .before .before .before .optional-offset in
+    let get2 = c .before .before .before .before .before .before .before .before .get2 in
+    let word = c .before .before .before .before .before .before .before .word in
+    let get3 = c .before .before .before .before .before .before .get3 in
+    let get4 = c .before .before .before .before .before .get4 in
+    list-next _ _ _ _ _ _ _ _ _ _ _ (loop .inv) (test .taken) _ _ (get .ensures) (text-count .ensures) _ _ _ _ _ (optional-offset .ensures)
+    (get2 .ensures) (word .ensures) (get3 .ensures) (get4 .ensures) _ (c .before .before .put-words .ensures)
 
 same-length : tie.Need-same-length Inv-loop μ-loop
 same-length c = search needs

@@ -52,7 +52,10 @@ put-words-requires : tie.Need-put-words-requires Inv-loop μ-loop
 put-words-requires c κs = origins-room _ _ _ _ _ _ _ _ _ _ (c .before .before .before .before .before .loop .inv) (c .before .before .before .before .loop-test .taken)
 
 add-place : tie.Need-add-place Inv-loop μ-loop
-add-place c = omega (arith, origins-room _ _ _ _ _ _ _ _ _ _ (c .before .before .before .before .before .before .before .before .loop .inv) (c .before .before .before .before .before .before .before .loop-test .taken))
+add-place c =
+    let loop = c .before .before .before .before .before .before .before .before .loop in
+    let test = c .before .before .before .before .before .before .before .loop-test in
+    omega (arith, origins-room _ _ _ _ _ _ _ _ _ _ (loop .inv) (test .taken))
 
 add-j : tie.Need-add-j Inv-loop μ-loop
 add-j c = search needs
@@ -61,7 +64,13 @@ loop-less : tie.Need-loop-less Inv-loop μ-loop
 loop-less c = search needs
 
 loop-again : tie.Need-loop-again Inv-loop μ-loop
-loop-again c = run-next _ _ _ _ _ _ _ (c .before .before .before .before .before .before .before .before .loop .inv) _ _ _ (c .before .before .before .before .before .before .before .loop-test .taken) (origin-words _ _ _ _ _ _ _ (c .before .before .before .before .before .before .word .ensures) (c .before .before .before .before .before .get .ensures)) (c .before .before .put-words .ensures) refl
+loop-again c =
+    let loop = c .before .before .before .before .before .before .before .before .loop in
+    let test = c .before .before .before .before .before .before .before .loop-test in
+    let word = c .before .before .before .before .before .before .word in
+    let get = c .before .before .before .before .before .get in
+    run-next _ _ _ _ _ _ _ (loop .inv) _ _ _ (test .taken) (origin-words _ _ _ _ _ _ _ (word .ensures) (get .ensures))
+    (c .before .before .put-words .ensures) refl
 
 same-length : tie.Need-same-length Inv-loop μ-loop
 same-length c = search needs

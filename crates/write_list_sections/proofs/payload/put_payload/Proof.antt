@@ -29,13 +29,21 @@ node-at-requires : tie.Need-node-at-requires Inv-loop μ-loop
 node-at-requires c κs = pay-node _ _ _ _ _ _ _ _ _ _ (c .before .before .loop .inv) (c .before .loop-test .taken) _ (c .word .ensures)
 
 put-node-requires : tie.Need-put-node-requires Inv-loop μ-loop
-put-node-requires c κs = pay-asked _ _ _ _ _ _ _ _ _ _ (c .before .before .before .before .loop .inv) (c .before .before .before .loop-test .taken) _ (c .before .before .word .ensures) _ (c .before .node-at .ensures)
+put-node-requires c κs =
+    let loop = c .before .before .before .before .loop in
+    let test = c .before .before .before .loop-test in
+    pay-asked _ _ _ _ _ _ _ _ _ _ (loop .inv) (test .taken) _ (c .before .before .word .ensures) _ (c .before .node-at .ensures)
 
 texts-of-requires : tie.Need-texts-of-requires Inv-loop μ-loop
 texts-of-requires c κs = search needs
 
 add-text : tie.Need-add-text Inv-loop μ-loop
-add-text c = omega (arith, pay-texts _ _ _ _ _ _ _ _ _ _ (c .before .before .before .before .before .before .before .before .loop .inv) (c .before .before .before .before .before .before .before .loop-test .taken) _ (c .before .before .before .before .before .before .word .ensures) _ (c .before .before .before .before .before .node-at .ensures) _ (c .texts-of .ensures))
+add-text c =
+    let loop = c .before .before .before .before .before .before .before .before .loop in
+    let test = c .before .before .before .before .before .before .before .loop-test in
+    let word = c .before .before .before .before .before .before .word in
+    let node-at = c .before .before .before .before .before .node-at in
+    omega (arith, pay-texts _ _ _ _ _ _ _ _ _ _ (loop .inv) (test .taken) _ (word .ensures) _ (node-at .ensures) _ (c .texts-of .ensures))
 
 add-j : tie.Need-add-j Inv-loop μ-loop
 add-j c = search needs
@@ -44,7 +52,13 @@ loop-less : tie.Need-loop-less Inv-loop μ-loop
 loop-less c = search needs
 
 loop-again : tie.Need-loop-again Inv-loop μ-loop
-loop-again c = pay-next _ _ _ _ _ _ _ _ _ _ (c .before .before .before .before .before .before .before .before .loop .inv) (c .before .before .before .before .before .before .before .loop-test .taken) _ (c .before .before .before .before .before .before .word .ensures) _ (c .before .before .before .before .before .node-at .ensures) _ _ (c .before .before .before .put-node .ensures) _ (c .texts-of .ensures)
+loop-again c =
+    let loop = c .before .before .before .before .before .before .before .before .loop in
+    let test = c .before .before .before .before .before .before .before .loop-test in
+    let word = c .before .before .before .before .before .before .word in
+    let node-at = c .before .before .before .before .before .node-at in
+    let put-node = c .before .before .before .put-node in
+    pay-next _ _ _ _ _ _ _ _ _ _ (loop .inv) (test .taken) _ (word .ensures) _ (node-at .ensures) _ _ (put-node .ensures) _ (c .texts-of .ensures)
 
 same-length : tie.Need-same-length Inv-loop μ-loop
 same-length c = search needs

@@ -34,7 +34,13 @@ children-of-requires : tie.Need-children-of-requires Inv-loop μ-loop
 children-of-requires c κs = search needs
 
 put-children-of-requires : tie.Need-put-children-of-requires Inv-loop μ-loop
-put-children-of-requires c κs = (c .before .before .before .before .before .before .before .before .before .before .pre .0 .new-start, step-room _ _ _ _ _ _ _ _ _ (c .before .before .before .before .before .loop .inv) (c .before .before .before .before .loop-test .taken) _ (c .before .before .before .word .ensures) _ (c .before .before .node-at .ensures) _ (c .before .children-of .ensures))
+put-children-of-requires c κs =
+    let asked = c .before .before .before .before .before .before .before .before .before .before .pre in
+    let loop = c .before .before .before .before .before .loop in
+    let test = c .before .before .before .before .loop-test in
+    let word = c .before .before .before .word in
+    (asked .0 .new-start, step-room _ _ _ _ _ _ _ _ _ (loop .inv) (test .taken) _ (word .ensures) _ (c .before .before .node-at .ensures) _
+    (c .before .children-of .ensures))
 
 cast-at : tie.Need-cast-at Inv-loop μ-loop
 cast-at c = search needs
@@ -43,7 +49,13 @@ mul-at : tie.Need-mul-at Inv-loop μ-loop
 mul-at c = search needs
 
 add-at : tie.Need-add-at Inv-loop μ-loop
-add-at c = let h = step-room _ _ _ _ _ _ _ _ _ (c .before .before .before .before .before .before .before .before .loop .inv) (c .before .before .before .before .before .before .before .loop-test .taken) _ (c .before .before .before .before .before .before .word .ensures) _ (c .before .before .before .before .before .node-at .ensures) _ (c .before .before .before .before .children-of .ensures) in omega arith
+add-at c =
+    let loop = c .before .before .before .before .before .before .before .before .loop in
+    let test = c .before .before .before .before .before .before .before .loop-test in
+    let word = c .before .before .before .before .before .before .word in
+    let node-at = c .before .before .before .before .before .node-at in
+    let children-of = c .before .before .before .before .children-of in
+    let h = step-room _ _ _ _ _ _ _ _ _ (loop .inv) (test .taken) _ (word .ensures) _ (node-at .ensures) _ (children-of .ensures) in omega arith
 
 add-j : tie.Need-add-j Inv-loop μ-loop
 add-j c = search needs
@@ -52,7 +64,14 @@ loop-less : tie.Need-loop-less Inv-loop μ-loop
 loop-less c = search needs
 
 loop-again : tie.Need-loop-again Inv-loop μ-loop
-loop-again c = step-next _ _ _ _ _ _ _ _ _ (c .before .before .before .before .before .before .before .before .loop .inv) (c .before .before .before .before .before .before .before .loop-test .taken) _ (c .before .before .before .before .before .before .word .ensures) _ (c .before .before .before .before .before .node-at .ensures) _ (c .before .before .before .before .children-of .ensures) _ (c .before .before .put-children-of .ensures)
+loop-again c =
+    let loop = c .before .before .before .before .before .before .before .before .loop in
+    let test = c .before .before .before .before .before .before .before .loop-test in
+    let word = c .before .before .before .before .before .before .word in
+    let node-at = c .before .before .before .before .before .node-at in
+    let children-of = c .before .before .before .before .children-of in
+    step-next _ _ _ _ _ _ _ _ _ (loop .inv) (test .taken) _ (word .ensures) _ (node-at .ensures) _ (children-of .ensures) _
+    (c .before .before .put-children-of .ensures)
 
 same-length : tie.Need-same-length Inv-loop μ-loop
 same-length c = search needs

@@ -33,13 +33,30 @@ named-of-requires : tie.Need-named-of-requires Inv-loop μ-loop
 named-of-requires c κs = search needs
 
 put-named-of-requires : tie.Need-put-named-of-requires Inv-loop μ-loop
-put-named-of-requires c κs = let t = step-text _ _ _ _ (c .before .before .before .before .before .before .before .before .before .before .pre .0) _ _ _ _ _ (c .before .before .before .before .before .loop .inv) (c .before .before .before .before .loop-test .taken) _ (c .before .before .before .word .ensures) _ (c .before .before .node-at .ensures) _ (c .before .named-of .ensures) in (c .before .before .before .before .before .before .before .before .before .before .pre .0 .order .new-start, omega arith, step-room _ _ _ _ (c .before .before .before .before .before .before .before .before .before .before .pre .0) _ _ _ _ _ (c .before .before .before .before .before .loop .inv) (c .before .before .before .before .loop-test .taken) _ (c .before .before .before .word .ensures) _ (c .before .before .node-at .ensures) _ (c .before .named-of .ensures))
+put-named-of-requires c κs =
+    let asked = c .before .before .before .before .before .before .before .before .before .before .pre in
+    let loop = c .before .before .before .before .before .loop in
+    let test = c .before .before .before .before .loop-test in
+    let word = c .before .before .before .word in
+    let node-at = c .before .before .node-at in
+    let named-of = c .before .named-of in
+    let t = step-text _ _ _ _ (asked .0) _ _ _ _ _ (loop .inv) (test .taken) _ (word .ensures) _ (node-at .ensures) _ (named-of .ensures) in
+    (asked .0 .order .new-start, omega arith, step-room _ _ _ _ (asked .0) _ _ _ _ _ (loop .inv) (test .taken) _ (word .ensures) _ (node-at .ensures)
+    _ (named-of .ensures))
 
 cast-text : tie.Need-cast-text Inv-loop μ-loop
 cast-text c = search needs
 
 add-text : tie.Need-add-text Inv-loop μ-loop
-add-text c = let t = step-text _ _ _ _ (c .before .before .before .before .before .before .before .before .before .before .before .before .before .pre .0) _ _ _ _ _ (c .before .before .before .before .before .before .before .before .loop .inv) (c .before .before .before .before .before .before .before .loop-test .taken) _ (c .before .before .before .before .before .before .word .ensures) _ (c .before .before .before .before .before .node-at .ensures) _ (c .before .before .before .before .named-of .ensures) in omega arith
+add-text c =
+    let asked = c .before .before .before .before .before .before .before .before .before .before .before .before .before .pre in
+    let loop = c .before .before .before .before .before .before .before .before .loop in
+    let test = c .before .before .before .before .before .before .before .loop-test in
+    let word = c .before .before .before .before .before .before .word in
+    let node-at = c .before .before .before .before .before .node-at in
+    let named-of = c .before .before .before .before .named-of in
+    let t = step-text _ _ _ _ (asked .0) _ _ _ _ _ (loop .inv) (test .taken) _ (word .ensures) _ (node-at .ensures) _ (named-of .ensures) in omega
+    arith
 
 cast-at : tie.Need-cast-at Inv-loop μ-loop
 cast-at c = search needs
@@ -48,7 +65,15 @@ mul-at : tie.Need-mul-at Inv-loop μ-loop
 mul-at c = search needs
 
 add-at : tie.Need-add-at Inv-loop μ-loop
-add-at c = let t = step-room _ _ _ _ (c .before .before .before .before .before .before .before .before .before .before .before .before .before .pre .0) _ _ _ _ _ (c .before .before .before .before .before .before .before .before .loop .inv) (c .before .before .before .before .before .before .before .loop-test .taken) _ (c .before .before .before .before .before .before .word .ensures) _ (c .before .before .before .before .before .node-at .ensures) _ (c .before .before .before .before .named-of .ensures) in omega arith
+add-at c =
+    let asked = c .before .before .before .before .before .before .before .before .before .before .before .before .before .pre in
+    let loop = c .before .before .before .before .before .before .before .before .loop in
+    let test = c .before .before .before .before .before .before .before .loop-test in
+    let word = c .before .before .before .before .before .before .word in
+    let node-at = c .before .before .before .before .before .node-at in
+    let named-of = c .before .before .before .before .named-of in
+    let t = step-room _ _ _ _ (asked .0) _ _ _ _ _ (loop .inv) (test .taken) _ (word .ensures) _ (node-at .ensures) _ (named-of .ensures) in omega
+    arith
 
 add-j : tie.Need-add-j Inv-loop μ-loop
 add-j c = search needs
@@ -57,7 +82,15 @@ loop-less : tie.Need-loop-less Inv-loop μ-loop
 loop-less c = search needs
 
 loop-again : tie.Need-loop-again Inv-loop μ-loop
-loop-again c = step-next _ _ _ _ (c .before .before .before .before .before .before .before .before .before .before .before .before .before .pre .0) _ _ _ _ _ (c .before .before .before .before .before .before .before .before .loop .inv) (c .before .before .before .before .before .before .before .loop-test .taken) _ (c .before .before .before .before .before .before .word .ensures) _ (c .before .before .before .before .before .node-at .ensures) _ (c .before .before .before .before .named-of .ensures) _ (c .before .before .put-named-of .ensures)
+loop-again c =
+    let asked = c .before .before .before .before .before .before .before .before .before .before .before .before .before .pre in
+    let loop = c .before .before .before .before .before .before .before .before .loop in
+    let test = c .before .before .before .before .before .before .before .loop-test in
+    let word = c .before .before .before .before .before .before .word in
+    let node-at = c .before .before .before .before .before .node-at in
+    let named-of = c .before .before .before .before .named-of in
+    step-next _ _ _ _ (asked .0) _ _ _ _ _ (loop .inv) (test .taken) _ (word .ensures) _ (node-at .ensures) _ (named-of .ensures) _
+    (c .before .before .put-named-of .ensures)
 
 same-length : tie.Need-same-length Inv-loop μ-loop
 same-length c = search needs

@@ -30,31 +30,69 @@ node-at-requires : tie.Need-node-at-requires Inv-loop μ-loop
 node-at-requires c κs = omega (arith, c .word .ensures, c .before .before .before .before .before .before .before .pre .0 .order .olds _ (c .before .loop-test .taken))
 
 encode-kind-requires : tie.Need-encode-kind-requires Inv-loop μ-loop
-encode-kind-requires c κs = (c .before .before .before .before .before .before .before .before .pre .0 .order .new-start, step-text _ _ _ _ (c .before .before .before .before .before .before .before .before .pre .0) _ _ _ _ _ _ (c .before .before .before .loop .inv) (c .before .before .loop-test .taken))
+encode-kind-requires c κs =
+    let asked = c .before .before .before .before .before .before .before .before .pre in
+    let loop = c .before .before .before .loop in
+    (asked .0 .order .new-start, step-text _ _ _ _ (asked .0) _ _ _ _ _ _ (loop .inv) (c .before .before .loop-test .taken))
 
 put-record-requires : tie.Need-put-record-requires Inv-loop μ-loop
-put-record-requires c κs = step-room _ _ _ _ (c .before .before .before .before .before .before .before .before .before .before .pre .0) _ _ _ _ _ _ (c .before .before .before .before .before .loop .inv) (c .before .before .before .before .loop-test .taken)
+put-record-requires c κs =
+    let asked = c .before .before .before .before .before .before .before .before .before .before .pre in
+    let loop = c .before .before .before .before .before .loop in
+    let test = c .before .before .before .before .loop-test in
+    step-room _ _ _ _ (asked .0) _ _ _ _ _ _ (loop .inv) (test .taken)
 
 texts-of-requires : tie.Need-texts-of-requires Inv-loop μ-loop
 texts-of-requires c κs = search needs
 
 add-next-text : tie.Need-add-next-text Inv-loop μ-loop
-add-next-text c = let h = step-texts _ _ _ _ (c .before .before .before .before .before .before .before .before .before .before .before .before .before .before .pre .0) _ _ _ _ _ _ (c .before .before .before .before .before .before .before .before .before .loop .inv) (c .before .before .before .before .before .before .before .before .loop-test .taken) _ (c .before .before .before .before .before .before .before .word .ensures) _ (c .before .before .before .before .before .before .node-at .ensures) _ (c .texts-of .ensures) in omega (arith, c .before .before .before .before .before .before .before .before .before .before .before .before .before .before .good .1 .1 .0)
+add-next-text c =
+    let asked = c .before .before .before .before .before .before .before .before .before .before .before .before .before .before .pre in
+    let good = c .before .before .before .before .before .before .before .before .before .before .before .before .before .before .good in
+    let loop = c .before .before .before .before .before .before .before .before .before .loop in
+    let test = c .before .before .before .before .before .before .before .before .loop-test in
+    let word = c .before .before .before .before .before .before .before .word in
+    let node-at = c .before .before .before .before .before .before .node-at in
+    let h = step-texts _ _ _ _ (asked .0) _ _ _ _ _ _ (loop .inv) (test .taken) _ (word .ensures) _ (node-at .ensures) _ (c .texts-of .ensures) in
+    omega (arith, good .1 .1 .0)
 
 after-requires : tie.Need-after-requires Inv-loop μ-loop
-after-requires c κs = step-starts _ _ _ _ (c .before .before .before .before .before .before .before .before .before .before .before .before .before .before .pre .0) _ _ _ _ _ _ (c .before .before .before .before .before .before .before .before .before .loop .inv) (c .before .before .before .before .before .before .before .before .loop-test .taken) _ (c .before .before .before .before .before .before .before .word .ensures) _ (c .before .before .before .before .before .before .node-at .ensures)
+after-requires c κs =
+    let asked = c .before .before .before .before .before .before .before .before .before .before .before .before .before .before .pre in
+    let loop = c .before .before .before .before .before .before .before .before .before .loop in
+    let test = c .before .before .before .before .before .before .before .before .loop-test in
+    let word = c .before .before .before .before .before .before .before .word in
+    let node-at = c .before .before .before .before .before .before .node-at in
+    step-starts _ _ _ _ (asked .0) _ _ _ _ _ _ (loop .inv) (test .taken) _ (word .ensures) _ (node-at .ensures)
 
 add-at : tie.Need-add-at Inv-loop μ-loop
-add-at c = let h = step-room _ _ _ _ (c .before .before .before .before .before .before .before .before .before .before .before .before .before .before .before .pre .0) _ _ _ _ _ _ (c .before .before .before .before .before .before .before .before .before .before .loop .inv) (c .before .before .before .before .before .before .before .before .before .loop-test .taken) in omega (arith, c .before .before .before .before .before .before .before .before .before .before .loop .inv .running .long, c .before .before .before .before .before .before .before .before .before .before .before .before .before .before .before .good .1 .1 .1 .1 .0)
+add-at c =
+    let asked = c .before .before .before .before .before .before .before .before .before .before .before .before .before .before .before .pre in
+    let good = c .before .before .before .before .before .before .before .before .before .before .before .before .before .before .before .good in
+    let loop = c .before .before .before .before .before .before .before .before .before .before .loop in
+    let test = c .before .before .before .before .before .before .before .before .before .loop-test in
+    let h = step-room _ _ _ _ (asked .0) _ _ _ _ _ _ (loop .inv) (test .taken) in omega (arith, loop .inv .running .long, good .1 .1 .1 .1 .0)
 
 add-j : tie.Need-add-j Inv-loop μ-loop
-add-j c = omega (arith, c .before .before .before .before .before .before .before .before .before .loop-test .taken, c .before .before .before .before .before .before .before .before .before .before .before .before .before .before .before .good .0)
+add-j c =
+    let good = c .before .before .before .before .before .before .before .before .before .before .before .before .before .before .before .good in
+    let test = c .before .before .before .before .before .before .before .before .before .loop-test in
+    omega (arith, test .taken, good .0)
 
 loop-less : tie.Need-loop-less Inv-loop μ-loop
 loop-less c = search needs
 
 loop-again : tie.Need-loop-again Inv-loop μ-loop
-loop-again c = step-next _ _ _ _ (c .before .before .before .before .before .before .before .before .before .before .before .before .before .before .before .pre .0) _ _ _ _ _ _ (c .before .before .before .before .before .before .before .before .before .before .loop .inv) (c .before .before .before .before .before .before .before .before .before .loop-test .taken) _ (c .before .before .before .before .before .before .before .before .word .ensures) _ (c .before .before .before .before .before .before .before .node-at .ensures) _ (c .before .before .before .before .before .before .encode-kind .ensures) _ (c .before .before .before .before .put-record .ensures) _ (c .before .texts-of .ensures) _ (c .after .ensures)
+loop-again c =
+    let asked = c .before .before .before .before .before .before .before .before .before .before .before .before .before .before .before .pre in
+    let loop = c .before .before .before .before .before .before .before .before .before .before .loop in
+    let test = c .before .before .before .before .before .before .before .before .before .loop-test in
+    let word = c .before .before .before .before .before .before .before .before .word in
+    let node-at = c .before .before .before .before .before .before .before .node-at in
+    let encode-kind = c .before .before .before .before .before .before .encode-kind in
+    let put-record = c .before .before .before .before .put-record in
+    step-next _ _ _ _ (asked .0) _ _ _ _ _ _ (loop .inv) (test .taken) _ (word .ensures) _ (node-at .ensures) _ (encode-kind .ensures) _
+    (put-record .ensures) _ (c .before .texts-of .ensures) _ (c .after .ensures)
 
 same-length : tie.Need-same-length Inv-loop μ-loop
 same-length c = search needs
