@@ -92,8 +92,13 @@ fn put_sections(
     places: Places,
     out: &mut [u8],
 )
-    requires { ⌜ Sectioned (draftOf (now nodes) (now children) (now named) (now definitions) (now items) (now payload) (now strings)) (now work) numbers tables paths places (length (now out)) ⌝ }
-    ensures { λ r. ⌜ now (out .exit) ≡ over (bodyOf (written (draftOf (now (nodes .entry)) (now (children .entry)) (now (named .entry)) (now (definitions .entry)) (now (items .entry)) (now (payload .entry)) (now (strings .entry))))) (now (out .entry)) ⌝ }
+    requires { ⌜ (let s =
+        draftOf (now nodes) (now children) (now named) (now definitions) (now items) (now payload) (now strings) in
+        Sectioned s (now work) numbers tables paths places (length (now out))) ⌝ }
+    ensures { λ r. ⌜ (let s =
+        draftOf (now (nodes .entry)) (now (children .entry)) (now (named .entry)) (now (definitions .entry)) (now (items .entry))
+        (now (payload .entry)) (now (strings .entry)) in
+        now (out .exit) ≡ over (bodyOf (written s)) (now (out .entry))) ⌝ }
 {
     let at_lists = places.lists;
     let at_texts = places.texts;
@@ -136,9 +141,16 @@ pub fn fill(
     entries: Entries,
     out: &mut [u8],
 )
-    requires { ⌜ Ready (draftOf (now nodes) (now children) (now named) (now definitions) (now items) (now payload) (now strings)) (now work) numbers tables entries ⌝ }
-    requires { ⌜ imageLength (draftOf (now nodes) (now children) (now named) (now definitions) (now items) (now payload) (now strings)) ≤ length (now out) ⌝ }
-    ensures { λ r. ⌜ now (out .exit) ≡ over (imageFor ink (draftOf (now (nodes .entry)) (now (children .entry)) (now (named .entry)) (now (definitions .entry)) (now (items .entry)) (now (payload .entry)) (now (strings .entry)))) (now (out .entry)) ⌝ }
+    requires { ⌜ (let s =
+        draftOf (now nodes) (now children) (now named) (now definitions) (now items) (now payload) (now strings) in
+        Ready s (now work) numbers tables entries) ⌝ }
+    requires { ⌜ (let s =
+        draftOf (now nodes) (now children) (now named) (now definitions) (now items) (now payload) (now strings) in
+        imageLength s ≤ length (now out)) ⌝ }
+    ensures { λ r. ⌜ (let s =
+        draftOf (now (nodes .entry)) (now (children .entry)) (now (named .entry)) (now (definitions .entry)) (now (items .entry))
+        (now (payload .entry)) (now (strings .entry)) in
+        now (out .exit) ≡ over (imageFor ink s) (now (out .entry))) ⌝ }
 {
     put_header(ink, counts_of(entries), out);
     let paths = paths_of(tables, entries.index);

@@ -24,7 +24,10 @@ pub fn put_lists(
     out: &mut [u8],
 )
     requires { ⌜ ListsReady (now definitions) (now items) (now work) numbers text path paths (length (now out)) ⌝ }
-    ensures { λ r. ⌜ ((nodes children named payload strings : List ℕ) → Told (draftOf nodes children named (now (definitions .entry)) (now (items .entry)) payload strings) (now (work .entry)) numbers → ListsAt (draftOf nodes children named (now (definitions .entry)) (now (items .entry)) payload strings) numbers text path → Indexed (draftOf nodes children named (now (definitions .entry)) (now (items .entry)) payload strings) (now (work .entry)) paths → now (out .exit) ≡ over (listsOut (draftOf nodes children named (now (definitions .entry)) (now (items .entry)) payload strings)) (now (out .entry))) ⌝ }
+    ensures { λ r. ⌜ ((nodes children named payload strings : List ℕ) → let s =
+        draftOf nodes children named (now (definitions .entry)) (now (items .entry)) payload strings in
+        Told s (now (work .entry)) numbers → ListsAt s numbers text path → Indexed s (now (work .entry)) paths → now (out .exit) ≡ over
+        (listsOut s) (now (out .entry))) ⌝ }
 {
     put_definitions(definitions, work, text, out);
     let at_items = definitions.len() / 4 * 16;

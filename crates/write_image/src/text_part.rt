@@ -22,7 +22,10 @@ pub fn put_texts(
     out: &mut [u8],
 )
     requires { ⌜ TextsReady (now nodes) (now payload) (now strings) (now work) numbers tables (length (now out)) ⌝ }
-    ensures { λ r. ⌜ ((children named definitions items : List ℕ) → Told (draftOf (now (nodes .entry)) children named definitions items (now (payload .entry)) (now (strings .entry))) (now (work .entry)) numbers → Keyed (draftOf (now (nodes .entry)) children named definitions items (now (payload .entry)) (now (strings .entry))) (now (work .entry)) numbers tables → now (out .exit) ≡ over (textsOut (draftOf (now (nodes .entry)) children named definitions items (now (payload .entry)) (now (strings .entry)))) (now (out .entry))) ⌝ }
+    ensures { λ r. ⌜ ((children named definitions items : List ℕ) → let s =
+        draftOf (now (nodes .entry)) children named definitions items (now (payload .entry)) (now (strings .entry)) in
+        Told s (now (work .entry)) numbers → Keyed s (now (work .entry)) numbers tables → now (out .exit) ≡ over (textsOut s)
+        (now (out .entry))) ⌝ }
 {
     put_payload(nodes, payload, work, numbers.order, numbers.offsets, out);
     let at_strings = payload.len();

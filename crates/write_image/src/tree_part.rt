@@ -22,7 +22,9 @@ pub fn put_tree(
     out: &mut [u8],
 ) -> usize
     requires { ⌜ TreeReady (now nodes) (now children) (now named) (now payload) (now work) numbers (length (now out)) ⌝ }
-    ensures { λ r. ⌜ ((definitions items strings : List ℕ) → Told (draftOf (now (nodes .entry)) (now (children .entry)) (now (named .entry)) definitions items (now (payload .entry)) strings) (now (work .entry)) numbers → (now (out .exit) ≡ over (treeOut (draftOf (now (nodes .entry)) (now (children .entry)) (now (named .entry)) definitions items (now (payload .entry)) strings)) (now (out .entry))) × (r ≡ definitionsAt (draftOf (now (nodes .entry)) (now (children .entry)) (now (named .entry)) definitions items (now (payload .entry)) strings) numbers)) ⌝ }
+    ensures { λ r. ⌜ ((definitions items strings : List ℕ) → let s =
+        draftOf (now (nodes .entry)) (now (children .entry)) (now (named .entry)) definitions items (now (payload .entry)) strings in
+        Told s (now (work .entry)) numbers → (now (out .exit) ≡ over (treeOut s) (now (out .entry))) × (r ≡ definitionsAt s numbers)) ⌝ }
 {
     let text = put_nodes(nodes, payload, work, numbers, out);
     let at_children = nodes.len() / 10 * 40;

@@ -1,17 +1,12 @@
 // Sections 3 and 4: definitions and their items. The offsets of their texts are words one after the other, each definition's before
 // those of its items.
 ghost use mathlib.Core.Path.{_≡_};
-ghost use mathlib.Core.List.{List};
-ghost use Prim.Native.Nat.{ℕ, _+_, _*_, _/_, _≤_};
+ghost use Prim.Native.Nat.{_+_, _*_, _/_, _≤_};
 ghost use lib.ListN.{length};
 ghost use Rattle.laws.specs.Counted.{joinOf};
-ghost use Rattle.words.specs.Words.{bytesOf};
-ghost use Rattle.image.specs.Sections.{Sections, definitionCount, itemCount};
-ghost use Rattle.draft.specs.Draft.{tablesRule};
-ghost use Rattle.draft_image.specs.Ready.{OffsetsAt, definitionUses};
-ghost use Rattle.draft_image.specs.Written.{definitionOut, itemOut};
-ghost use Rattle.words.specs.Output.{over, putAt};
+ghost use Rattle.words.specs.Output.{putAt};
 ghost use Rattle.write_list_sections.specs.Entered.{textsBefore, itemsBefore, itemWords};
+ghost use Rattle.write_list_sections.specs.Put.{DefinitionsPut, ItemsPut};
 use draft::source::definition_at;
 use draft::source::word;
 use words::output::put_words;
@@ -20,7 +15,7 @@ use words::output::put_words;
 pub fn put_definitions(definitions: &[u32], w: &[u32], offsets: usize, out: &mut [u8])
     requires { ⌜ offsets + textsBefore (now definitions) (length (now definitions) / 4) ≤ length (now w) ⌝ }
     requires { ⌜ 16 * (length (now definitions) / 4) ≤ length (now out) ⌝ }
-    ensures { λ r. ⌜ ((s : Sections) (order : List ℕ) (kept : List (List ℕ)) → s .definitions ≡ now (definitions .entry) → tablesRule s ≡ 0 → OffsetsAt kept (definitionUses s) (now (w .entry)) offsets → now (out .exit) ≡ over (bytesOf (joinOf (definitionCount s) (definitionOut s order kept))) (now (out .entry))) ⌝ }
+    ensures { λ r. ⌜ DefinitionsPut (now (definitions .entry)) (now (w .entry)) offsets (now (out .entry)) (now (out .exit)) ⌝ }
 {
     let count = definitions.len() / 4;
     let mut k = offsets;
@@ -70,7 +65,7 @@ fn put_items_from(
 pub fn put_items(definitions: &[u32], items: &[u32], w: &[u32], offsets: usize, out: &mut [u8])
     requires { ⌜ offsets + textsBefore (now definitions) (length (now definitions) / 4) ≤ length (now w) ⌝ }
     requires { ⌜ 12 * itemsBefore (now definitions) (length (now definitions) / 4) ≤ length (now out) ⌝ }
-    ensures { λ r. ⌜ ((s : Sections) (order : List ℕ) (kept : List (List ℕ)) → s .definitions ≡ now (definitions .entry) → s .items ≡ now (items .entry) → tablesRule s ≡ 0 → OffsetsAt kept (definitionUses s) (now (w .entry)) offsets → now (out .exit) ≡ over (bytesOf (joinOf (itemCount s) (itemOut s order kept))) (now (out .entry))) ⌝ }
+    ensures { λ r. ⌜ ItemsPut (now (definitions .entry)) (now (items .entry)) (now (w .entry)) offsets (now (out .entry)) (now (out .exit)) ⌝ }
 {
     let count = definitions.len() / 4;
     let mut k = offsets;

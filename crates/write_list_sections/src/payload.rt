@@ -1,19 +1,13 @@
 // Section 6: the payload of the lists, each at its node's turn, with the offsets of its texts in the image.
 ghost use mathlib.Core.Path.{_≡_};
-ghost use mathlib.Core.List.{List};
-ghost use Prim.Native.Nat.{ℕ, _+_, _*_, _/_, _≤_};
+ghost use Prim.Native.Nat.{_+_, _*_, _/_, _≤_};
 ghost use lib.ListN.{length};
 ghost use Rattle.laws.specs.Counted.{joinOf};
-ghost use Rattle.image.specs.Header.{nodeWords};
-ghost use Rattle.image.specs.Sections.{Sections, nodeCount};
-ghost use Rattle.draft.specs.Draft.{tablesRule};
-ghost use Rattle.draft.specs.Numbering.{oldOf};
-ghost use Rattle.draft_image.specs.Ready.{OldsAt, OffsetsAt, nodeUses};
-ghost use Rattle.draft_image.specs.Written.{payloadOut};
-ghost use Rattle.words.specs.Output.{over, putAt};
+ghost use Rattle.words.specs.Output.{putAt};
 ghost use Rattle.write_tree_sections.specs.Encoded.{listTextsIn, textsBy};
 ghost use Rattle.records.specs.Fields.{kindOf};
 ghost use Rattle.write_list_sections.specs.Entered.{itemTexts, listItemWords, listOriginWords, listWords, nodeListWords, payloadWords, PayloadFits, PutWords};
+ghost use Rattle.write_list_sections.specs.Put.{PayloadPut};
 use draft::source::node_at;
 use draft::source::word;
 use image::NodeRecord;
@@ -34,7 +28,8 @@ fn put_list_items(
 ) -> usize
     requires { ⌜ text + itemTexts (now payload) start count ≤ length (now w) ⌝ }
     requires { ⌜ at + 20 * count ≤ length (now out) ⌝ }
-    ensures { λ r. ⌜ (now (out .exit) ≡ putAt (now (out .entry)) at (joinOf count (listItemWords (now (payload .entry)) (now (w .entry)) text start))) × (r ≡ text + itemTexts (now (payload .entry)) start count) ⌝ }
+    ensures { λ r. ⌜ (let items = listItemWords (now (payload .entry)) (now (w .entry)) text start in
+        (now (out .exit) ≡ putAt (now (out .entry)) at (joinOf count items)) × (r ≡ text + itemTexts (now (payload .entry)) start count)) ⌝ }
 {
     let first = start as usize + 8;
     let all = count as usize;
@@ -72,7 +67,8 @@ fn put_list_origins(
     at: usize,
 )
     requires { ⌜ (text + count ≤ length (now w)) × (at + 8 * count ≤ length (now out)) ⌝ }
-    ensures { λ r. ⌜ now (out .exit) ≡ putAt (now (out .entry)) at (joinOf count (listOriginWords (now (payload .entry)) (now (w .entry)) text (start + 8 + items * 20))) ⌝ }
+    ensures { λ r. ⌜ (let origins = listOriginWords (now (payload .entry)) (now (w .entry)) text (start + 8 + items * 20) in
+        now (out .exit) ≡ putAt (now (out .entry)) at (joinOf count origins)) ⌝ }
 {
     let first = start as usize + 8 + items as usize * 20;
     let all = count as usize;
@@ -137,7 +133,7 @@ pub fn put_payload(
 )
     requires { ⌜ PayloadFits (now nodes) (now payload) (now w) order offsets ⌝ }
     requires { ⌜ 4 * length (joinOf (length (now nodes) / 10) (payloadWords (now nodes) (now payload) (now w) order offsets)) ≤ length (now out) ⌝ }
-    ensures { λ r. ⌜ ((s : Sections) (olds : List ℕ) (kept : List (List ℕ)) → s .nodes ≡ now (nodes .entry) → s .stride ≡ nodeWords → s .payload ≡ now (payload .entry) → tablesRule s ≡ 0 → OldsAt olds (now (w .entry)) (nodeCount s) order → OffsetsAt kept (nodeUses s olds) (now (w .entry)) offsets → now (out .exit) ≡ over (joinOf (nodeCount s) (λ j. payloadOut s olds kept (oldOf olds j))) (now (out .entry))) ⌝ }
+    ensures { λ r. ⌜ PayloadPut (now (nodes .entry)) (now (payload .entry)) (now (w .entry)) order offsets (now (out .entry)) (now (out .exit)) ⌝ }
 {
     let count = nodes.len() / 10;
     let mut text = offsets;

@@ -27,12 +27,14 @@ use Rattle.write_paths.specs.Arranged.{Rooted, Indexes}
 use Rattle.write_plan.specs.declared.Layout.{Layout}
 use Rattle.write_plan.specs.declared.Plan.{Plan}
 use Rattle.write_plan.specs.declared.Plan.the-variants.{Refused}
-use Rattle.write_plan.specs.Planned.{layoutOf, PlanOf, StoredPlan}
+use Rattle.write_plan.specs.Planned.{layoutOf, PlanOf, StoredPlan, Shaped, ShapedTables}
 use Rattle.write_plan.proofs.Premises.{rooted}
 use Rattle.write_plan.proofs.PlanSteps.{number-fit, number-leads, number-low, number-room, seen-whole, nodes-whole, laid, few-nodes, olds-known, olds-in, plan-unreached, reach-passes, plan-shape, plan-paths, indexed-refused, collect-asks, store-room, store-placed, store-rises, planned}
 
 abbrev pub tablesBy : Layout → ℕ → Tables
 tablesBy l texts = record { at = l .at; texts = texts; paths = l .paths; lengths = l .lengths }
+
+-- ---- rules 20 and 21
 
 module _ (ns cs ms ds is ps ss : List ℕ) (p : tablesRule (draftOf ns cs ms ds is ps ss) ≡ 0) (l : Layout)
     (el : l ≡ layoutOf (draftOf ns cs ms ds is ps ss)) (w₀ : List ℕ) (long₀ : length w₀ ≡ writeWords (draftOf ns cs ms ds is ps ss)) where
@@ -54,69 +56,90 @@ module _ (ns cs ms ds is ps ss : List ℕ) (p : tablesRule (draftOf ns cs ms ds 
       q : reachRule s ≡ 0
       q = reach-passes s (sym (seen-whole ns cs ms ds is ps ss p b seen) ∙ all)
 
-      numbers : Numbered (treeOf ns cs ms) (layoutOf s .order) w₁
-      numbers = subst (λ (x : Layout). Numbered (treeOf ns cs ms) (x .order) w₁) el (marks all)
-
-      long : length w₁ ≡ writeWords s
-      long = long₁ ∙ long₀
-
       pub misshapen : (w : List ℕ) (k : ℕ) → k ≡ shapeRule s → (k ≡ 0 → ⊥) → PlanOf s w (Refused k)
       misshapen w k e d = plan-shape s q w k e d
 
-      module _ (k : ℕ) (shaped : k ≡ shapeRule s) (none : k ≡ 0) where
-        r : shapeRule s ≡ 0
-        r = sym shaped ∙ none
+      pub shaped : (k : ℕ) → k ≡ shapeRule s → k ≡ 0 → Shaped s w₁ l
+      shaped k e none =
+          record { tables = p; reach = q; shape = sym e ∙ none; layout = el; long = long₁ ∙ long₀; numbers = marks all }
 
-        pub paths-asks : ((length ns / 10 + length ns / 10 ≤ l .at) × (l .paths + length ns / 10 ≤ l .lengths)
-            × (l .at + l .lengths + length ns / 10 + length ns / 10 ≤ l .order) × (l .order + length ns / 10 ≤ length w₁))
-            × ((_≡_ {A = ℕ} 0 0 × (length ns / 10 * 10 ≤ length ns) × (length ns / 10 ≤ 4294967295))
-            × ((j : ℕ) → j < length ns / 10 → getD w₁ (l .order + j) 0 < length ns / 10))
-        paths-asks =
-            let known = laid ns cs ms ds is ps ss p in (
-              rw (el, long) (known .sort, known .lists, known .sizes, known .numbers),
-              ((refl, omega arith, few-nodes ns cs ms ds is ps ss p q w₁ long numbers), λ j h. rw el (olds-in ns cs ms ds is ps ss p q w₁ long numbers j h)),
+      pub texts-ask : (k : ℕ) → k ≡ shapeRule s → k ≡ 0 → ShapedTables ns ms ds is ps ss w₁ l
+      texts-ask k e none = record { children = cs; known = shaped k e none }
+
+-- ---- rule 22, and the texts
+
+module _ (ns cs ms ds is ps ss w₁ : List ℕ) (l : Layout) (known : Shaped (draftOf ns cs ms ds is ps ss) w₁ l) where
+  abbrev t : Sections
+  t = draftOf ns cs ms ds is ps ss
+
+  p : tablesRule t ≡ 0
+  p = known .tables
+
+  q : reachRule t ≡ 0
+  q = known .reach
+
+  r : shapeRule t ≡ 0
+  r = known .shape
+
+  el : l ≡ layoutOf t
+  el = known .layout
+
+  long : length w₁ ≡ writeWords t
+  long = known .long
+
+  numbers : Numbered (treeOf ns cs ms) (layoutOf t .order) w₁
+  numbers = subst (λ (x : Layout). Numbered (treeOf ns cs ms) (x .order) w₁) el (known .numbers)
+
+  pub paths-asks : ((length ns / 10 + length ns / 10 ≤ l .at) × (l .paths + length ns / 10 ≤ l .lengths)
+      × (l .at + l .lengths + length ns / 10 + length ns / 10 ≤ l .order) × (l .order + length ns / 10 ≤ length w₁))
+      × ((_≡_ {A = ℕ} 0 0 × (length ns / 10 * 10 ≤ length ns) × (length ns / 10 ≤ 4294967295))
+      × ((j : ℕ) → j < length ns / 10 → getD w₁ (l .order + j) 0 < length ns / 10))
+  paths-asks =
+      let room = laid ns cs ms ds is ps ss p in (
+        rw (el, long) (room .sort, room .lists, room .sizes, room .numbers),
+        ((refl, omega arith, few-nodes ns cs ms ds is ps ss p q w₁ long numbers), λ j h. rw el (olds-in ns cs ms ds is ps ss p q w₁ long numbers j h)),
+      )
+
+  -- sorted in w₂
+  module _ (w₂ : List ℕ) (a : Indexed) (long₂ : length w₂ ≡ length w₁)
+      (told : (u : Sections) (olds : List ℕ) → u .nodes ≡ ns → u .strings ≡ ss → u .stride ≡ nodeWords → nodeCount u ≡ length ns / 10 → Rooted u olds
+      → OldsAt olds w₁ (length ns / 10) (l .order) → Indexes u olds (tablesBy l 0) w₁ w₂ a) where
+    indexes : Indexes t (numbering t) (tablesBy (layoutOf t) 0) w₁ w₂ a
+    indexes =
+        subst (λ (x : Layout). Indexes t (numbering t) (tablesBy x 0) w₁ w₂ a) el
+        (told t (numbering t) refl refl refl refl (rooted t refl p q r) (λ j h. rw el (olds-known ns cs ms ds is ps ss p q w₁ long numbers j h)))
+
+    pub clashing : (w : List ℕ) (m : ℕ) → a ≡ indexed.Refused m → PlanOf t w (Refused m)
+    clashing w m e =
+        let x = indexed-refused (pathsRule t) (length (byPath t (numbering t))) m (sym e ∙ indexes .answer) in
+        plan-paths t q r w m (x .0) (x .1)
+
+    module _ (found : ℕ) (some : a ≡ indexed.Paths found) where
+      sorted : Indexes t (numbering t) (tablesBy (layoutOf t) 0) w₁ w₂ (indexed.Paths found)
+      sorted = subst (λ (x : Indexed). Indexes t (numbering t) (tablesBy (layoutOf t) 0) w₁ w₂ x) some indexes
+
+      pub uses-asks : Collectable ns ms ds is ps w₂ (l .order) (l .at)
+      uses-asks = rw el (collect-asks ns cs ms ds is ps ss p q w₁ long numbers r w₂ found long₂ sorted)
+
+      -- collected in w₃
+      module _ (w₃ : List ℕ) (texts : ℕ) (long₃ : length w₃ ≡ length w₂)
+          (gathered : (kids strings : List ℕ) → Collected (draftOf ns kids ms ds is ps strings) (wordsFrom w₂ (l .order) (length ns / 10)) w₂ (l .at) w₃ texts) where
+        collected : Collected t (wordsFrom w₂ (layoutOf t .order) (nodeCount t)) w₂ (layoutOf t .at) w₃ texts
+        collected = subst (λ (x : Layout). Collected t (wordsFrom w₂ (x .order) (nodeCount t)) w₂ (x .at) w₃ texts) el (gathered cs ss)
+
+        pub store-asks : ((texts + found + (texts + found) ≤ l .at) × Placed (tablesBy l texts) (length w₃))
+            × RisesFrom (byKey (keyIn ns ss (tablesBy l texts) w₃)) texts (texts + found)
+        store-asks =
+            rw el (
+              (
+                store-room ns cs ms ds is ps ss p q w₁ long numbers r w₂ found long₂ sorted w₃ texts long₃ collected,
+                store-placed ns cs ms ds is ps ss p q w₁ long numbers r w₂ found long₂ sorted w₃ texts long₃ collected,
+              ),
+              store-rises ns cs ms ds is ps ss p q w₁ long numbers r w₂ found long₂ sorted w₃ texts long₃ collected,
             )
 
-        -- sorted in w₂
-        module _ (w₂ : List ℕ) (a : Indexed) (long₂ : length w₂ ≡ length w₁)
-            (told : (t : Sections) (olds : List ℕ) → t .nodes ≡ ns → t .strings ≡ ss → t .stride ≡ nodeWords → nodeCount t ≡ length ns / 10 → Rooted t olds
-            → OldsAt olds w₁ (length ns / 10) (l .order) → Indexes t olds (tablesBy l 0) w₁ w₂ a) where
-          indexes : Indexes s (numbering s) (tablesBy (layoutOf s) 0) w₁ w₂ a
-          indexes =
-              subst (λ (x : Layout). Indexes s (numbering s) (tablesBy x 0) w₁ w₂ a) el
-              (told s (numbering s) refl refl refl refl (rooted s refl p q r) (λ j h. rw el (olds-known ns cs ms ds is ps ss p q w₁ long numbers j h)))
-
-          pub clashing : (w : List ℕ) (m : ℕ) → a ≡ indexed.Refused m → PlanOf s w (Refused m)
-          clashing w m e =
-              let x = indexed-refused (pathsRule s) (length (byPath s (numbering s))) m (sym e ∙ indexes .answer) in
-              plan-paths s q r w m (x .0) (x .1)
-
-          module _ (found : ℕ) (some : a ≡ indexed.Paths found) where
-            sorted : Indexes s (numbering s) (tablesBy (layoutOf s) 0) w₁ w₂ (indexed.Paths found)
-            sorted = subst (λ (x : Indexed). Indexes s (numbering s) (tablesBy (layoutOf s) 0) w₁ w₂ x) some indexes
-
-            pub uses-asks : Collectable ns ms ds is ps w₂ (l .order) (l .at)
-            uses-asks = rw el (collect-asks ns cs ms ds is ps ss p q w₁ long numbers r w₂ found long₂ sorted)
-
-            -- collected in w₃
-            module _ (w₃ : List ℕ) (texts : ℕ) (long₃ : length w₃ ≡ length w₂)
-                (gathered : (kids strings : List ℕ) → Collected (draftOf ns kids ms ds is ps strings) (wordsFrom w₂ (l .order) (length ns / 10)) w₂ (l .at) w₃ texts) where
-              collected : Collected s (wordsFrom w₂ (layoutOf s .order) (nodeCount s)) w₂ (layoutOf s .at) w₃ texts
-              collected = subst (λ (x : Layout). Collected s (wordsFrom w₂ (x .order) (nodeCount s)) w₂ (x .at) w₃ texts) el (gathered cs ss)
-
-              pub store-asks : ((texts + found + (texts + found) ≤ l .at) × Placed (tablesBy l texts) (length w₃))
-                  × RisesFrom (byKey (keyIn ns ss (tablesBy l texts) w₃)) texts (texts + found)
-              store-asks =
-                  rw el (
-                    (
-                      store-room ns cs ms ds is ps ss p q w₁ long numbers r w₂ found long₂ sorted w₃ texts long₃ collected,
-                      store-placed ns cs ms ds is ps ss p q w₁ long numbers r w₂ found long₂ sorted w₃ texts long₃ collected,
-                    ),
-                    store-rises ns cs ms ds is ps ss p q w₁ long numbers r w₂ found long₂ sorted w₃ texts long₃ collected,
-                  )
-
-              pub prepared : (w₄ : List ℕ) (m : Plan) → StoredPlan (keyIn ns ss (tablesBy l texts) w₃) texts found w₄ m → drop (l .at) w₄ ≡ drop (l .at) w₃ → PlanOf s w₄ m
-              prepared w₄ m stored kept =
-                  planned ns cs ms ds is ps ss p q w₁ long numbers r w₂ found long₂ sorted w₃ texts long₃ collected w₄
-                  (subst (λ (x : Layout). drop (x .at) w₄ ≡ drop (x .at) w₃) el kept) m
-                  (subst (λ (x : Layout). StoredPlan (keyIn ns ss (tablesBy x texts) w₃) texts found w₄ m) el stored)
+        pub prepared : (w₄ : List ℕ) (m : Plan) → StoredPlan (keyIn ns ss (tablesBy l texts) w₃) texts found w₄ m → drop (l .at) w₄ ≡ drop (l .at) w₃ → PlanOf t w₄ m
+        prepared w₄ m stored kept =
+            planned ns cs ms ds is ps ss p q w₁ long numbers r w₂ found long₂ sorted w₃ texts long₃ collected w₄
+            (subst (λ (x : Layout). drop (x .at) w₄ ≡ drop (x .at) w₃) el kept) m
+            (subst (λ (x : Layout). StoredPlan (keyIn ns ss (tablesBy x texts) w₃) texts found w₄ m) el stored)

@@ -8,12 +8,13 @@ use lib.Dec.{leb}
 use Rattle.laws.specs.Refusal.{unless, _▸_}
 use Rattle.laws.specs.Lists.{flatMap}
 use Rattle.words.specs.Words.{NONE}
-use Rattle.image.specs.Sections.{Sections, nodeCount}
-use Rattle.draft.specs.Draft.{writeWords, reachRule, shapeRule, pathsRule}
+use Rattle.image.specs.Sections.{Sections, nodeCount, namedCount, definitionCount, itemCount}
+use Rattle.draft.specs.Draft.{tablesRule, writeWords, reachRule, shapeRule, pathsRule}
+use Rattle.draft.specs.Source.{draftOf}
 use Rattle.draft.specs.Numbering.{numbering, oldOf}
 use Rattle.draft_image.specs.Strings.{uses, byPath, pathOf, storedTexts}
 use Rattle.draft_image.specs.Ready.{OldsAt, NewsAt, OffsetsAt, textUses}
-use Rattle.write_text_uses.specs.Uses.{usesMost}
+use Rattle.write_numbering.specs.Work.{treeOf, Numbered}
 use Rattle.write_text_keys.specs.Keys.{keyOf, longOf}
 use Rattle.write_interning.specs.Uses.{storedOf, joined, Offsets}
 use Rattle.write_plan.specs.declared.Layout.{Layout}
@@ -21,17 +22,20 @@ use Rattle.write_plan.specs.declared.Uses.{Uses}
 use Rattle.write_plan.specs.declared.Plan.{Plan}
 use Rattle.write_plan.specs.declared.Plan.the-variants.{Ready, Refused}
 
--- two words a use are sorted; behind them two words a text, a word for each path, two for a path's length by its node; at the end
--- the numbers, two words a node
-abbrev pub layoutOf : Sections → Layout
-layoutOf s =
+-- by a draft's counts and the work words that it needs. Two words a use are sorted; behind them two words a text, a word for each
+-- path, two for a path's length by its node; at the end the numbers, two words a node
+abbrev pub layoutBy : ℕ → ℕ → ℕ → ℕ → ℕ → ℕ → Layout
+layoutBy nodes named definitions items payload needed =
     record {
-      at = 2 * usesMost s;
-      paths = 2 * usesMost s;
-      lengths = 2 * usesMost s + nodeCount s;
-      order = writeWords s - 2 * nodeCount s;
-      new = writeWords s - nodeCount s;
+      at = 2 * (2 * nodes + named + definitions + items + payload);
+      paths = 2 * (2 * nodes + named + definitions + items + payload);
+      lengths = 2 * (2 * nodes + named + definitions + items + payload) + nodes;
+      order = needed - 2 * nodes;
+      new = needed - nodes;
     }
+
+abbrev pub layoutOf : Sections → Layout
+layoutOf s = layoutBy (nodeCount s) (namedCount s) (definitionCount s) (itemCount s) (length (s .payload)) (writeWords s)
 
 -- the stored texts, one after the other
 abbrev pub storedBytes : Sections → List ℕ
@@ -60,6 +64,20 @@ pub record Prepared (s : Sections) (w : List ℕ) (u : Uses) : Type 0 where
   pub lengths : (k : ℕ) → k < u .paths
       → longOf (layoutOf s .lengths) (drop (layoutOf s .at) w) (oldOf (numbering s) (getD (byPath s (numbering s)) k 0))
       ≡ length (pathOf s (numbering s) (getD (byPath s (numbering s)) k 0))
+
+-- rules 19 to 21 are kept, and the work words hold the numbers of the nodes
+pub record Shaped (s : Sections) (w : List ℕ) (l : Layout) : Type 0 where
+  pub tables : tablesRule s ≡ 0
+  pub reach : reachRule s ≡ 0
+  pub shape : shapeRule s ≡ 0
+  pub layout : l ≡ layoutOf s
+  pub long : length w ≡ writeWords s
+  pub numbers : Numbered (treeOf (s .nodes) (s .children) (s .named)) (l .order) w
+
+-- of some draft that has these tables
+pub record ShapedTables (nodes named definitions items payload strings w : List ℕ) (l : Layout) : Type 0 where
+  pub children : List ℕ
+  pub known : Shaped (draftOf nodes children named definitions items payload strings) w l
 
 -- the work words as said, or the number of the first of the rules that is broken
 abbrev pub PlanOf : Sections → List ℕ → Plan → Type 0

@@ -1,14 +1,15 @@
 // What a draft's image will hold, worked out in the work words before a byte of the output is written: the numbers of the nodes, the
 // paths in text order, the offset of every text. Rules 20 to 22, and 23 where the texts alone are too long.
 ghost use mathlib.Core.Path.{_≡_};
-ghost use Prim.Native.Nat.{_+_, _≤_};
+ghost use mathlib.Core.List.{List};
+ghost use Prim.Native.Nat.{ℕ, _+_, _≤_};
 ghost use lib.ListN.{length, drop};
 ghost use Rattle.write_sorting.specs.Sorted.{byKey};
 ghost use Rattle.write_interning.specs.Uses.{RisesFrom};
 ghost use Rattle.write_text_keys.specs.Keys.{keyIn, Placed};
 ghost use Rattle.draft.specs.Source.{draftOf};
 ghost use Rattle.draft.specs.Draft.{tablesRule, writeWords};
-ghost use Rattle.write_plan.specs.Planned.{layoutOf, StoredPlan, PlanOf};
+ghost use Rattle.write_plan.specs.Planned.{layoutOf, StoredPlan, Shaped, ShapedTables, PlanOf};
 use draft::shape;
 use image::refusal::DRAFT_UNREACHED;
 use image::refusal::NO_ROOM;
@@ -59,10 +60,9 @@ fn store(nodes: &[u32], strings: &[u8], w: &mut [u32], t: Tables, paths: usize) 
     }
 }
 
-// Works out, in as many work words as a draft needs, the numbers, paths and offsets of its image.
-pub fn prepare(
+// Sorts the paths and stores the texts of a draft that keeps the rules 19 to 21 and whose nodes are numbered in the work words.
+pub fn plan_texts(
     nodes: &[u32],
-    children: &[u32],
     named: &[u32],
     definitions: &[u32],
     items: &[u32],
@@ -71,18 +71,12 @@ pub fn prepare(
     w: &mut [u32],
     l: Layout,
 ) -> Plan
-    requires { ⌜ tablesRule (draftOf (now nodes) (now children) (now named) (now definitions) (now items) (now payload) (now strings)) ≡ 0 ⌝ }
-    requires { ⌜ length (now w) ≡ writeWords (draftOf (now nodes) (now children) (now named) (now definitions) (now items) (now payload) (now strings)) ⌝ }
-    requires { ⌜ l ≡ layoutOf (draftOf (now nodes) (now children) (now named) (now definitions) (now items) (now payload) (now strings)) ⌝ }
-    ensures { λ r. ⌜ PlanOf (draftOf (now (nodes .entry)) (now (children .entry)) (now (named .entry)) (now (definitions .entry)) (now (items .entry)) (now (payload .entry)) (now (strings .entry))) (now (w .exit)) r ⌝ }
+    requires { ⌜ ShapedTables (now nodes) (now named) (now definitions) (now items) (now payload) (now strings) (now w) l ⌝ }
+    ensures { λ r. ⌜ ((children : List ℕ) → let s =
+        draftOf (now (nodes .entry)) children (now (named .entry)) (now (definitions .entry)) (now (items .entry)) (now (payload .entry))
+        (now (strings .entry)) in
+        Shaped s (now (w .entry)) l → PlanOf s (now (w .exit)) r) ⌝ }
 {
-    if !write_numbering::number(nodes, children, named, w, l.order) {
-        return Plan::Refused(DRAFT_UNREACHED);
-    }
-    let refused = shape::shape_rule(nodes, children, named, definitions, items, payload, strings);
-    if refused != 0 {
-        return Plan::Refused(refused);
-    }
     let t = Tables {
         at: l.at,
         texts: 0,
@@ -111,4 +105,34 @@ pub fn prepare(
             store(nodes, strings, w, t, found)
         }
     }
+}
+
+// Works out, in as many work words as a draft needs, the numbers, paths and offsets of its image.
+pub fn prepare(
+    nodes: &[u32],
+    children: &[u32],
+    named: &[u32],
+    definitions: &[u32],
+    items: &[u32],
+    payload: &[u8],
+    strings: &[u8],
+    w: &mut [u32],
+    l: Layout,
+) -> Plan
+    requires { ⌜ (let s =
+        draftOf (now nodes) (now children) (now named) (now definitions) (now items) (now payload) (now strings) in
+        (tablesRule s ≡ 0) × (length (now w) ≡ writeWords s) × (l ≡ layoutOf s)) ⌝ }
+    ensures { λ r. ⌜ (let s =
+        draftOf (now (nodes .entry)) (now (children .entry)) (now (named .entry)) (now (definitions .entry)) (now (items .entry))
+        (now (payload .entry)) (now (strings .entry)) in
+        PlanOf s (now (w .exit)) r) ⌝ }
+{
+    if !write_numbering::number(nodes, children, named, w, l.order) {
+        return Plan::Refused(DRAFT_UNREACHED);
+    }
+    let refused = shape::shape_rule(nodes, children, named, definitions, items, payload, strings);
+    if refused != 0 {
+        return Plan::Refused(refused);
+    }
+    plan_texts(nodes, named, definitions, items, payload, strings, w, l)
 }

@@ -130,7 +130,8 @@ fn put_reference(
 // Of node `i`, in field order.
 fn put_node(nodes: &[u32], i: usize, payload: &[u8], w: &mut [u32], at: usize) -> usize
     requires { ⌜ i * 10 + 10 ≤ length (now nodes) ⌝ }
-    requires { ⌜ (tagOf (nodesOnly (now nodes) (now payload)) i ≡ 12 → ListInside (nodesOnly (now nodes) (now payload)) (f (nodesOnly (now nodes) (now payload)) i 0)) ⌝ }
+    requires { ⌜ (tagOf (nodesOnly (now nodes) (now payload)) i ≡ 12 → ListInside (nodesOnly (now nodes) (now payload))
+        (f (nodesOnly (now nodes) (now payload)) i 0)) ⌝ }
     requires { ⌜ Room (nodePairs (nodesOnly (now nodes) (now payload)) i) (now w) at ⌝ }
     ensures { λ r. ⌜ Put (nodePairs (nodesOnly (now (nodes .entry)) (now (payload .entry))) i) (now (w .entry)) at (now (w .exit)) r ⌝ }
 {
@@ -153,7 +154,8 @@ fn put_nodes(nodes: &[u32], payload: &[u8], w: &mut [u32], order: usize, at: usi
     requires { ⌜ Readable (nodesOnly (now nodes) (now payload)) (wordsFrom (now w) order (length (now nodes) / 10)) ⌝ }
     requires { ⌜ order + length (now nodes) / 10 ≤ length (now w) ⌝ }
     requires { ⌜ at + length (allNodePairs (nodesOnly (now nodes) (now payload)) (wordsFrom (now w) order (length (now nodes) / 10))) ≤ order ⌝ }
-    ensures { λ r. ⌜ Put (allNodePairs (nodesOnly (now (nodes .entry)) (now (payload .entry))) (wordsFrom (now (w .entry)) order (length (now (nodes .entry)) / 10))) (now (w .entry)) at (now (w .exit)) r ⌝ }
+    ensures { λ r. ⌜ (Put (allNodePairs (nodesOnly (now (nodes .entry)) (now (payload .entry)))
+        (wordsFrom (now (w .entry)) order (length (now (nodes .entry)) / 10))) (now (w .entry)) at (now (w .exit)) r) ⌝ }
 {
     let count = nodes.len() / 10;
     let mut k = at;
@@ -203,7 +205,8 @@ fn put_named(nodes: &[u32], named: &[u32], w: &mut [u32], order: usize, at: usiz
     requires { ⌜ Olds (length (now nodes) / 10) (wordsFrom (now w) order (length (now nodes) / 10)) ⌝ }
     requires { ⌜ order + length (now nodes) / 10 ≤ length (now w) ⌝ }
     requires { ⌜ at + length (allNamedPairs (namedOnly (now nodes) (now named)) (wordsFrom (now w) order (length (now nodes) / 10))) ≤ order ⌝ }
-    ensures { λ r. ⌜ Put (allNamedPairs (namedOnly (now (nodes .entry)) (now (named .entry))) (wordsFrom (now (w .entry)) order (length (now (nodes .entry)) / 10))) (now (w .entry)) at (now (w .exit)) r ⌝ }
+    ensures { λ r. ⌜ (Put (allNamedPairs (namedOnly (now (nodes .entry)) (now (named .entry)))
+        (wordsFrom (now (w .entry)) order (length (now (nodes .entry)) / 10))) (now (w .entry)) at (now (w .exit)) r) ⌝ }
 {
     let count = nodes.len() / 10;
     let mut k = at;
@@ -220,7 +223,7 @@ fn put_named(nodes: &[u32], named: &[u32], w: &mut [u32], order: usize, at: usiz
 fn put_definition(definitions: &[u32], items: &[u32], d: usize, w: &mut [u32], at: usize) -> usize
     requires { ⌜ d * 4 + 4 ≤ length (now definitions) ⌝ }
     requires { ⌜ Room (definitionPairs (definitionsOnly (now definitions) (now items)) d) (now w) at ⌝ }
-    ensures { λ r. ⌜ Put (definitionPairs (definitionsOnly (now (definitions .entry)) (now (items .entry))) d) (now (w .entry)) at (now (w .exit)) r ⌝ }
+    ensures { λ r. ⌜ (Put (definitionPairs (definitionsOnly (now (definitions .entry)) (now (items .entry))) d) (now (w .entry)) at (now (w .exit)) r) ⌝ }
 {
     let definition = definition_at(definitions, d);
     let behind = put_use(w, at, definition.offset, definition.len);
@@ -230,7 +233,7 @@ fn put_definition(definitions: &[u32], items: &[u32], d: usize, w: &mut [u32], a
 // Of all definitions, each with its items.
 fn put_definitions(definitions: &[u32], items: &[u32], w: &mut [u32], at: usize) -> usize
     requires { ⌜ Room (allDefinitionPairs (definitionsOnly (now definitions) (now items))) (now w) at ⌝ }
-    ensures { λ r. ⌜ Put (allDefinitionPairs (definitionsOnly (now (definitions .entry)) (now (items .entry)))) (now (w .entry)) at (now (w .exit)) r ⌝ }
+    ensures { λ r. ⌜ (Put (allDefinitionPairs (definitionsOnly (now (definitions .entry)) (now (items .entry)))) (now (w .entry)) at (now (w .exit)) r) ⌝ }
 {
     let count = definitions.len() / 4;
     let mut k = at;
@@ -255,7 +258,10 @@ pub fn collect(
     at: usize,
 ) -> usize
     requires { ⌜ Collectable (now nodes) (now named) (now definitions) (now items) (now payload) (now w) order at ⌝ }
-    ensures { λ r. ⌜ ((children strings : List ℕ) → Collected (draftOf (now (nodes .entry)) children (now (named .entry)) (now (definitions .entry)) (now (items .entry)) (now (payload .entry)) strings) (wordsFrom (now (w .entry)) order (length (now (nodes .entry)) / 10)) (now (w .entry)) at (now (w .exit)) r) ⌝ }
+    ensures { λ r. ⌜ ((children strings : List ℕ) → let s =
+        draftOf (now (nodes .entry)) children (now (named .entry)) (now (definitions .entry)) (now (items .entry)) (now (payload .entry))
+        strings in
+        Collected s (wordsFrom (now (w .entry)) order (length (now (nodes .entry)) / 10)) (now (w .entry)) at (now (w .exit)) r) ⌝ }
 {
     let behind_nodes = put_nodes(nodes, payload, w, order, at);
     let behind_named = put_named(nodes, named, w, order, behind_nodes);

@@ -1,20 +1,12 @@
 // Section 1: the ordered children of the image's nodes, by their numbers in the image.
 ghost use mathlib.Core.Path.{_≡_};
-ghost use mathlib.Core.List.{List};
 ghost use mathlib.Core.Bool.{cond};
-ghost use Prim.Native.Nat.{ℕ, _+_, _*_, _/_, _≤_};
+ghost use Prim.Native.Nat.{_+_, _*_, _/_, _≤_};
 ghost use lib.ListN.{length};
 ghost use lib.Dec.{eqb};
-ghost use Rattle.laws.specs.Counted.{joinOf};
-ghost use Rattle.words.specs.Words.{bytesOf};
-ghost use Rattle.image.specs.Header.{nodeWords};
-ghost use Rattle.image.specs.Sections.{Sections, nodeCount};
-ghost use Rattle.draft.specs.Draft.{tablesRule};
-ghost use Rattle.draft.specs.Numbering.{oldOf};
-ghost use Rattle.draft_image.specs.Written.{childrenOut};
-ghost use Rattle.draft_image.specs.Ready.{OldsAt, NewsAt};
-ghost use Rattle.words.specs.Output.{over, putAt};
+ghost use Rattle.words.specs.Output.{putAt};
 ghost use Rattle.write_tree_sections.specs.Held.{childWords, OrderFits, childrenBy};
+ghost use Rattle.write_tree_sections.specs.Put.{ChildrenPut};
 use draft::source::node_at;
 use draft::source::word;
 use image::NodeRecord;
@@ -59,7 +51,7 @@ fn put_children_of(
 pub fn put_children(nodes: &[u32], children: &[u32], work: &[u32], numbers: Numbers, out: &mut [u8])
     requires { ⌜ OrderFits (now nodes) (now work) numbers ⌝ }
     requires { ⌜ 4 * childrenBy (now nodes) (now work) (numbers .order) (length (now nodes) / 10) ≤ length (now out) ⌝ }
-    ensures { λ r. ⌜ ((s : Sections) (order : List ℕ) (kept : List (List ℕ)) → s .nodes ≡ now (nodes .entry) → s .stride ≡ nodeWords → s .children ≡ now (children .entry) → tablesRule s ≡ 0 → OldsAt order (now (work .entry)) (nodeCount s) (numbers .order) → NewsAt order (now (work .entry)) (nodeCount s) (numbers .new) → now (out .exit) ≡ over (bytesOf (joinOf (nodeCount s) (λ j. childrenOut s order kept (oldOf order j)))) (now (out .entry))) ⌝ }
+    ensures { λ r. ⌜ ChildrenPut (now (nodes .entry)) (now (children .entry)) (now (work .entry)) numbers (now (out .entry)) (now (out .exit)) ⌝ }
 {
     let order = numbers.order;
     let count = nodes.len() / 10;

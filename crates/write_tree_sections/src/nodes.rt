@@ -1,20 +1,11 @@
 // Section 0: the records of the image's nodes.
 ghost use mathlib.Core.Path.{_≡_};
-ghost use mathlib.Core.List.{List};
-ghost use Prim.Native.Nat.{ℕ, _+_, _*_, _/_, _≤_, _<_};
+ghost use Prim.Native.Nat.{_+_, _*_, _/_, _≤_, _<_};
 ghost use lib.ListN.{length};
-ghost use Rattle.laws.specs.Counted.{joinOf};
-ghost use Rattle.laws.specs.Lists.{placeIn};
-ghost use Rattle.words.specs.Words.{bytesOf};
-ghost use Rattle.image.specs.Header.{nodeWords};
-ghost use Rattle.image.specs.Sections.{Sections, nodeCount};
-ghost use Rattle.draft.specs.Draft.{tablesRule, shapeRule};
-ghost use Rattle.draft.specs.Numbering.{oldOf};
-ghost use Rattle.draft_image.specs.Written.{nodeOut};
-ghost use Rattle.draft_image.specs.Ready.{OldsAt, NewsAt, OffsetsAt, nodeUses};
-ghost use Rattle.words.specs.Output.{over, putAt};
+ghost use Rattle.words.specs.Output.{putAt};
 ghost use Rattle.write_tree_sections.specs.Encoded.{recordWords};
 ghost use Rattle.write_tree_sections.specs.Summed.{StartsFit, startsAfter, NodesFit};
+ghost use Rattle.write_tree_sections.specs.Put.{NodesPut};
 use crate::kinds::Starts;
 use crate::kinds::encode_kind;
 use crate::texts_used::texts_of;
@@ -75,7 +66,7 @@ pub fn put_nodes(
 ) -> usize
     requires { ⌜ NodesFit (now nodes) (now payload) (now work) numbers ⌝ }
     requires { ⌜ 40 * (length (now nodes) / 10) ≤ length (now out) ⌝ }
-    ensures { λ r. ⌜ ((s : Sections) (order : List ℕ) (kept : List (List ℕ)) → s .nodes ≡ now (nodes .entry) → s .stride ≡ nodeWords → s .payload ≡ now (payload .entry) → tablesRule s ≡ 0 → shapeRule s ≡ 0 → ((j : ℕ) → j < nodeCount s → placeIn order (oldOf order j) ≡ j) → OldsAt order (now (work .entry)) (nodeCount s) (numbers .order) → NewsAt order (now (work .entry)) (nodeCount s) (numbers .new) → OffsetsAt kept (nodeUses s order) (now (work .entry)) (numbers .offsets) → (now (out .exit) ≡ over (bytesOf (joinOf (nodeCount s) (λ j. nodeOut s order kept (oldOf order j)))) (now (out .entry))) × (r ≡ numbers .offsets + length (nodeUses s order))) ⌝ }
+    ensures { λ r. ⌜ NodesPut (now (nodes .entry)) (now (payload .entry)) (now (work .entry)) numbers (now (out .entry)) (now (out .exit)) r ⌝ }
 {
     let order = numbers.order;
     let count = nodes.len() / 10;

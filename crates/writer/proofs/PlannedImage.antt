@@ -14,11 +14,11 @@ use Rattle.write_plan.specs.declared.Layout.{Layout}
 use Rattle.write_plan.specs.declared.Uses.{Uses}
 use Rattle.write_plan.specs.declared.Plan.{Plan}
 use Rattle.write_plan.specs.declared.Plan.the-variants.{Ready, Refused}
-use Rattle.write_plan.specs.Planned.{layoutOf, planRule, PlanOf}
+use Rattle.write_plan.specs.Planned.{layoutBy, layoutOf, planRule, PlanOf}
 use Rattle.writer.specs.declared.Encoded.{Encoded}
 use Rattle.writer.specs.declared.Encoded.the-variants as encoded
 use Rattle.writer.specs.Answer.{fitsOutput, Answered, WrittenWith}
-use Rattle.writer.specs.Planned.{layoutBy, Drawn}
+use Rattle.writer.specs.Planned.{Drawn}
 use Rattle.writer.proofs.Outcomes.{plan-refused, plan-made}
 
 module _ (ink : ℕ) (ns cs ms ds is ps ss : List ℕ) (i : inkRight ink ≡ true) (p : tablesRule (draftOf ns cs ms ds is ps ss) ≡ 0) (out₀ w₀ : List ℕ)

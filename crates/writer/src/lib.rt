@@ -9,7 +9,8 @@ ghost use Rattle.draft.specs.Draft.{tablesRule, writeWords};
 ghost use Rattle.image.specs.Header.{inkRight};
 ghost use Rattle.draft_image.specs.Encode.{imageFor, encodeRule, outAfter, encodeWorkAfter};
 ghost use Rattle.laws.specs.Refusal.{unless};
-ghost use Rattle.writer.specs.Planned.{layoutBy, Drawn};
+ghost use Rattle.write_plan.specs.Planned.{layoutBy};
+ghost use Rattle.writer.specs.Planned.{Drawn};
 use draft::Needed;
 use draft::tables;
 use image::refusal::BAD_INK_VERSION;
@@ -67,8 +68,13 @@ fn put_image(
     uses: Uses,
     out: &mut [u8],
 ) -> Encoded
-    requires { ⌜ Drawn (draftOf (now nodes) (now children) (now named) (now definitions) (now items) (now payload) (now strings)) (now work) l uses ⌝ }
-    ensures { λ r. ⌜ Answered ink (draftOf (now (nodes .entry)) (now (children .entry)) (now (named .entry)) (now (definitions .entry)) (now (items .entry)) (now (payload .entry)) (now (strings .entry))) (unless (fitsOutput ink (draftOf (now (nodes .entry)) (now (children .entry)) (now (named .entry)) (now (definitions .entry)) (now (items .entry)) (now (payload .entry)) (now (strings .entry))) (length (now (out .entry)))) 23) (now (out .entry)) (now (out .exit)) r ⌝ }
+    requires { ⌜ (let s =
+        draftOf (now nodes) (now children) (now named) (now definitions) (now items) (now payload) (now strings) in
+        Drawn s (now work) l uses) ⌝ }
+    ensures { λ r. ⌜ (let s =
+        draftOf (now (nodes .entry)) (now (children .entry)) (now (named .entry)) (now (definitions .entry)) (now (items .entry))
+        (now (payload .entry)) (now (strings .entry)) in
+        Answered ink s (unless (fitsOutput ink s (length (now (out .entry)))) 23) (now (out .entry)) (now (out .exit)) r) ⌝ }
 {
     let entries = Entries {
         nodes: nodes.len() / 10,
@@ -130,9 +136,16 @@ fn write(
     out: &mut [u8],
     work: &mut [u32],
 ) -> Encoded
-    requires { ⌜ (inkRight ink ≡ true) × (tablesRule (draftOf (now nodes) (now children) (now named) (now definitions) (now items) (now payload) (now strings)) ≡ 0) ⌝ }
-    requires { ⌜ length (now work) ≡ writeWords (draftOf (now nodes) (now children) (now named) (now definitions) (now items) (now payload) (now strings)) ⌝ }
-    ensures { λ r. ⌜ WrittenWith ink (draftOf (now (nodes .entry)) (now (children .entry)) (now (named .entry)) (now (definitions .entry)) (now (items .entry)) (now (payload .entry)) (now (strings .entry))) (now (out .entry)) (now (out .exit)) r ⌝ }
+    requires { ⌜ (let s =
+        draftOf (now nodes) (now children) (now named) (now definitions) (now items) (now payload) (now strings) in
+        (inkRight ink ≡ true) × (tablesRule s ≡ 0)) ⌝ }
+    requires { ⌜ (let s =
+        draftOf (now nodes) (now children) (now named) (now definitions) (now items) (now payload) (now strings) in
+        length (now work) ≡ writeWords s) ⌝ }
+    ensures { λ r. ⌜ (let s =
+        draftOf (now (nodes .entry)) (now (children .entry)) (now (named .entry)) (now (definitions .entry))
+        (now (items .entry)) (now (payload .entry)) (now (strings .entry)) in
+        WrittenWith ink s (now (out .entry)) (now (out .exit)) r) ⌝ }
 {
     let l = layout_of(
         nodes.len() / 10,
@@ -186,9 +199,20 @@ pub fn encode(
     out: &mut [u8],
     work: &mut [u32],
 ) -> Encoded
-    ensures answer { λ r. ⌜ r ≡ encodedOf ink (draftOf (now (nodes .entry)) (now (children .entry)) (now (named .entry)) (now (definitions .entry)) (now (items .entry)) (now (payload .entry)) (now (strings .entry))) (length (now (work .entry))) (length (now (out .entry))) ⌝ }
-    ensures output { λ r. ⌜ now (out .exit) ≡ outAfter (encodeRule ink (draftOf (now (nodes .entry)) (now (children .entry)) (now (named .entry)) (now (definitions .entry)) (now (items .entry)) (now (payload .entry)) (now (strings .entry))) (length (now (work .entry))) (length (now (out .entry)))) (imageFor ink (draftOf (now (nodes .entry)) (now (children .entry)) (now (named .entry)) (now (definitions .entry)) (now (items .entry)) (now (payload .entry)) (now (strings .entry)))) (now (out .entry)) ⌝ }
-    ensures words { λ r. ⌜ now (work .exit) ≡ encodeWorkAfter (writeWords (draftOf (now (nodes .entry)) (now (children .entry)) (now (named .entry)) (now (definitions .entry)) (now (items .entry)) (now (payload .entry)) (now (strings .entry)))) (encodeRule ink (draftOf (now (nodes .entry)) (now (children .entry)) (now (named .entry)) (now (definitions .entry)) (now (items .entry)) (now (payload .entry)) (now (strings .entry))) (length (now (work .entry))) (length (now (out .entry)))) (now (work .entry)) ⌝ }
+    ensures answer { λ r. ⌜ (let s =
+        draftOf (now (nodes .entry)) (now (children .entry)) (now (named .entry)) (now (definitions .entry)) (now (items .entry))
+        (now (payload .entry)) (now (strings .entry)) in
+        r ≡ encodedOf ink s (length (now (work .entry))) (length (now (out .entry)))) ⌝ }
+    ensures output { λ r. ⌜ (let s =
+        draftOf (now (nodes .entry)) (now (children .entry)) (now (named .entry)) (now (definitions .entry)) (now (items .entry))
+        (now (payload .entry)) (now (strings .entry)) in
+        now (out .exit) ≡ outAfter (encodeRule ink s (length (now (work .entry))) (length (now (out .entry)))) (imageFor ink s)
+        (now (out .entry))) ⌝ }
+    ensures words { λ r. ⌜ (let s =
+        draftOf (now (nodes .entry)) (now (children .entry)) (now (named .entry)) (now (definitions .entry)) (now (items .entry))
+        (now (payload .entry)) (now (strings .entry)) in
+        now (work .exit) ≡ encodeWorkAfter (writeWords s) (encodeRule ink s (length (now (work .entry))) (length (now (out .entry))))
+        (now (work .entry))) ⌝ }
 {
     if !draft::ink_right(ink) {
         return Encoded::Refused(BAD_INK_VERSION);

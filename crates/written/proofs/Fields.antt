@@ -92,7 +92,7 @@ module _ {s : Sections} {order : List ℕ} {kept : List (List ℕ)} (g : Given s
   old-zero = g .numbered .first
 
   pub new-zero : placeIn order 0 ≡ 0
-  new-zero = ap (placeIn order) (sym old-zero) ∙ new-old 0 (g .taken .some)
+  new-zero = ap (placeIn order) (sym old-zero) ∙ new-old 0 (g .taken .tables .some)
 
   pub zero-old : (j : ℕ) → j < nodeCount s → oldOf order j ≡ 0 → j ≡ 0
   zero-old j h e = sym (new-old j h) ∙ ap (placeIn order) e ∙ new-zero

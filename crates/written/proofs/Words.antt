@@ -118,7 +118,7 @@ module _ {s : Sections} {order : List ℕ} {kept : List (List ℕ)} (g : Given s
       let n10 : length (v .nodes) ≡ nodeCount s * nodeWords = nodes-length s order kept (g .wide) ∙ ap (λ (c : ℕ). nodeCount s * c) ten in
       record {
         stride = unfold w writtenWith in ten;
-        some = omega (arith, counted g, g .taken .some);
+        some = omega (arith, counted g, g .taken .tables .some);
         nodes = n10 ∙ ap (λ (n : ℕ). n * nodeWords) (sym (counted g));
         named = omega (arith, named-whole s order kept);
         definitions = omega (arith, definitions-whole s order kept);

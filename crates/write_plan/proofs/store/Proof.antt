@@ -31,9 +31,11 @@ returns-2 : tie.Need-returns-2
 returns-2 c =
     let to = c .before .before .before .before .before .before .before .before .before .before .before .args in
     let if1 = c .before .before .before .before .before .before .before .if1 in
-    let intern = c .before .before .before .before .before .intern in
-    (stored-whole (keyIn (to .nodes .now) (to .strings .now) (to .t) (to .w .now)) (to .t .texts) (to .paths) _ _ (intern .last .1 .1 .0) (if1 .left)
-    (intern .ensures .0) (intern .ensures .1 .0) (c .before .strings .given .1), intern .ensures .1 .1)
+    let intern = c .before .before .before .before .before .intern in (
+      stored-whole (keyIn (to .nodes .now) (to .strings .now) (to .t) (to .w .now)) (to .t .texts) (to .paths) _ _ (intern .last .1 .1 .0) (if1 .left)
+          (intern .ensures .0) (intern .ensures .1 .0) (c .before .strings .given .1),
+      intern .ensures .1 .1,
+    )
 
 same-length-2 : tie.Need-same-length-2
 same-length-2 c = search needs
@@ -42,9 +44,11 @@ returns-3 : tie.Need-returns-3
 returns-3 c =
     let to = c .before .before .before .before .before .before .before .before .before .before .args in
     let if1 = c .before .before .before .before .before .before .if1 in
-    let intern = c .before .before .before .before .intern in
-    (stored-long (keyIn (to .nodes .now) (to .strings .now) (to .t) (to .w .now)) (to .t .texts) (to .paths) _ [] (if1 .left) (intern .ensures .0)
-    (c .enum-told .given .1), intern .ensures .1 .1)
+    let intern = c .before .before .before .before .intern in (
+      stored-long (keyIn (to .nodes .now) (to .strings .now) (to .t) (to .w .now)) (to .t .texts) (to .paths) _ [] (if1 .left) (intern .ensures .0)
+          (c .enum-told .given .1),
+      intern .ensures .1 .1,
+    )
 
 pub store-spec : {M : Type 1} → statement M
 store-spec =

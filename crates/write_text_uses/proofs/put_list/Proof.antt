@@ -24,9 +24,11 @@ put-list-items-requires : tie.Need-put-list-items-requires
 put-list-items-requires c κs =
     let asked = c .before .before .before .before .before .pre in
     let word = c .before .before .word in
-    let word2 = c .before .word2 in
-    (list-items-inside _ _ _ _ (word .ensures) (word2 .ensures) (asked .0), first-room _ _ _ _ _ (list-is _ _ _ _ (word .ensures) (word2 .ensures))
-    (asked .1))
+    let word2 = c .before .word2 in (
+      list-items-inside _ _ _ _ (word .ensures) (word2 .ensures) (asked .0),
+      first-room _ _ _ _ _ (list-is _ _ _ _ (word .ensures) (word2 .ensures))
+          (asked .1),
+    )
 
 mul-put-list-origins : tie.Need-mul-put-list-origins
 mul-put-list-origins c = search needs
@@ -42,9 +44,11 @@ put-list-origins-requires c κs =
     let asked = c .before .before .before .before .before .before .before .before .before .pre in
     let word = c .before .before .before .before .before .before .word in
     let word2 = c .before .before .before .before .before .word2 in
-    let put-list-items = c .before .before .before .put-list-items in
-    (list-origins-inside _ _ _ _ (word .ensures) (word2 .ensures) (asked .0), second-room _ _ _ _ _ (list-is _ _ _ _ (word .ensures) (word2 .ensures))
-    (asked .1) _ _ (put-list-items .ensures))
+    let put-list-items = c .before .before .before .put-list-items in (
+      list-origins-inside _ _ _ _ (word .ensures) (word2 .ensures) (asked .0),
+      second-room _ _ _ _ _ (list-is _ _ _ _ (word .ensures) (word2 .ensures))
+          (asked .1) _ _ (put-list-items .ensures),
+    )
 
 same-length : tie.Need-same-length
 same-length c = search needs

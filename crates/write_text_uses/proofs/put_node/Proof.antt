@@ -30,9 +30,11 @@ put-list-requires : tie.Need-put-list-requires
 put-list-requires c κs =
     let asked = c .before .before .before .before .before .before .before .pre in
     let node-at = c .before .before .before .node-at in
-    let match = c .before .before .match in
-    (list-inside _ _ _ _ (node-at .ensures) (asked .1 .0) (match .keys6), room-same _ _ _ _ (at-list _ _ _ _ (node-at .ensures) (match .keys6))
-    (asked .1 .1))
+    let match = c .before .before .match in (
+      list-inside _ _ _ _ (node-at .ensures) (asked .1 .0) (match .keys6),
+      room-same _ _ _ _ (at-list _ _ _ _ (node-at .ensures) (match .keys6))
+          (asked .1 .1),
+    )
 
 put-reference-requires : tie.Need-put-reference-requires
 put-reference-requires c κs = room-same _ _ _ _ (at-reference _ _ _ _ (c .before .before .node-at .ensures) (c .before .match .keys7)) (c .before .before .before .before .before .before .pre .1 .1)

@@ -62,9 +62,10 @@ write-requires c κs =
     let tables-rule = c .before .before .before .before .before .before .before .tables-rule in
     let work-words-fit = c .before .before .before .before .before .work-words-fit in
     let needed = c .before .before .before .needed in
-    let s = draftOf (to .nodes .now) (to .children .now) (to .named .now) (to .definitions .now) (to .items .now) (to .payload .now) (to .strings .now) in
-    (((sym (ink-right .ensures) ∙ not-false _ (if1 .left)), (no-rule _ _ (tables-rule .ensures) (search needs))),
-    lent-needed (writeWords s) _ (to .work .now) _ (work-words-fit .ensures) (needed .given .1))
+    let s = draftOf (to .nodes .now) (to .children .now) (to .named .now) (to .definitions .now) (to .items .now) (to .payload .now) (to .strings .now) in (
+      ((sym (ink-right .ensures) ∙ not-false _ (if1 .left)), (no-rule _ _ (tables-rule .ensures) (search needs))),
+      lent-needed (writeWords s) _ (to .work .now) _ (work-words-fit .ensures) (needed .given .1),
+    )
 
 clear-requires : tie.Need-clear-requires
 clear-requires c κs =

@@ -30,17 +30,19 @@ cast-node-at c = search needs
 node-at-requires : tie.Need-node-at-requires Inv-loop μ-loop
 node-at-requires c κs = omega (arith, c .word .ensures, c .before .before .before .before .before .before .before .pre .0 .olds _ (c .before .loop-test .taken))
 
-children-of-requires : tie.Need-children-of-requires Inv-loop μ-loop
-children-of-requires c κs = search needs
+child-count-requires : tie.Need-child-count-requires Inv-loop μ-loop
+child-count-requires c κs = search needs
 
 put-children-of-requires : tie.Need-put-children-of-requires Inv-loop μ-loop
 put-children-of-requires c κs =
     let asked = c .before .before .before .before .before .before .before .before .before .before .pre in
     let loop = c .before .before .before .before .before .loop in
     let test = c .before .before .before .before .loop-test in
-    let word = c .before .before .before .word in
-    (asked .0 .new-start, step-room _ _ _ _ _ _ _ _ _ (loop .inv) (test .taken) _ (word .ensures) _ (c .before .before .node-at .ensures) _
-    (c .before .children-of .ensures))
+    let word = c .before .before .before .word in (
+      asked .0 .new-start,
+      step-room _ _ _ _ _ _ _ _ _ (loop .inv) (test .taken) _ (word .ensures) _ (c .before .before .node-at .ensures) _
+          (c .before .child-count .ensures),
+    )
 
 cast-at : tie.Need-cast-at Inv-loop μ-loop
 cast-at c = search needs
@@ -50,12 +52,14 @@ mul-at c = search needs
 
 add-at : tie.Need-add-at Inv-loop μ-loop
 add-at c =
+    let room =
     let loop = c .before .before .before .before .before .before .before .before .loop in
     let test = c .before .before .before .before .before .before .before .loop-test in
     let word = c .before .before .before .before .before .before .word in
     let node-at = c .before .before .before .before .before .node-at in
-    let children-of = c .before .before .before .before .children-of in
-    let h = step-room _ _ _ _ _ _ _ _ _ (loop .inv) (test .taken) _ (word .ensures) _ (node-at .ensures) _ (children-of .ensures) in omega arith
+    let child-count = c .before .before .before .before .child-count in
+    step-room _ _ _ _ _ _ _ _ _ (loop .inv) (test .taken) _ (word .ensures) _ (node-at .ensures) _ (child-count .ensures) in
+    omega arith
 
 add-j : tie.Need-add-j Inv-loop μ-loop
 add-j c = search needs
@@ -69,8 +73,8 @@ loop-again c =
     let test = c .before .before .before .before .before .before .before .loop-test in
     let word = c .before .before .before .before .before .before .word in
     let node-at = c .before .before .before .before .before .node-at in
-    let children-of = c .before .before .before .before .children-of in
-    step-next _ _ _ _ _ _ _ _ _ (loop .inv) (test .taken) _ (word .ensures) _ (node-at .ensures) _ (children-of .ensures) _
+    let child-count = c .before .before .before .before .child-count in
+    step-next _ _ _ _ _ _ _ _ _ (loop .inv) (test .taken) _ (word .ensures) _ (node-at .ensures) _ (child-count .ensures) _
     (c .before .before .put-children-of .ensures)
 
 same-length : tie.Need-same-length Inv-loop μ-loop
@@ -90,7 +94,7 @@ put-children-spec =
     word-requires
     cast-node-at
     node-at-requires
-    children-of-requires
+    child-count-requires
     put-children-of-requires
     cast-at
     mul-at

@@ -29,8 +29,8 @@ cast-node-at c = search needs
 node-at-requires : tie.Need-node-at-requires Inv-loop μ-loop
 node-at-requires c κs = omega (arith, c .word .ensures, c .before .before .before .before .before .before .before .pre .0 .order .olds _ (c .before .loop-test .taken))
 
-named-of-requires : tie.Need-named-of-requires Inv-loop μ-loop
-named-of-requires c κs = search needs
+named-count-requires : tie.Need-named-count-requires Inv-loop μ-loop
+named-count-requires c κs = search needs
 
 put-named-of-requires : tie.Need-put-named-of-requires Inv-loop μ-loop
 put-named-of-requires c κs =
@@ -39,24 +39,28 @@ put-named-of-requires c κs =
     let test = c .before .before .before .before .loop-test in
     let word = c .before .before .before .word in
     let node-at = c .before .before .node-at in
-    let named-of = c .before .named-of in
-    let t = step-text _ _ _ _ (asked .0) _ _ _ _ _ (loop .inv) (test .taken) _ (word .ensures) _ (node-at .ensures) _ (named-of .ensures) in
-    (asked .0 .order .new-start, omega arith, step-room _ _ _ _ (asked .0) _ _ _ _ _ (loop .inv) (test .taken) _ (word .ensures) _ (node-at .ensures)
-    _ (named-of .ensures))
+    let named-count = c .before .named-count in
+    let t = step-text _ _ _ _ (asked .0) _ _ _ _ _ (loop .inv) (test .taken) _ (word .ensures) _ (node-at .ensures) _ (named-count .ensures) in (
+      asked .0 .order .new-start,
+      omega arith,
+      step-room _ _ _ _ (asked .0) _ _ _ _ _ (loop .inv) (test .taken) _ (word .ensures) _ (node-at .ensures)
+          _ (named-count .ensures),
+    )
 
 cast-text : tie.Need-cast-text Inv-loop μ-loop
 cast-text c = search needs
 
 add-text : tie.Need-add-text Inv-loop μ-loop
 add-text c =
+    let room =
     let asked = c .before .before .before .before .before .before .before .before .before .before .before .before .before .pre in
     let loop = c .before .before .before .before .before .before .before .before .loop in
     let test = c .before .before .before .before .before .before .before .loop-test in
     let word = c .before .before .before .before .before .before .word in
     let node-at = c .before .before .before .before .before .node-at in
-    let named-of = c .before .before .before .before .named-of in
-    let t = step-text _ _ _ _ (asked .0) _ _ _ _ _ (loop .inv) (test .taken) _ (word .ensures) _ (node-at .ensures) _ (named-of .ensures) in omega
-    arith
+    let named-count = c .before .before .before .before .named-count in
+    step-text _ _ _ _ (asked .0) _ _ _ _ _ (loop .inv) (test .taken) _ (word .ensures) _ (node-at .ensures) _ (named-count .ensures) in
+    omega arith
 
 cast-at : tie.Need-cast-at Inv-loop μ-loop
 cast-at c = search needs
@@ -66,14 +70,15 @@ mul-at c = search needs
 
 add-at : tie.Need-add-at Inv-loop μ-loop
 add-at c =
+    let room =
     let asked = c .before .before .before .before .before .before .before .before .before .before .before .before .before .pre in
     let loop = c .before .before .before .before .before .before .before .before .loop in
     let test = c .before .before .before .before .before .before .before .loop-test in
     let word = c .before .before .before .before .before .before .word in
     let node-at = c .before .before .before .before .before .node-at in
-    let named-of = c .before .before .before .before .named-of in
-    let t = step-room _ _ _ _ (asked .0) _ _ _ _ _ (loop .inv) (test .taken) _ (word .ensures) _ (node-at .ensures) _ (named-of .ensures) in omega
-    arith
+    let named-count = c .before .before .before .before .named-count in
+    step-room _ _ _ _ (asked .0) _ _ _ _ _ (loop .inv) (test .taken) _ (word .ensures) _ (node-at .ensures) _ (named-count .ensures) in
+    omega arith
 
 add-j : tie.Need-add-j Inv-loop μ-loop
 add-j c = search needs
@@ -88,8 +93,8 @@ loop-again c =
     let test = c .before .before .before .before .before .before .before .loop-test in
     let word = c .before .before .before .before .before .before .word in
     let node-at = c .before .before .before .before .before .node-at in
-    let named-of = c .before .before .before .before .named-of in
-    step-next _ _ _ _ (asked .0) _ _ _ _ _ (loop .inv) (test .taken) _ (word .ensures) _ (node-at .ensures) _ (named-of .ensures) _
+    let named-count = c .before .before .before .before .named-count in
+    step-next _ _ _ _ (asked .0) _ _ _ _ _ (loop .inv) (test .taken) _ (word .ensures) _ (node-at .ensures) _ (named-count .ensures) _
     (c .before .before .put-named-of .ensures)
 
 same-length : tie.Need-same-length Inv-loop μ-loop
@@ -109,7 +114,7 @@ put-named-spec =
     word-requires
     cast-node-at
     node-at-requires
-    named-of-requires
+    named-count-requires
     put-named-of-requires
     cast-text
     add-text
