@@ -13,12 +13,19 @@ ghost use Rattle.image.specs.Encoding.{bodyOf};
 ghost use Rattle.draft_image.specs.Written.{written};
 ghost use Rattle.draft_image.specs.Encode.{imageFor};
 ghost use Rattle.words.specs.Output.{over};
-ghost use Rattle.write_image.specs.Length.{lengthBy, countsBy, placesBy, imageLength};
+ghost use Rattle.write_image.specs.Length.{lengthBy, Small, countsBy, placesBy, imageLength};
 ghost use Rattle.write_image.specs.Given.{Ready, Sectioned, pathsOf};
 use crate::list_part::put_lists;
+use crate::size::CHILD_SIZE;
+use crate::size::DEFINITION_SIZE;
 use crate::size::Entries;
+use crate::size::INDEX_SIZE;
+use crate::size::ITEM_SIZE;
+use crate::size::NAMED_SIZE;
 use crate::text_part::put_texts;
 use crate::tree_part::put_tree;
+use draft::source::Source;
+use draft::source::node_words;
 use image::ImageView;
 use image::encoding::EntryCounts;
 use image::encoding::put_checksum;
@@ -29,7 +36,7 @@ use write_text_keys::Tables;
 
 // The counts that the header says.
 fn counts_of(entries: Entries) -> EntryCounts
-    requires { ⌜ lengthBy entries ≤ NONE ⌝ }
+    requires { ⌜ Small entries ⌝ }
     ensures { λ r. ⌜ r ≡ countsBy entries ⌝ }
 {
     EntryCounts {
@@ -51,12 +58,16 @@ struct Places {
     end: usize,
 }
 
-fn places_of(entries: Entries) -> Places
-    requires { ⌜ lengthBy entries ≤ NONE ⌝ }
-    ensures { λ r. ⌜ r ≡ placesBy entries ⌝ }
+fn places_of(entries: Entries, source: Source) -> Places
+    requires { ⌜ lengthBy (source .version) entries ≤ NONE ⌝ }
+    ensures { λ r. ⌜ r ≡ placesBy (source .version) entries ⌝ }
 {
-    let lists = 40 * entries.nodes + 4 * entries.children + 12 * entries.named;
-    let texts = lists + 16 * entries.definitions + 12 * entries.items + 12 * entries.index;
+    let size = 4 * node_words(source);
+    let lists = entries.nodes * size + entries.children * CHILD_SIZE + entries.named * NAMED_SIZE;
+    let texts = lists
+        + entries.definitions * DEFINITION_SIZE
+        + entries.items * ITEM_SIZE
+        + entries.index * INDEX_SIZE;
     Places {
         lists,
         texts,
@@ -91,18 +102,19 @@ fn put_sections(
     paths: Paths,
     places: Places,
     out: &mut [u8],
+    source: Source,
 )
     requires { ⌜ (let s =
-        draftOf (now nodes) (now children) (now named) (now definitions) (now items) (now payload) (now strings) in
+        draftOf (source .version) (now nodes) (now children) (now named) (now definitions) (now items) (now payload) (now strings) in
         Sectioned s (now work) numbers tables paths places (length (now out))) ⌝ }
     ensures { λ r. ⌜ (let s =
-        draftOf (now (nodes .entry)) (now (children .entry)) (now (named .entry)) (now (definitions .entry)) (now (items .entry))
+        draftOf (source .version) (now (nodes .entry)) (now (children .entry)) (now (named .entry)) (now (definitions .entry)) (now (items .entry))
         (now (payload .entry)) (now (strings .entry)) in
         now (out .exit) ≡ over (bodyOf (written s)) (now (out .entry))) ⌝ }
 {
     let at_lists = places.lists;
     let at_texts = places.texts;
-    let text = put_tree(nodes, children, named, payload, work, numbers, out);
+    let text = put_tree(nodes, children, named, payload, work, numbers, out, source);
     let path = numbers.offsets + tables.texts;
     put_lists(
         definitions,
@@ -122,6 +134,7 @@ fn put_sections(
         numbers,
         tables,
         &mut out[at_texts..],
+        source,
     );
 }
 
@@ -140,21 +153,22 @@ pub fn fill(
     tables: Tables,
     entries: Entries,
     out: &mut [u8],
+    source: Source,
 )
     requires { ⌜ (let s =
-        draftOf (now nodes) (now children) (now named) (now definitions) (now items) (now payload) (now strings) in
+        draftOf (source .version) (now nodes) (now children) (now named) (now definitions) (now items) (now payload) (now strings) in
         Ready s (now work) numbers tables entries) ⌝ }
     requires { ⌜ (let s =
-        draftOf (now nodes) (now children) (now named) (now definitions) (now items) (now payload) (now strings) in
+        draftOf (source .version) (now nodes) (now children) (now named) (now definitions) (now items) (now payload) (now strings) in
         imageLength s ≤ length (now out)) ⌝ }
     ensures { λ r. ⌜ (let s =
-        draftOf (now (nodes .entry)) (now (children .entry)) (now (named .entry)) (now (definitions .entry)) (now (items .entry))
+        draftOf (source .version) (now (nodes .entry)) (now (children .entry)) (now (named .entry)) (now (definitions .entry)) (now (items .entry))
         (now (payload .entry)) (now (strings .entry)) in
         now (out .exit) ≡ over (imageFor ink s) (now (out .entry))) ⌝ }
 {
-    put_header(ink, counts_of(entries), out);
+    put_header(source.version, ink, counts_of(entries), out);
     let paths = paths_of(tables, entries.index);
-    let places = places_of(entries);
+    let places = places_of(entries, source);
     let header = ImageView::HEADER_LENGTH;
     let end = header + places.end;
     put_sections(
@@ -171,6 +185,7 @@ pub fn fill(
         paths,
         places,
         &mut out[header..],
+        source,
     );
     put_checksum(&mut out[..end]);
 }

@@ -10,6 +10,7 @@ use Rattle.laws.specs.Counted.{sumOf, joinOf}
 use Rattle.words.specs.Words.{wordIn}
 use Rattle.image.specs.declared.NodeRecord.{NodeRecord}
 use Rattle.image.specs.Entries.{recordOf}
+use Rattle.image.specs.Sections.{nodeWords}
 use Rattle.words.specs.Output.{putAt}
 use Rattle.write_tree_sections.specs.Encoded.{textCount, optionalOffset}
 use Rattle.write_tree_sections.specs.Summed.{usedBy}
@@ -71,15 +72,15 @@ unfoldable pub nodeListWords : List ℕ → List ℕ → ℕ → NodeRecord → 
 nodeListWords payload w text r = cond (eqb (r .tag) 12) (listWords payload w text (r .f0)) []
 
 -- those of the image's node j: the draft's numbers of the nodes lie from word `order` on, the offsets of their texts from `offsets` on
-unfoldable pub payloadWords : List ℕ → List ℕ → List ℕ → ℕ → ℕ → ℕ → List ℕ
-payloadWords nodes payload w order offsets j =
-    nodeListWords payload w (offsets + usedBy nodes w order payload j) (recordOf nodes (getD w (order + j) 0))
+unfoldable pub payloadWords : ℕ → List ℕ → List ℕ → List ℕ → ℕ → ℕ → ℕ → List ℕ
+payloadWords version nodes payload w order offsets j =
+    nodeListWords payload w (offsets + usedBy version nodes w order payload j) (recordOf version nodes (getD w (order + j) 0))
 
 -- numbers of nodes are there, and an offset for each text
-pub record PayloadFits (nodes payload w : List ℕ) (order offsets : ℕ) : Type 0 where
-  pub olds : (j : ℕ) → j < length nodes / 10 → getD w (order + j) 0 < length nodes / 10
-  pub order-end : order + length nodes / 10 ≤ length w
-  pub texts : offsets + usedBy nodes w order payload (length nodes / 10) ≤ length w
+pub record PayloadFits (version : ℕ) (nodes payload w : List ℕ) (order offsets : ℕ) : Type 0 where
+  pub olds : (j : ℕ) → j < length nodes / nodeWords version → getD w (order + j) 0 < length nodes / nodeWords version
+  pub order-end : order + length nodes / nodeWords version ≤ length w
+  pub texts : offsets + usedBy version nodes w order payload (length nodes / nodeWords version) ≤ length w
 
 -- words were written from `at` on, and end at r
 pub record PutWords (ws out₀ out : List ℕ) (at r : ℕ) : Type 0 where

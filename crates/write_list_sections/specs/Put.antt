@@ -5,7 +5,6 @@ use mathlib.Core.List.{List}
 use Rattle.laws.specs.Counted.{joinOf}
 use Rattle.words.specs.Words.{bytesOf}
 use Rattle.words.specs.Output.{over}
-use Rattle.image.specs.Header.{nodeWords}
 use Rattle.image.specs.Sections.{Sections, nodeCount, definitionCount, itemCount}
 use Rattle.draft.specs.Draft.{tablesRule}
 use Rattle.draft.specs.Numbering.{oldOf}
@@ -25,8 +24,8 @@ ItemsPut definitions items w offsets out₀ out =
     → OffsetsAt kept (definitionUses s) w offsets → out ≡ over (bytesOf (joinOf (itemCount s) (itemOut s order kept))) out₀
 
 -- section 6
-abbrev pub PayloadPut : List ℕ → List ℕ → List ℕ → ℕ → ℕ → List ℕ → List ℕ → Type 0
-PayloadPut nodes payload w order offsets out₀ out =
-    (s : Sections) (olds : List ℕ) (kept : List (List ℕ)) → s .nodes ≡ nodes → s .stride ≡ nodeWords → s .payload ≡ payload
+abbrev pub PayloadPut : ℕ → List ℕ → List ℕ → List ℕ → ℕ → ℕ → List ℕ → List ℕ → Type 0
+PayloadPut version nodes payload w order offsets out₀ out =
+    (s : Sections) (olds : List ℕ) (kept : List (List ℕ)) → s .nodes ≡ nodes → s .version ≡ version → s .payload ≡ payload
     → tablesRule s ≡ 0 → OldsAt olds w (nodeCount s) order → OffsetsAt kept (nodeUses s olds) w offsets
     → out ≡ over (joinOf (nodeCount s) (λ j. payloadOut s olds kept (oldOf olds j))) out₀

@@ -8,7 +8,10 @@ ghost use Rattle.write_tree_sections.specs.Encoded.{listTextsIn, textsBy};
 ghost use Rattle.records.specs.Fields.{kindOf};
 ghost use Rattle.write_list_sections.specs.Entered.{itemTexts, listItemWords, listOriginWords, listWords, nodeListWords, payloadWords, PayloadFits, PutWords};
 ghost use Rattle.write_list_sections.specs.Put.{PayloadPut};
+ghost use Rattle.image.specs.Sections.{nodeWords};
+use draft::source::Source;
 use draft::source::node_at;
+use draft::source::node_count;
 use draft::source::word;
 use image::NodeRecord;
 use words::output::put_words;
@@ -130,17 +133,19 @@ pub fn put_payload(
     order: usize,
     offsets: usize,
     out: &mut [u8],
+    source: Source,
 )
-    requires { ⌜ PayloadFits (now nodes) (now payload) (now w) order offsets ⌝ }
-    requires { ⌜ 4 * length (joinOf (length (now nodes) / 10) (payloadWords (now nodes) (now payload) (now w) order offsets)) ≤ length (now out) ⌝ }
-    ensures { λ r. ⌜ PayloadPut (now (nodes .entry)) (now (payload .entry)) (now (w .entry)) order offsets (now (out .entry)) (now (out .exit)) ⌝ }
+    requires { ⌜ PayloadFits (source .version) (now nodes) (now payload) (now w) order offsets ⌝ }
+    requires { ⌜ (let words = payloadWords (source .version) (now nodes) (now payload) (now w) order offsets in
+        4 * length (joinOf (length (now nodes) / nodeWords (source .version)) words) ≤ length (now out)) ⌝ }
+    ensures { λ r. ⌜ PayloadPut (source .version) (now (nodes .entry)) (now (payload .entry)) (now (w .entry)) order offsets (now (out .entry)) (now (out .exit)) ⌝ }
 {
-    let count = nodes.len() / 10;
+    let count = node_count(nodes, source);
     let mut text = offsets;
     let mut at = 0;
     let mut j = 0;
     while j < count {
-        let node = node_at(nodes, word(w, order + j) as usize);
+        let node = node_at(nodes, word(w, order + j) as usize, source);
         at = put_node(node, payload, w, text, out, at);
         text += texts_of(node, payload);
         j += 1;

@@ -1,13 +1,10 @@
 -- What the rules have shown of a draft, in the form that each step asks for.
-use Prim.Native.Nat.{ℕ, zero, suc, _+_, _*_, _-_, _%_, _≤_, _<_}
-use mathlib.Core.Path.{_≡_, refl, sym, ap, _∙_}
+use Prim.Native.Nat.{ℕ, _*_, _-_, _%_}
+use mathlib.Core.Path.{_≡_}
 use mathlib.Core.List.{List}
-use mathlib.Core.Bool.{Bool, true}
 use native.Mathlib.Omega.{arith}
-use lib.ListN.{length, getD}
-use Rattle.laws.specs.Lists.{has}
-use Rattle.image.specs.Header.{nodeWords}
-use Rattle.image.specs.Sections.{Sections, nodeCount, f, isContainer, goodOptional}
+use lib.ListN.{length}
+use Rattle.image.specs.Sections.{Sections, nodeWords, nodeCount}
 use Rattle.records.proofs.PassedRules.{ranges}
 use Rattle.tree.specs.Tree.{readWalk}
 use Rattle.tree.specs.Reach.{Reached}
@@ -17,12 +14,12 @@ use Rattle.tree.proofs.PlainTree.{right-tree}
 use Rattle.tree.proofs.ParentSteps.{tree-climbs}
 use Rattle.draft.specs.Draft.{tablesRule, reachRule, shapeRule}
 use Rattle.draft.specs.Numbering.{numbering}
-use Rattle.draft.proofs.Rules.{Tables, tables, whole, entries-counts, Shape, shape}
+use Rattle.draft.proofs.Rules.{tables, whole, entries-counts, shape}
 use Rattle.draft.proofs.ReachedNodes.{reached, numbered}
 use Rattle.write_paths.specs.Listed.{Renumbers}
 use Rattle.write_paths.specs.Arranged.{Rooted}
 
-module _ (s : Sections) (z : s .stride ≡ nodeWords) (p : tablesRule s ≡ 0) (q : reachRule s ≡ 0) where
+module _ (s : Sections) (p : tablesRule s ≡ 0) (q : reachRule s ≡ 0) where
   -- the numbering has each node once
   pub once : EachOnce (nodeCount s) (numbering s)
   once = numbered s (tables s p) (reached s q)

@@ -56,7 +56,7 @@ pub record Prepared (s : Sections) (w : List ℕ) (u : Uses) : Type 0 where
   pub offsets : OffsetsAt (storedTexts s (numbering s)) (uses s (numbering s)) w (u .texts + u .paths)
   -- the tables still give the text of each use
   pub keys : (a : ℕ) → a < u .texts + u .paths
-      → keyOf (s .nodes) (s .strings) (u .texts) (layoutOf s .paths) (layoutOf s .lengths) (drop (layoutOf s .at) w) a
+      → keyOf (s .version) (s .nodes) (s .strings) (u .texts) (layoutOf s .paths) (layoutOf s .lengths) (drop (layoutOf s .at) w) a
       ≡ getD (uses s (numbering s)) a []
   -- the containers in the order of the index
   pub boxes : (k : ℕ) → k < u .paths → getD (drop (layoutOf s .at) w) (layoutOf s .paths + k) 0 ≡ oldOf (numbering s) (getD (byPath s (numbering s)) k 0)
@@ -72,12 +72,12 @@ pub record Shaped (s : Sections) (w : List ℕ) (l : Layout) : Type 0 where
   pub shape : shapeRule s ≡ 0
   pub layout : l ≡ layoutOf s
   pub long : length w ≡ writeWords s
-  pub numbers : Numbered (treeOf (s .nodes) (s .children) (s .named)) (l .order) w
+  pub numbers : Numbered (treeOf (s .version) (s .nodes) (s .children) (s .named)) (l .order) w
 
 -- of some draft that has these tables
-pub record ShapedTables (nodes named definitions items payload strings w : List ℕ) (l : Layout) : Type 0 where
+pub record ShapedTables (version : ℕ) (nodes named definitions items payload strings w : List ℕ) (l : Layout) : Type 0 where
   pub children : List ℕ
-  pub known : Shaped (draftOf nodes children named definitions items payload strings) w l
+  pub known : Shaped (draftOf version nodes children named definitions items payload strings) w l
 
 -- the work words as said, or the number of the first of the rules that is broken
 abbrev pub PlanOf : Sections → List ℕ → Plan → Type 0

@@ -11,6 +11,8 @@ ghost use Rattle.draft.specs.Source.{draftOf};
 ghost use Rattle.draft.specs.Draft.{tablesRule, writeWords};
 ghost use Rattle.write_plan.specs.Planned.{layoutOf, StoredPlan, Shaped, ShapedTables, PlanOf};
 use draft::shape;
+use draft::source::Source;
+use draft::source::node_count;
 use image::refusal::DRAFT_UNREACHED;
 use image::refusal::NO_ROOM;
 use write_interning::Stored;
@@ -39,10 +41,17 @@ pub enum Plan {
 }
 
 // Stores the texts and paths in use, each once.
-fn store(nodes: &[u32], strings: &[u8], w: &mut [u32], t: Tables, paths: usize) -> Plan
+fn store(
+    nodes: &[u32],
+    strings: &[u8],
+    w: &mut [u32],
+    t: Tables,
+    paths: usize,
+    source: Source,
+) -> Plan
     requires { ⌜ (t .texts + paths + (t .texts + paths) ≤ t .at) × Placed t (length (now w)) ⌝ }
-    requires { ⌜ RisesFrom (byKey (keyIn (now nodes) (now strings) t (now w))) (t .texts) (t .texts + paths) ⌝ }
-    ensures answer { λ r. ⌜ StoredPlan (keyIn (now (nodes .entry)) (now (strings .entry)) t (now (w .entry))) (t .texts) paths (now (w .exit)) r ⌝ }
+    requires { ⌜ RisesFrom (byKey (keyIn (source .version) (now nodes) (now strings) t (now w))) (t .texts) (t .texts + paths) ⌝ }
+    ensures answer { λ r. ⌜ StoredPlan (keyIn (source .version) (now (nodes .entry)) (now (strings .entry)) t (now (w .entry))) (t .texts) paths (now (w .exit)) r ⌝ }
     ensures tables { λ r. ⌜ drop (t .at) (now (w .exit)) ≡ drop (t .at) (now (w .entry)) ⌝ }
 {
     let texts = t.texts;
@@ -50,7 +59,7 @@ fn store(nodes: &[u32], strings: &[u8], w: &mut [u32], t: Tables, paths: usize) 
     if 4294967295 < n {
         return Plan::Refused(NO_ROOM);
     }
-    match write_interning::intern(nodes, strings, w, t, n) {
+    match write_interning::intern(nodes, strings, w, t, n, source) {
         Stored::Whole(strings) => Plan::Ready(Uses {
             texts,
             paths,
@@ -70,10 +79,11 @@ pub fn plan_texts(
     strings: &[u8],
     w: &mut [u32],
     l: Layout,
+    source: Source,
 ) -> Plan
-    requires { ⌜ ShapedTables (now nodes) (now named) (now definitions) (now items) (now payload) (now strings) (now w) l ⌝ }
+    requires { ⌜ ShapedTables (source .version) (now nodes) (now named) (now definitions) (now items) (now payload) (now strings) (now w) l ⌝ }
     ensures { λ r. ⌜ ((children : List ℕ) → let s =
-        draftOf (now (nodes .entry)) children (now (named .entry)) (now (definitions .entry)) (now (items .entry)) (now (payload .entry))
+        draftOf (source .version) (now (nodes .entry)) children (now (named .entry)) (now (definitions .entry)) (now (items .entry)) (now (payload .entry))
         (now (strings .entry)) in
         Shaped s (now (w .entry)) l → PlanOf s (now (w .exit)) r) ⌝ }
 {
@@ -83,7 +93,8 @@ pub fn plan_texts(
         paths: l.paths,
         lengths: l.lengths,
     };
-    match write_paths::sort_paths(nodes, strings, w, t, l.order, nodes.len() / 10) {
+    let count = node_count(nodes, source);
+    match write_paths::sort_paths(nodes, strings, w, t, l.order, count, source) {
         Indexed::Refused(number) => Plan::Refused(number),
         Indexed::Paths(found) => {
             let texts = write_text_uses::collect(
@@ -95,6 +106,7 @@ pub fn plan_texts(
                 w,
                 l.order,
                 l.at,
+                source,
             );
             let t = Tables {
                 at: l.at,
@@ -102,7 +114,7 @@ pub fn plan_texts(
                 paths: l.paths,
                 lengths: l.lengths,
             };
-            store(nodes, strings, w, t, found)
+            store(nodes, strings, w, t, found, source)
         }
     }
 }
@@ -118,21 +130,41 @@ pub fn prepare(
     strings: &[u8],
     w: &mut [u32],
     l: Layout,
+    source: Source,
 ) -> Plan
     requires { ⌜ (let s =
-        draftOf (now nodes) (now children) (now named) (now definitions) (now items) (now payload) (now strings) in
+        draftOf (source .version) (now nodes) (now children) (now named) (now definitions) (now items) (now payload) (now strings) in
         (tablesRule s ≡ 0) × (length (now w) ≡ writeWords s) × (l ≡ layoutOf s)) ⌝ }
     ensures { λ r. ⌜ (let s =
-        draftOf (now (nodes .entry)) (now (children .entry)) (now (named .entry)) (now (definitions .entry)) (now (items .entry))
+        draftOf (source .version) (now (nodes .entry)) (now (children .entry)) (now (named .entry)) (now (definitions .entry)) (now (items .entry))
         (now (payload .entry)) (now (strings .entry)) in
         PlanOf s (now (w .exit)) r) ⌝ }
 {
-    if !write_numbering::number(nodes, children, named, w, l.order) {
+    if !write_numbering::number(nodes, children, named, w, l.order, source) {
         return Plan::Refused(DRAFT_UNREACHED);
     }
-    let refused = shape::shape_rule(nodes, children, named, definitions, items, payload, strings);
+    let refused = shape::shape_rule(
+        nodes,
+        children,
+        named,
+        definitions,
+        items,
+        payload,
+        strings,
+        source,
+    );
     if refused != 0 {
         return Plan::Refused(refused);
     }
-    plan_texts(nodes, named, definitions, items, payload, strings, w, l)
+    plan_texts(
+        nodes,
+        named,
+        definitions,
+        items,
+        payload,
+        strings,
+        w,
+        l,
+        source,
+    )
 }

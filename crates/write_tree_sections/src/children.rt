@@ -6,8 +6,11 @@ ghost use lib.ListN.{length};
 ghost use lib.Dec.{eqb};
 ghost use Rattle.words.specs.Output.{putAt};
 ghost use Rattle.write_tree_sections.specs.Held.{childWords, OrderFits, childrenBy};
+ghost use Rattle.image.specs.Sections.{nodeWords, childSize};
 ghost use Rattle.write_tree_sections.specs.Put.{ChildrenPut};
+use draft::source::Source;
 use draft::source::node_at;
+use draft::source::node_count;
 use draft::source::word;
 use image::NodeRecord;
 use words::put_word;
@@ -31,7 +34,7 @@ fn put_children_of(
     out: &mut [u8],
     at: usize,
 )
-    requires { ⌜ (new ≤ length (now work)) × (at + 4 * count ≤ length (now out)) ⌝ }
+    requires { ⌜ (new ≤ length (now work)) × (at + childSize * count ≤ length (now out)) ⌝ }
     ensures { λ r. ⌜ now (out .exit) ≡ putAt (now (out .entry)) at (childWords (now (children .entry)) (now (work .entry)) new first count) ⌝ }
 {
     let start = first as usize;
@@ -48,17 +51,25 @@ fn put_children_of(
 }
 
 // Writes the section at the start of the output.
-pub fn put_children(nodes: &[u32], children: &[u32], work: &[u32], numbers: Numbers, out: &mut [u8])
-    requires { ⌜ OrderFits (now nodes) (now work) numbers ⌝ }
-    requires { ⌜ 4 * childrenBy (now nodes) (now work) (numbers .order) (length (now nodes) / 10) ≤ length (now out) ⌝ }
-    ensures { λ r. ⌜ ChildrenPut (now (nodes .entry)) (now (children .entry)) (now (work .entry)) numbers (now (out .entry)) (now (out .exit)) ⌝ }
+pub fn put_children(
+    nodes: &[u32],
+    children: &[u32],
+    work: &[u32],
+    numbers: Numbers,
+    out: &mut [u8],
+    source: Source,
+)
+    requires { ⌜ OrderFits (source .version) (now nodes) (now work) numbers ⌝ }
+    requires { ⌜ (let count = length (now nodes) / nodeWords (source .version) in
+        childSize * childrenBy (source .version) (now nodes) (now work) (numbers .order) count ≤ length (now out)) ⌝ }
+    ensures { λ r. ⌜ ChildrenPut (source .version) (now (nodes .entry)) (now (children .entry)) (now (work .entry)) numbers (now (out .entry)) (now (out .exit)) ⌝ }
 {
     let order = numbers.order;
-    let count = nodes.len() / 10;
+    let count = node_count(nodes, source);
     let mut at = 0;
     let mut j = 0;
     while j < count {
-        let node = node_at(nodes, word(work, order + j) as usize);
+        let node = node_at(nodes, word(work, order + j) as usize, source);
         let own = child_count(node);
         put_children_of(children, work, numbers.new, node.f3, own, out, at);
         at += 4 * own as usize;

@@ -31,7 +31,7 @@ use Rattle.write_image.specs.Length.{storedBytes, entriesOf, imageLength}
 use Rattle.write_image.specs.Given.{Told, Indexed, Keyed, Ready, pathsOf}
 use Rattle.writer.specs.Planned.{numbersBy, tablesBy, entriesBy}
 
-module _ (s : Sections) (z : s .stride ≡ nodeWords) (p : tablesRule s ≡ 0) (e : planRule s ≡ 0) where
+module _ (s : Sections) (p : tablesRule s ≡ 0) (e : planRule s ≡ 0) where
   -- the rules that the plan tests, one by one
   pub rules : (reachRule s ≡ 0) × (shapeRule s ≡ 0) × (pathsRule s ≡ 0)
   unfolding planRule
@@ -52,10 +52,10 @@ module _ (s : Sections) (z : s .stride ≡ nodeWords) (p : tablesRule s ≡ 0) (
     all = sym (uses-long s ∙ omega (arith, known .texts, known .paths))
 
     pub most : u .texts + u .paths ≤ usesMost s
-    most = omega (arith, known .texts, known .paths, uses-bound s order p (once s z p (rules .0)), boxes-long s z p (rules .0) (rules .2))
+    most = omega (arith, known .texts, known .paths, uses-bound s order p (once s p (rules .0)), boxes-long s p (rules .0) (rules .2))
 
     few : u .paths ≤ nodeCount s
-    few = omega (arith, known .paths, boxes-long s z p (rules .0) (rules .2), within s (nodeCount s) (tables s p .fields) .containers)
+    few = omega (arith, known .paths, boxes-long s p (rules .0) (rules .2), within s (nodeCount s) (tables s p .fields) .containers)
 
     pub entries-known : entriesBy s u ≡ entriesOf s
     entries-known = rw (known .paths, known .strings) refl
@@ -72,7 +72,6 @@ module _ (s : Sections) (z : s .stride ≡ nodeWords) (p : tablesRule s ≡ 0) (
       told : Told s w (numbersBy (layoutOf s) u)
       told =
           record {
-            wide = z;
             tables = p;
             reach = rules .0;
             shape = rules .1;

@@ -21,18 +21,18 @@ use Rattle.writer.specs.Answer.{fitsOutput, Answered, WrittenWith}
 use Rattle.writer.specs.Planned.{Drawn}
 use Rattle.writer.proofs.Outcomes.{plan-refused, plan-made}
 
-module _ (ink : ℕ) (ns cs ms ds is ps ss : List ℕ) (i : inkRight ink ≡ true) (p : tablesRule (draftOf ns cs ms ds is ps ss) ≡ 0) (out₀ w₀ : List ℕ)
-    (long : length w₀ ≡ writeWords (draftOf ns cs ms ds is ps ss)) where
+module _ (ink : ℕ) (version : ℕ) (ns cs ms ds is ps ss : List ℕ) (i : inkRight ink ≡ true) (p : tablesRule (draftOf version ns cs ms ds is ps ss) ≡ 0) (out₀ w₀ : List ℕ)
+    (long : length w₀ ≡ writeWords (draftOf version ns cs ms ds is ps ss)) where
   abbrev s : Sections
-  s = draftOf ns cs ms ds is ps ss
+  s = draftOf version ns cs ms ds is ps ss
 
   -- the counts are below the work words
-  pub layout-asks : 16 * (length ns / 10) + 4 * (length ms / 3 + length ds / 4 + length is / 3 + length ps) ≤ length w₀
+  pub layout-asks : 16 * (length ns / nodeWords version) + 4 * (length ms / textEntryWords + length ds / definitionWords + length is / textEntryWords + length ps) ≤ length w₀
   layout-asks = omega (arith, long)
 
-  module _ (l : Layout) (laid : l ≡ layoutBy (length ns / 10) (length ms / 3) (length ds / 4) (length is / 3) (length ps) (length w₀)) where
+  module _ (l : Layout) (laid : l ≡ layoutBy (length ns / nodeWords version) (length ms / textEntryWords) (length ds / definitionWords) (length is / textEntryWords) (length ps) (length w₀)) where
     layout : l ≡ layoutOf s
-    layout = laid ∙ ap (layoutBy (length ns / 10) (length ms / 3) (length ds / 4) (length is / 3) (length ps)) long
+    layout = laid ∙ ap (layoutBy (length ns / nodeWords version) (length ms / textEntryWords) (length ds / definitionWords) (length is / textEntryWords) (length ps)) long
 
     pub prepare-asks : (tablesRule s ≡ 0) × ((length w₀ ≡ writeWords s) × (l ≡ layoutOf s))
     prepare-asks = (p, (long, layout))
@@ -41,7 +41,7 @@ module _ (ink : ℕ) (ns cs ms ds is ps ss : List ℕ) (i : inkRight ink ≡ tru
       pub write-refused : (k : ℕ) → a ≡ Refused k → WrittenWith ink s out₀ out₀ (encoded.Refused k)
       write-refused k e =
           let x = subst (λ (y : Plan). PlanOf s w y) e told in
-          plan-refused ink s refl p i out₀ k (x .0) (x .1)
+          plan-refused ink s p i out₀ k (x .0) (x .1)
 
       module _ (u : Uses) (e : a ≡ Ready u) where
         made : PlanOf s w (Ready u)
@@ -51,4 +51,4 @@ module _ (ink : ℕ) (ns cs ms ds is ps ss : List ℕ) (i : inkRight ink ≡ tru
         image-asks = record { tables = p; planned = made .0; long = kept ∙ long; layout = layout; prepared = made .1 }
 
         pub write-made : (out : List ℕ) (r : Encoded) → Answered ink s (unless (fitsOutput ink s (length out₀)) 23) out₀ out r → WrittenWith ink s out₀ out r
-        write-made out r x = plan-made ink s refl p i out₀ (made .0) out r x
+        write-made out r x = plan-made ink s p i out₀ (made .0) out r x

@@ -6,13 +6,16 @@ ghost use Prim.Native.Nat.{_+_, _*_, _≤_};
 ghost use Rattle.writer.specs.Answer.{encodedOf, fitsOutput, Answered, WrittenWith};
 ghost use mathlib.Core.Bool.{true};
 ghost use Rattle.draft.specs.Draft.{tablesRule, writeWords};
-ghost use Rattle.image.specs.Header.{inkRight};
+ghost use Rattle.image.specs.Header.{inkRight, version};
 ghost use Rattle.draft_image.specs.Encode.{imageFor, encodeRule, outAfter, encodeWorkAfter};
 ghost use Rattle.laws.specs.Refusal.{unless};
 ghost use Rattle.write_plan.specs.Planned.{layoutBy};
 ghost use Rattle.writer.specs.Planned.{Drawn};
 use draft::Needed;
+use draft::source::Source;
+use draft::source::node_count;
 use draft::tables;
+use image::ImageView;
 use image::refusal::BAD_INK_VERSION;
 use image::refusal::NO_ROOM;
 use image::refusal::TOO_FEW_WORDS;
@@ -67,26 +70,27 @@ fn put_image(
     l: Layout,
     uses: Uses,
     out: &mut [u8],
+    source: Source,
 ) -> Encoded
     requires { ⌜ (let s =
-        draftOf (now nodes) (now children) (now named) (now definitions) (now items) (now payload) (now strings) in
+        draftOf (source .version) (now nodes) (now children) (now named) (now definitions) (now items) (now payload) (now strings) in
         Drawn s (now work) l uses) ⌝ }
     ensures { λ r. ⌜ (let s =
-        draftOf (now (nodes .entry)) (now (children .entry)) (now (named .entry)) (now (definitions .entry)) (now (items .entry))
+        draftOf (source .version) (now (nodes .entry)) (now (children .entry)) (now (named .entry)) (now (definitions .entry)) (now (items .entry))
         (now (payload .entry)) (now (strings .entry)) in
         Answered ink s (unless (fitsOutput ink s (length (now (out .entry)))) 23) (now (out .entry)) (now (out .exit)) r) ⌝ }
 {
     let entries = Entries {
-        nodes: nodes.len() / 10,
+        nodes: node_count(nodes, source),
         children: children.len(),
-        named: named.len() / 3,
-        definitions: definitions.len() / 4,
-        items: items.len() / 3,
+        named: named.len() / ImageView::TEXT_ENTRY_WORDS,
+        definitions: definitions.len() / ImageView::DEFINITION_WORDS,
+        items: items.len() / ImageView::TEXT_ENTRY_WORDS,
         index: uses.paths,
         payload: payload.len(),
         strings: uses.strings,
     };
-    match size::image_length(entries) {
+    match size::image_length(entries, source) {
         Size::TooLong => Encoded::Refused(NO_ROOM),
         Size::Bytes(length) => {
             if out.len() < length as usize {
@@ -117,6 +121,7 @@ fn put_image(
                 tables,
                 entries,
                 out,
+                source,
             );
             Encoded::Written(length)
         }
@@ -135,23 +140,24 @@ fn write(
     strings: &[u8],
     out: &mut [u8],
     work: &mut [u32],
+    source: Source,
 ) -> Encoded
     requires { ⌜ (let s =
-        draftOf (now nodes) (now children) (now named) (now definitions) (now items) (now payload) (now strings) in
+        draftOf (source .version) (now nodes) (now children) (now named) (now definitions) (now items) (now payload) (now strings) in
         (inkRight ink ≡ true) × (tablesRule s ≡ 0)) ⌝ }
     requires { ⌜ (let s =
-        draftOf (now nodes) (now children) (now named) (now definitions) (now items) (now payload) (now strings) in
+        draftOf (source .version) (now nodes) (now children) (now named) (now definitions) (now items) (now payload) (now strings) in
         length (now work) ≡ writeWords s) ⌝ }
     ensures { λ r. ⌜ (let s =
-        draftOf (now (nodes .entry)) (now (children .entry)) (now (named .entry)) (now (definitions .entry))
+        draftOf (source .version) (now (nodes .entry)) (now (children .entry)) (now (named .entry)) (now (definitions .entry))
         (now (items .entry)) (now (payload .entry)) (now (strings .entry)) in
         WrittenWith ink s (now (out .entry)) (now (out .exit)) r) ⌝ }
 {
     let l = layout_of(
-        nodes.len() / 10,
-        named.len() / 3,
-        definitions.len() / 4,
-        items.len() / 3,
+        node_count(nodes, source),
+        named.len() / ImageView::TEXT_ENTRY_WORDS,
+        definitions.len() / ImageView::DEFINITION_WORDS,
+        items.len() / ImageView::TEXT_ENTRY_WORDS,
         payload.len(),
         work.len(),
     );
@@ -165,6 +171,7 @@ fn write(
         strings,
         work,
         l,
+        source,
     ) {
         Plan::Refused(number) => Encoded::Refused(number),
         Plan::Ready(uses) => put_image(
@@ -180,6 +187,7 @@ fn write(
             l,
             uses,
             out,
+            source,
         ),
     }
 }
@@ -200,16 +208,16 @@ pub fn encode(
     work: &mut [u32],
 ) -> Encoded
     ensures answer { λ r. ⌜ (let s =
-        draftOf (now (nodes .entry)) (now (children .entry)) (now (named .entry)) (now (definitions .entry)) (now (items .entry))
+        draftOf version (now (nodes .entry)) (now (children .entry)) (now (named .entry)) (now (definitions .entry)) (now (items .entry))
         (now (payload .entry)) (now (strings .entry)) in
         r ≡ encodedOf ink s (length (now (work .entry))) (length (now (out .entry)))) ⌝ }
     ensures output { λ r. ⌜ (let s =
-        draftOf (now (nodes .entry)) (now (children .entry)) (now (named .entry)) (now (definitions .entry)) (now (items .entry))
+        draftOf version (now (nodes .entry)) (now (children .entry)) (now (named .entry)) (now (definitions .entry)) (now (items .entry))
         (now (payload .entry)) (now (strings .entry)) in
         now (out .exit) ≡ outAfter (encodeRule ink s (length (now (work .entry))) (length (now (out .entry)))) (imageFor ink s)
         (now (out .entry))) ⌝ }
     ensures words { λ r. ⌜ (let s =
-        draftOf (now (nodes .entry)) (now (children .entry)) (now (named .entry)) (now (definitions .entry)) (now (items .entry))
+        draftOf version (now (nodes .entry)) (now (children .entry)) (now (named .entry)) (now (definitions .entry)) (now (items .entry))
         (now (payload .entry)) (now (strings .entry)) in
         now (work .exit) ≡ encodeWorkAfter (writeWords s) (encodeRule ink s (length (now (work .entry))) (length (now (out .entry))))
         (now (work .entry))) ⌝ }
@@ -217,7 +225,19 @@ pub fn encode(
     if !draft::ink_right(ink) {
         return Encoded::Refused(BAD_INK_VERSION);
     }
-    let broken = tables::tables_rule(nodes, children, named, definitions, items, payload, strings);
+    let source = Source {
+        version: ImageView::VERSION,
+    };
+    let broken = tables::tables_rule(
+        nodes,
+        children,
+        named,
+        definitions,
+        items,
+        payload,
+        strings,
+        source,
+    );
     if broken != 0 {
         return Encoded::Refused(broken);
     }
@@ -243,6 +263,7 @@ pub fn encode(
                 strings,
                 out,
                 &mut work[..needed],
+                source,
             );
             tree::clear(work, needed);
             answer

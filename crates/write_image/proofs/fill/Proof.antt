@@ -22,8 +22,8 @@ places-of-requires c κs = long-enough _ _ _ _ _ (c .before .before .before .bef
 
 add-end : tie.Need-add-end
 add-end c =
-    let asked = c .before .before .before .before .before .before .before .before .before .before .before .before .before .before .before .before .before .pre in
-    let p = asked in omega (arith, p .1, body-end _ _ _ _ _ (p .0) _ (c .before .places-of .ensures))
+    let p = c .before .before .before .before .before .before .before .before .before .before .before .before .before .before .before .before .before .pre in
+    omega (arith, p .1, body-end _ _ _ _ _ (p .0) _ (c .before .places-of .ensures))
 
 sub-put-sections : tie.Need-sub-put-sections
 sub-put-sections c = search needs
@@ -42,9 +42,9 @@ put-sections-requires c κs =
 
 slice-relend-prefix-put-checksum : tie.Need-slice-relend-prefix-put-checksum
 slice-relend-prefix-put-checksum c =
-    let asked = c .before .before .before .before .before .before .before .before .before .before .before .before .before .before .before .before .before .before .before .before .before .pre in
+    let p = c .before .before .before .before .before .before .before .before .before .before .before .before .before .before .before .before .before .before .before .before .before .pre in
     let places-of = c .before .before .before .before .before .places-of in
-    let p = asked in omega (arith, p .1, body-end _ _ _ _ _ (p .0) _ (places-of .ensures))
+    omega (arith, p .1, body-end _ _ _ _ _ (p .0) _ (places-of .ensures))
 
 slice-aggregate-put-checksum : tie.Need-slice-aggregate-put-checksum
 slice-aggregate-put-checksum c = sym (length-take-le _ _ (slice-relend-prefix-put-checksum (c .before)))
@@ -57,12 +57,12 @@ same-length c = search needs
 
 returns : tie.Need-returns
 returns c =
-    let asked = c .before .before .before .before .before .before .before .before .before .before .before .before .before .before .before .before .before .before .before .before .before .before .before .before .before .pre in
+    let p = c .before .before .before .before .before .before .before .before .before .before .before .before .before .before .before .before .before .before .before .before .before .before .before .before .before .pre in
     let counts-of = c .before .before .before .before .before .before .before .before .before .before .before .before .before .before .before .counts-of in
     let put-header = c .before .before .before .before .before .before .before .before .before .before .before .before .before .put-header in
     let places-of = c .before .before .before .before .before .before .before .before .before .places-of in
     let put-sections = c .before .before .before .before .before .before .put-sections in
-    let p = asked in image-put _ _ _ _ _ (p .0) _ _ _ _ _ _ _ _ (counts-of .ensures) (places-of .ensures) (p .1) (put-header .ensures)
+    image-put _ _ _ _ _ (p .0) _ _ _ _ _ _ _ _ (counts-of .ensures) (places-of .ensures) (p .1) (put-header .ensures)
     (put-sections .ensures) refl (c .before .before .put-checksum .ensures)
 
 pub fill-spec : {M : Type 1} → statement M

@@ -48,17 +48,21 @@ cast-k c = search needs
 
 add-k : tie.Need-add-k Inv-loop μ-loop
 add-k c =
+    let room =
     let loop = c .before .before .before .before .before .before .before .before .loop in
     let test = c .before .before .before .before .before .before .before .loop-test in
     let definition-at = c .before .before .before .before .before .before .definition-at in
-    omega (arith, (itemize-room _ _ _ _ _ _ _ _ _ _ (loop .inv) (test .taken) _ (definition-at .ensures)) .0)
+    (itemize-room _ _ _ _ _ _ _ _ _ _ (loop .inv) (test .taken) _ (definition-at .ensures)) .0 in
+    omega (arith, room)
 
 add-k-2 : tie.Need-add-k-2 Inv-loop μ-loop
 add-k-2 c =
+    let room =
     let loop = c .before .before .before .before .before .before .before .before .loop in
     let test = c .before .before .before .before .before .before .before .loop-test in
     let definition-at = c .before .before .before .before .before .before .definition-at in
-    omega (arith, (itemize-room _ _ _ _ _ _ _ _ _ _ (loop .inv) (test .taken) _ (definition-at .ensures)) .0)
+    (itemize-room _ _ _ _ _ _ _ _ _ _ (loop .inv) (test .taken) _ (definition-at .ensures)) .0 in
+    omega (arith, room)
 
 add-d : tie.Need-add-d Inv-loop μ-loop
 add-d c = search needs

@@ -39,11 +39,13 @@ texts-of-requires c κs = search needs
 
 add-text : tie.Need-add-text Inv-loop μ-loop
 add-text c =
+    let room =
     let loop = c .before .before .before .before .before .before .before .before .loop in
     let test = c .before .before .before .before .before .before .before .loop-test in
     let word = c .before .before .before .before .before .before .word in
     let node-at = c .before .before .before .before .before .node-at in
-    omega (arith, pay-texts _ _ _ _ _ _ _ _ _ _ (loop .inv) (test .taken) _ (word .ensures) _ (node-at .ensures) _ (c .texts-of .ensures))
+    pay-texts _ _ _ _ _ _ _ _ _ _ (loop .inv) (test .taken) _ (word .ensures) _ (node-at .ensures) _ (c .texts-of .ensures) in
+    omega (arith, room)
 
 add-j : tie.Need-add-j Inv-loop μ-loop
 add-j c = search needs
