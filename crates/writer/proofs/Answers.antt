@@ -5,17 +5,17 @@ use mathlib.Core.Bool.{Bool, true, false, _&&_}
 use native.Mathlib.Omega.{arith}
 use lib.ListN.{length}
 use lib.Dec.{leb}
-use borrow.Author.Tests.{le-leb, lt-leb, leb-true, leb-false}
+use borrow.Author.Tests.{lt-leb, leb-false}
 use Rattle.laws.specs.Refusal.{unless, _▸_}
-use Rattle.laws.proofs.First.{both, first, second, pass, passed, fail}
+use Rattle.laws.proofs.First.{both, first, second, pass, fail}
 use Rattle.words.specs.Words.{NONE}
-use Rattle.image.specs.Header.{inkRight, nodeWords}
+use Rattle.image.specs.Header.{inkRight}
 use Rattle.image.specs.Sections.{Sections}
 use Rattle.draft.specs.Draft.{tablesRule, writeWords, reachRule, shapeRule, pathsRule}
 use Rattle.draft.specs.Numbering.{numbering}
 use Rattle.draft_image.specs.Strings.{uses}
 use Rattle.draft_image.specs.Encode.{imageFor, draftRule, encodeRule, untouched}
-use Rattle.write_image.specs.Length.{storedBytes, imageLength}
+use Rattle.write_image.specs.Length.{storedBytes}
 use Rattle.write_image.proofs.SectionLengths.{length-is}
 use Rattle.write_image.proofs.Premises.{uses-fewer}
 use Rattle.writer.specs.Answer.{fitsOutput}

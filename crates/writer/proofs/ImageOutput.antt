@@ -1,19 +1,16 @@
 -- The image that was planned is put into the output, or does not fit.
 use Prim.Native.Nat.{ℕ, _+_, _≤_, _<_}
-use mathlib.Core.Path.{_≡_, refl, sym, ap, _∙_, subst}
+use mathlib.Core.Path.{_≡_, sym, ap, _∙_, subst}
 use mathlib.Core.List.{List}
 use native.Mathlib.Omega.{arith}
 use lib.ListN.{length}
 use Rattle.laws.specs.Refusal.{unless}
 use Rattle.words.specs.Words.{NONE}
-use Rattle.image.specs.Header.{nodeWords}
 use Rattle.image.specs.Sections.{Sections}
-use Rattle.draft.specs.Draft.{tablesRule, writeWords}
 use Rattle.draft_image.specs.Encode.{imageFor}
 use Rattle.words.specs.Output.{over}
 use Rattle.write_plan.specs.declared.Layout.{Layout}
 use Rattle.write_plan.specs.declared.Uses.{Uses}
-use Rattle.write_plan.specs.Planned.{layoutOf}
 use Rattle.write_image.specs.declared.size.Entries.{Entries}
 use Rattle.write_image.specs.declared.size.Size.{Size}
 use Rattle.write_image.specs.declared.size.Size.the-variants.{Bytes, TooLong}

@@ -1,25 +1,24 @@
 -- What each end of the writer comes to: the answer, the output and the work words.
 use Prim.Native.Nat.{ℕ, zero, suc, _+_, _≤_, _<_}
 use mathlib.Core.Path.{_≡_, refl, sym, ap, _∙_, subst}
-use mathlib.Core.List.{List, [], _++_}
+use mathlib.Core.List.{List, _++_}
 use mathlib.Core.Bool.{Bool, true, false, cond, _&&_}
 use native.Mathlib.Omega.{arith}
 use lib.ListN.{length, drop, replicate}
-use lib.Dec.{leb, eqb}
+use lib.Dec.{leb}
 use borrow.Author.Tests.{le-leb, lt-leb, leb-true, leb-false, ne-eqb}
-use Rattle.laws.specs.Refusal.{unless, _▸_}
+use Rattle.laws.specs.Refusal.{unless}
 use Rattle.laws.proofs.First.{pass, fail}
 use Rattle.words.specs.Words.{NONE}
-use Rattle.image.specs.Header.{inkRight, nodeWords}
+use Rattle.image.specs.Header.{inkRight}
 use Rattle.image.specs.Sections.{Sections}
 use Rattle.draft.specs.Draft.{tablesRule, writeWords, reachRule}
 use Rattle.draft_image.specs.Encode.{imageFor, encodeRule, outAfter, untouched, encodeWorkAfter}
 use Rattle.words.specs.Output.{over}
-use Rattle.write_plan.specs.declared.Uses.{Uses}
-use Rattle.write_plan.specs.Planned.{planRule, Prepared}
+use Rattle.write_plan.specs.Planned.{planRule}
 use Rattle.write_image.specs.declared.size.Size.{Size}
 use Rattle.write_image.specs.declared.size.Size.the-variants.{Bytes, TooLong}
-use Rattle.write_image.specs.Length.{lengthBy, sizeOf, imageLength, entriesOf}
+use Rattle.write_image.specs.Length.{sizeOf, imageLength}
 use Rattle.write_image.proofs.SectionLengths.{length-is}
 use Rattle.writer.specs.declared.Encoded.{Encoded}
 use Rattle.writer.specs.declared.Encoded.the-variants.{Written, Refused}

@@ -1,34 +1,27 @@
 -- From the plan to what writing the image asks for.
-use Prim.Native.Nat.{ℕ, zero, suc, _+_, _*_, _-_, _^_, _≤_, _<_}
+use Prim.Native.Nat.{ℕ, _+_, _-_, _≤_, _<_}
 use mathlib.Core.Path.{_≡_, refl, sym, ap, _∙_}
-use mathlib.Core.List.{List, []}
+use mathlib.Core.List.{List}
 use native.Mathlib.Omega.{arith}
 use lib.ListN.{length, getD, drop}
 use lib.Seq.{getD-drop}
-use Rattle.laws.specs.Refusal.{unless, _▸_}
 use Rattle.laws.proofs.First.{both}
 use Rattle.words.specs.Words.{NONE}
-use Rattle.image.specs.Header.{nodeWords}
-use Rattle.image.specs.Sections.{Sections, nodeCount, childCount, namedCount, definitionCount, itemCount}
+use Rattle.image.specs.Sections.{Sections, nodeCount}
 use Rattle.records.proofs.PassedRules.{within}
 use Rattle.draft.proofs.Rules.{tables}
 use Rattle.draft.specs.Draft.{tablesRule, writeWords, reachRule, shapeRule, pathsRule}
 use Rattle.draft.specs.Numbering.{numbering, oldOf}
 use Rattle.draft_image.specs.Strings.{uses, byPath, pathOf, storedTexts}
-use Rattle.draft_image.specs.Ready.{textUses}
 use Rattle.written.proofs.Texts.{stored, offset-inside}
 use Rattle.write_text_uses.specs.Uses.{usesMost}
 use Rattle.write_text_uses.proofs.Bounds.{uses-bound}
-use Rattle.write_text_keys.specs.declared.Tables.{Tables}
-use Rattle.write_numbering.specs.declared.numbers.Numbers.{Numbers}
-use Rattle.write_plan.specs.declared.Layout.{Layout}
 use Rattle.write_plan.specs.declared.Uses.{Uses}
 use Rattle.write_plan.specs.Planned.{layoutOf, planRule, Prepared}
 use Rattle.write_plan.proofs.Premises.{once}
 use Rattle.write_plan.proofs.UseTexts.{boxes-long, uses-long}
-use Rattle.write_image.specs.declared.size.Entries.{Entries}
 use Rattle.write_image.specs.Length.{storedBytes, entriesOf, imageLength}
-use Rattle.write_image.specs.Given.{Told, Indexed, Keyed, Ready, pathsOf}
+use Rattle.write_image.specs.Given.{Told, Ready}
 use Rattle.writer.specs.Planned.{numbersBy, tablesBy, entriesBy}
 
 module _ (s : Sections) (p : tablesRule s ≡ 0) (e : planRule s ≡ 0) where

@@ -1,20 +1,20 @@
 -- The plan of a draft, and the image by it.
 use Prim.Native.Nat.{ℕ, _+_, _*_, _/_, _≤_}
-use mathlib.Core.Path.{_≡_, refl, sym, ap, _∙_, subst}
+use mathlib.Core.Path.{_≡_, ap, _∙_, subst}
 use mathlib.Core.List.{List}
 use mathlib.Core.Bool.{true}
 use native.Mathlib.Omega.{arith}
 use lib.ListN.{length}
 use Rattle.laws.specs.Refusal.{unless}
 use Rattle.image.specs.Header.{inkRight}
-use Rattle.image.specs.Sections.{Sections, nodeCount}
+use Rattle.image.specs.Sections.{Sections, nodeWords, textEntryWords, definitionWords}
 use Rattle.draft.specs.Source.{draftOf}
 use Rattle.draft.specs.Draft.{tablesRule, writeWords}
 use Rattle.write_plan.specs.declared.Layout.{Layout}
 use Rattle.write_plan.specs.declared.Uses.{Uses}
 use Rattle.write_plan.specs.declared.Plan.{Plan}
 use Rattle.write_plan.specs.declared.Plan.the-variants.{Ready, Refused}
-use Rattle.write_plan.specs.Planned.{layoutBy, layoutOf, planRule, PlanOf}
+use Rattle.write_plan.specs.Planned.{layoutBy, layoutOf, PlanOf}
 use Rattle.writer.specs.declared.Encoded.{Encoded}
 use Rattle.writer.specs.declared.Encoded.the-variants as encoded
 use Rattle.writer.specs.Answer.{fitsOutput, Answered, WrittenWith}
@@ -34,8 +34,8 @@ module _ (ink : ℕ) (version : ℕ) (ns cs ms ds is ps ss : List ℕ) (i : inkR
     layout : l ≡ layoutOf s
     layout = laid ∙ ap (layoutBy (length ns / nodeWords version) (length ms / textEntryWords) (length ds / definitionWords) (length is / textEntryWords) (length ps)) long
 
-    pub prepare-asks : (tablesRule s ≡ 0) × ((length w₀ ≡ writeWords s) × (l ≡ layoutOf s))
-    prepare-asks = (p, (long, layout))
+    pub prepare-asks : (tablesRule s ≡ 0) × (length w₀ ≡ writeWords s) × (l ≡ layoutOf s)
+    prepare-asks = (p, long, layout)
 
     module _ (w : List ℕ) (kept : length w ≡ length w₀) (a : Plan) (told : PlanOf s w a) where
       pub write-refused : (k : ℕ) → a ≡ Refused k → WrittenWith ink s out₀ out₀ (encoded.Refused k)

@@ -1,5 +1,5 @@
 -- What the rules say of a draft that the writer takes, and of its numbering.
-use Prim.Native.Nat.{ℕ, zero, _≤_, _<_}
+use Prim.Native.Nat.{ℕ, _≤_, _<_}
 use mathlib.Core.Path.{_≡_}
 use mathlib.Core.Bool.{true}
 use lib.ListN.{length}
@@ -8,14 +8,11 @@ use borrow.Author.Tests.{leb-true}
 use Rattle.laws.specs.Lists.{has}
 use Rattle.laws.proofs.First.{both, passed, first-all}
 use Rattle.words.specs.Words.{NONE}
-use Rattle.texts.specs.Text.{rising}
-use Rattle.image.specs.Sections.{Sections, nodeCount, definitionCount, itemCount}
+use Rattle.image.specs.Sections.{Sections, nodeCount}
 use Rattle.image.specs.Header.{inkRight}
-use Rattle.records.specs.Records.{fieldsRule, parentRule, rootRight, usedUp}
-use Rattle.tree.specs.Tree.{entriesRule, readWalk}
+use Rattle.tree.specs.Tree.{readWalk}
 use Rattle.tree.proofs.Members.{both-true}
 use Rattle.tree.proofs.Numbers.{EachOnce}
-use Rattle.index.specs.Definitions.{goodDefinition, goodItem, itemsRight, numberOfItems, itemsUsedUp, definitionText, itemTextOf}
 use Rattle.draft.specs.Draft.{newPath, pathRule, pathsRule, tablesRule, reachRule, shapeRule}
 use Rattle.draft.specs.Numbering.{numbering}
 use Rattle.draft.proofs.Rules.{Tables, Shape, tables, shape}
