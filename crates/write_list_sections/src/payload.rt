@@ -12,6 +12,7 @@ ghost use Rattle.image.specs.Sections.{nodeWords};
 use draft::source::Source;
 use draft::source::node_at;
 use draft::source::node_count;
+use draft::source::payload_get;
 use draft::source::word;
 use image::NodeRecord;
 use words::output::put_words;
@@ -41,14 +42,14 @@ fn put_list_items(
     let mut j = 0;
     while j < all {
         let item = first + j * 20;
-        let origin = words::get(payload, item);
+        let origin = payload_get(payload, item);
         let name = k + text_count(origin);
         let words = [
             optional_offset(w, k, origin),
-            words::get(payload, item + 4),
+            payload_get(payload, item + 4),
             word(w, name),
-            words::get(payload, item + 12),
-            words::get(payload, item + 16),
+            payload_get(payload, item + 12),
+            payload_get(payload, item + 16),
         ];
         put_words(out, place, &words);
         k = name + 1;
@@ -80,7 +81,7 @@ fn put_list_origins(
     while j < all {
         let origin = first + j * 8;
         let offset = word(w, text + j);
-        let len = words::get(payload, origin + 4);
+        let len = payload_get(payload, origin + 4);
         let words = [offset, len];
         put_words(out, place, &words);
         place += 8;
@@ -95,8 +96,8 @@ fn put_list(payload: &[u8], start: u32, w: &[u32], text: usize, out: &mut [u8], 
     ensures { λ r. ⌜ PutWords (listWords (now (payload .entry)) (now (w .entry)) text start) (now (out .entry)) (now (out .exit)) at r ⌝ }
 {
     let first = start as usize;
-    let items = words::get(payload, first);
-    let origins = words::get(payload, first + 4);
+    let items = payload_get(payload, first);
+    let origins = payload_get(payload, first + 4);
     let head = [items, origins];
     put_words(out, at, &head);
     let behind = put_list_items(payload, start, items, w, text, out, at + 8);

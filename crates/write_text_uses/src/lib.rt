@@ -11,6 +11,7 @@ use draft::source::Source;
 use draft::source::definition_at;
 use draft::source::node_at;
 use draft::source::node_count;
+use draft::source::payload_word;
 use draft::source::word;
 use image::ImageView;
 use image::NONE;
@@ -53,10 +54,10 @@ fn put_list_item(payload: &[u8], start: usize, j: usize, w: &mut [u32], at: usiz
     ensures { λ r. ⌜ Put (listItemPairs (payloadOnly (now (payload .entry))) start j) (now (w .entry)) at (now (w .exit)) r ⌝ }
 {
     let item = start + (8 + j * 20);
-    let origin = words::word(payload, item);
-    let origin_len = words::word(payload, item + 4);
-    let name = words::word(payload, item + 8);
-    let name_len = words::word(payload, item + 12);
+    let origin = payload_word(payload, item);
+    let origin_len = payload_word(payload, item + 4);
+    let name = payload_word(payload, item + 8);
+    let name_len = payload_word(payload, item + 12);
     let behind = put_optional(w, at, origin, origin_len);
     put_use(w, behind, name, name_len)
 }
@@ -85,8 +86,8 @@ fn put_list_origins(payload: &[u8], first: usize, count: usize, w: &mut [u32], a
     let mut k = at;
     let mut j = 0;
     while j < count {
-        let offset = words::word(payload, first + j * 8);
-        let len = words::word(payload, first + j * 8 + 4);
+        let offset = payload_word(payload, first + j * 8);
+        let len = payload_word(payload, first + j * 8 + 4);
         k = put_use(w, k, offset, len);
         j += 1;
     }
@@ -99,8 +100,8 @@ fn put_list(payload: &[u8], start: usize, w: &mut [u32], at: usize) -> usize
     requires { ⌜ Room (listPairs (payloadOnly (now payload)) start) (now w) at ⌝ }
     ensures { λ r. ⌜ Put (listPairs (payloadOnly (now (payload .entry))) start) (now (w .entry)) at (now (w .exit)) r ⌝ }
 {
-    let items = words::word(payload, start) as usize;
-    let origins = words::word(payload, start + 4) as usize;
+    let items = payload_word(payload, start) as usize;
+    let origins = payload_word(payload, start + 4) as usize;
     let behind = put_list_items(payload, start, items, w, at);
     put_list_origins(payload, start + (8 + items * 20), origins, w, behind)
 }

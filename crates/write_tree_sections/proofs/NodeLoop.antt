@@ -166,15 +166,15 @@ module _ (version : ℕ) (nodes payload w : List ℕ) (n : Numbers) (fit : Nodes
       -- the next node
       pub step-next : (d : NodeRecord) → d ≡ encodedBy w (n .new) text st r (kindOf (r .tag)) → (out′ : List ℕ) → out′ ≡ putAt out at (recordWords version d)
           → (count : ℕ) → count ≡ textsBy payload r (kindOf (r .tag)) → (st′ : Starts) → st′ ≡ startsAfter st r
-          → Going version nodes payload w n out₀ out′ (text + count) st′ (at + nodeSize version) (j + 1)
+          → (at′ : ℕ) → at′ ≡ at + nodeSize version → Going version nodes payload w n out₀ out′ (text + count) st′ at′ (j + 1)
       unfolding sumOf
-      step-next d made out′ z count q st′ a =
+      step-next d made out′ z count q st′ a at′ l =
           record {
             running =
-                run-next 0 (length nodes / nodeWords version) (entry version nodes payload w n) out₀ out j at (g .running) (recordWords version d) out′ (at + nodeSize version) h
+                run-next 0 (length nodes / nodeWords version) (entry version nodes payload w n) out₀ out j at (g .running) (recordWords version d) out′ at′ h
                 (ap (recordWords version)
                 (made ∙ (λ t. encodedBy w (n .new) (g .texts t) (g .starts t) (here t) (kindOf (here t .tag)))))
-                z (ap (λ (k : ℕ). at + 4 * k) (sym (record-length version d)));
+                z (l ∙ ap (λ (k : ℕ). at + 4 * k) (sym (record-length version d)));
             texts = rw add-one (omega (arith, g .texts, more count q));
             starts =
                 rw add-one

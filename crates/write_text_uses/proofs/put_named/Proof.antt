@@ -16,6 +16,9 @@ Inv-loop nodes named w₀ order at source count k₀ j₀ w k j = Ordered (lengt
 abbrev μ-loop : tie.MeasureT-loop
 μ-loop nodes named w₀ order at source count k₀ j₀ w k j = length nodes / nodeWords (source .version) - j
 
+node-count-requires : tie.Need-node-count-requires Inv-loop μ-loop
+node-count-requires c κs = search needs
+
 loop-holds : tie.Need-loop-holds Inv-loop μ-loop
 unfolding allNamedPairs
 loop-holds c = ordered-start _ _ _ _ _ (c .before .before .before .pre .1) (c .before .before .before .pre .2)
@@ -38,8 +41,10 @@ put-container-requires c κs =
     let asked = c .before .before .before .before .before .before .before .pre in
     let loop = c .before .before .before .loop in
     let test = c .before .before .loop-test in
-    container-needs _ (to .nodes .now) _ (asked .0) _ _ (test .taken) (old-read _ _ _ _ _ _ _ _ (loop .inv) (test .taken))
-    (ordered-room _ _ _ _ _ _ _ _ (loop .inv) (test .taken))
+    let node-count = c .before .node-count in
+    let below = rw (node-count .ensures) at (test .taken) in
+    container-needs _ (to .nodes .now) _ (asked .0) _ _ below (old-read _ _ _ _ _ _ _ _ (loop .inv) below)
+    (ordered-room _ _ _ _ _ _ _ _ (loop .inv) below)
 
 add-j : tie.Need-add-j Inv-loop μ-loop
 add-j c = search needs
@@ -51,14 +56,16 @@ loop-again : tie.Need-loop-again Inv-loop μ-loop
 loop-again c =
     let loop = c .before .before .before .before .before .before .loop in
     let test = c .before .before .before .before .before .loop-test in
-    ordered-next _ _ _ _ _ _ _ _ (loop .inv) (test .taken) _ _ (c .before .before .put-container .ensures)
+    let node-count = c .before .node-count in
+    let below = rw (node-count .ensures) at (test .taken) in
+    ordered-next _ _ _ _ _ _ _ _ (loop .inv) below _ _ (c .before .before .put-container .ensures)
 
 same-length : tie.Need-same-length Inv-loop μ-loop
 same-length c = search needs
 
 returns : tie.Need-returns Inv-loop μ-loop
 unfolding allNamedPairs
-returns c = going-end _ _ _ _ _ _ _ (c .before .loop .inv .going) (c .loop-test .left)
+returns c = going-end _ _ _ _ _ _ _ (c .before .loop .inv .going) (rw (c .before .node-count .ensures) at (c .loop-test .left))
 
 pub put-named-spec : {M : Type 1} → statement M
 put-named-spec =
@@ -66,6 +73,7 @@ put-named-spec =
     (tie.spec
     Inv-loop
     μ-loop
+    node-count-requires
     loop-holds
     add-i
     mul-i

@@ -16,6 +16,9 @@ Inv-loop nodes payload w₀ order at source count k₀ j₀ w k j = Ordered (len
 abbrev μ-loop : tie.MeasureT-loop
 μ-loop nodes payload w₀ order at source count k₀ j₀ w k j = length nodes / nodeWords (source .version) - j
 
+node-count-requires : tie.Need-node-count-requires Inv-loop μ-loop
+node-count-requires c κs = search needs
+
 loop-holds : tie.Need-loop-holds Inv-loop μ-loop
 unfolding allNodePairs
 loop-holds c = ordered-start _ _ _ _ _ (c .before .before .before .pre .1) (c .before .before .before .pre .2)
@@ -37,8 +40,10 @@ put-node-requires c κs =
     let asked = c .before .before .before .before .before .before .before .pre in
     let loop = c .before .before .before .loop in
     let test = c .before .before .loop-test in
-    node-needs _ _ _ _ (asked .0) _ _ (test .taken) (old-read _ _ _ _ _ _ _ _ (loop .inv) (test .taken))
-    (ordered-room _ _ _ _ _ _ _ _ (loop .inv) (test .taken))
+    let node-count = c .before .node-count in
+    let below = rw (node-count .ensures) at (test .taken) in
+    node-needs _ _ _ _ (asked .0) _ _ below (old-read _ _ _ _ _ _ _ _ (loop .inv) below)
+    (ordered-room _ _ _ _ _ _ _ _ (loop .inv) below)
 
 add-j : tie.Need-add-j Inv-loop μ-loop
 add-j c = search needs
@@ -50,14 +55,16 @@ loop-again : tie.Need-loop-again Inv-loop μ-loop
 loop-again c =
     let loop = c .before .before .before .before .before .before .loop in
     let test = c .before .before .before .before .before .loop-test in
-    ordered-next _ _ _ _ _ _ _ _ (loop .inv) (test .taken) _ _ (c .before .before .put-node .ensures)
+    let node-count = c .before .node-count in
+    let below = rw (node-count .ensures) at (test .taken) in
+    ordered-next _ _ _ _ _ _ _ _ (loop .inv) below _ _ (c .before .before .put-node .ensures)
 
 same-length : tie.Need-same-length Inv-loop μ-loop
 same-length c = search needs
 
 returns : tie.Need-returns Inv-loop μ-loop
 unfolding allNodePairs
-returns c = going-end _ _ _ _ _ _ _ (c .before .loop .inv .going) (c .loop-test .left)
+returns c = going-end _ _ _ _ _ _ _ (c .before .loop .inv .going) (rw (c .before .node-count .ensures) at (c .loop-test .left))
 
 pub put-nodes-spec : {M : Type 1} → statement M
 put-nodes-spec =
@@ -65,6 +72,7 @@ put-nodes-spec =
     (tie.spec
     Inv-loop
     μ-loop
+    node-count-requires
     loop-holds
     add-i
     mul-i

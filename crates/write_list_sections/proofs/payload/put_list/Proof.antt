@@ -4,14 +4,14 @@ use borrow.Author.Needs.{needs}
 use Rattle.write_list_sections.proofs.payload.put_list.Statement.{statement}
 use Rattle.write_list_sections.proofs.payload.put_list.Tie as tie
 
-get-requires : tie.Need-get-requires
-get-requires c κs = search needs
+payload-get-requires : tie.Need-payload-get-requires
+payload-get-requires c κs = search needs
 
-add-get : tie.Need-add-get
-add-get c = search needs
+add-payload-get : tie.Need-add-payload-get
+add-payload-get c = search needs
 
-get-requires-2 : tie.Need-get-requires-2
-get-requires-2 c κs = search needs
+payload-get-requires-2 : tie.Need-payload-get-requires-2
+payload-get-requires-2 c κs = search needs
 
 slice-aggregate-put-words : tie.Need-slice-aggregate-put-words
 slice-aggregate-put-words c = search needs
@@ -20,8 +20,8 @@ put-words-requires : tie.Need-put-words-requires
 put-words-requires c κs =
     let to = c .before .before .before .before .before .before .before .args in
     let asked = c .before .before .before .before .before .before .before .pre in
-    let get = c .before .before .before .get in
-    head-room (to .payload .now) (to .w .now) (to .text) (to .start) (to .at) (to .out .now) _ _ (get .ensures) (c .before .before .get2 .ensures)
+    let payload-get = c .before .before .before .payload-get in
+    head-room (to .payload .now) (to .w .now) (to .text) (to .start) (to .at) (to .out .now) _ _ (payload-get .ensures) (c .before .before .payload-get2 .ensures)
     (asked .0) (asked .1)
 
 add-put-list-items : tie.Need-add-put-list-items
@@ -31,10 +31,10 @@ put-list-items-requires : tie.Need-put-list-items-requires
 put-list-items-requires c κs =
     let to = c .before .before .before .before .before .before .before .before .before .before .before .args in
     let asked = c .before .before .before .before .before .before .before .before .before .before .before .pre in
-    let get = c .before .before .before .before .before .before .before .get in
-    let get2 = c .before .before .before .before .before .before .get2 in
+    let payload-get = c .before .before .before .before .before .before .before .payload-get in
+    let payload-get2 = c .before .before .before .before .before .before .payload-get2 in
     let put-words = c .before .before .before .put-words in
-    items-fit (to .payload .now) (to .w .now) (to .text) (to .start) (to .at) (to .out .now) _ _ (get .ensures) (get2 .ensures) (asked .0) (asked .1)
+    items-fit (to .payload .now) (to .w .now) (to .text) (to .start) (to .at) (to .out .now) _ _ (payload-get .ensures) (payload-get2 .ensures) (asked .0) (asked .1)
     _ (put-words .ensures)
 
 add-place : tie.Need-add-place
@@ -53,11 +53,11 @@ put-list-origins-requires : tie.Need-put-list-origins-requires
 put-list-origins-requires c κs =
     let to = c .before .before .before .before .before .before .before .before .before .before .before .before .before .before .before .args in
     let asked = c .before .before .before .before .before .before .before .before .before .before .before .before .before .before .before .pre in
-    let get = c .before .before .before .before .before .before .before .before .before .before .before .get in
-    let get2 = c .before .before .before .before .before .before .before .before .before .before .get2 in
+    let payload-get = c .before .before .before .before .before .before .before .before .before .before .before .payload-get in
+    let payload-get2 = c .before .before .before .before .before .before .before .before .before .before .payload-get2 in
     let put-words = c .before .before .before .before .before .before .before .put-words in
     let put-list-items = c .before .before .before .put-list-items in
-    origins-fit (to .payload .now) (to .w .now) (to .text) (to .start) (to .at) (to .out .now) _ _ (get .ensures) (get2 .ensures) (asked .0)
+    origins-fit (to .payload .now) (to .w .now) (to .text) (to .start) (to .at) (to .out .now) _ _ (payload-get .ensures) (payload-get2 .ensures) (asked .0)
     (asked .1) _ (put-words .ensures) _ _ (put-list-items .ensures)
 
 cast-result : tie.Need-cast-result
@@ -76,20 +76,20 @@ returns : tie.Need-returns
 returns c =
     let to = c .before .before .before .before .before .before .before .before .before .before .before .before .before .before .before .before .before .before .args in
     let asked = c .before .before .before .before .before .before .before .before .before .before .before .before .before .before .before .before .before .before .pre in
-    let get = c .before .before .before .before .before .before .before .before .before .before .before .before .before .before .get in
-    let get2 = c .before .before .before .before .before .before .before .before .before .before .before .before .before .get2 in
+    let payload-get = c .before .before .before .before .before .before .before .before .before .before .before .before .before .before .payload-get in
+    let payload-get2 = c .before .before .before .before .before .before .before .before .before .before .before .before .before .payload-get2 in
     let put-words = c .before .before .before .before .before .before .before .before .before .before .put-words in
     let put-list-items = c .before .before .before .before .before .before .put-list-items in
-    list-put (to .payload .now) (to .w .now) (to .text) (to .start) (to .at) (to .out .now) _ _ (get .ensures) (get2 .ensures) (asked .0) (asked .1) _
+    list-put (to .payload .now) (to .w .now) (to .text) (to .start) (to .at) (to .out .now) _ _ (payload-get .ensures) (payload-get2 .ensures) (asked .0) (asked .1) _
     (put-words .ensures) _ _ (put-list-items .ensures) _ (c .before .before .put-list-origins .ensures)
 
 pub put-list-spec : {M : Type 1} → statement M
 put-list-spec =
     tie.close
     (tie.spec
-    get-requires
-    add-get
-    get-requires-2
+    payload-get-requires
+    add-payload-get
+    payload-get-requires-2
     slice-aggregate-put-words
     put-words-requires
     add-put-list-items

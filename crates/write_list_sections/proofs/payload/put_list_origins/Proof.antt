@@ -39,11 +39,11 @@ add-word c = search needs
 word-requires : tie.Need-word-requires Inv-loop μ-loop
 word-requires c κs = search needs
 
-add-get : tie.Need-add-get Inv-loop μ-loop
-add-get c = search needs
+add-payload-get : tie.Need-add-payload-get Inv-loop μ-loop
+add-payload-get c = search needs
 
-get-requires : tie.Need-get-requires Inv-loop μ-loop
-get-requires c κs = search needs
+payload-get-requires : tie.Need-payload-get-requires Inv-loop μ-loop
+payload-get-requires c κs = search needs
 
 slice-aggregate-put-words : tie.Need-slice-aggregate-put-words Inv-loop μ-loop
 slice-aggregate-put-words c = search needs
@@ -68,8 +68,8 @@ loop-again c =
     let loop = c .before .before .before .before .before .before .before .before .loop in
     let test = c .before .before .before .before .before .before .before .loop-test in
     let word = c .before .before .before .before .before .before .word in
-    let get = c .before .before .before .before .before .get in
-    run-next _ _ _ _ _ _ _ (loop .inv) _ _ _ (test .taken) (origin-words _ _ _ _ _ _ _ (word .ensures) (get .ensures))
+    let payload-get = c .before .before .before .before .before .payload-get in
+    run-next _ _ _ _ _ _ _ (loop .inv) _ _ _ (test .taken) (origin-words _ _ _ _ _ _ _ (word .ensures) (payload-get .ensures))
     (c .before .before .put-words .ensures) refl
 
 same-length : tie.Need-same-length Inv-loop μ-loop
@@ -92,8 +92,8 @@ put-list-origins-spec =
     add-origin
     add-word
     word-requires
-    add-get
-    get-requires
+    add-payload-get
+    payload-get-requires
     slice-aggregate-put-words
     put-words-requires
     add-place

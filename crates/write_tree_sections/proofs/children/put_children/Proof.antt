@@ -2,6 +2,7 @@
 use Rattle.write_tree_sections.proofs.ChildWords.{entry, begin, step-room, step-next, finish}
 use Prim.Native.Nat.{_/_, _-_}
 use lib.ListN.{length}
+use Rattle.image.specs.Sections.{nodeWords}
 use native.Mathlib.Omega.{arith}
 use Rattle.words.proofs.EntryLoop.{Running}
 use borrow.Author.Needs.{needs}
@@ -9,14 +10,17 @@ use Rattle.write_tree_sections.proofs.children.put_children.Statement.{
 use Rattle.write_tree_sections.proofs.children.put_children.Tie as tie
 
 abbrev Inv-loop : tie.InvT-loop
-Inv-loop nodes children work numbers out₀ order count at₀ j₀ out at j =
-    Running 0 (length nodes / 10) (entry nodes children work (numbers .order) (numbers .new)) out₀ out j at
+Inv-loop nodes children work numbers out₀ source order count at₀ j₀ out at j =
+    Running 0 (length nodes / nodeWords (source .version)) (entry (source .version) nodes children work (numbers .order) (numbers .new)) out₀ out j at
 
 abbrev μ-loop : tie.MeasureT-loop
-μ-loop nodes children work numbers out₀ order count at₀ j₀ out at j = length nodes / 10 - j
+μ-loop nodes children work numbers out₀ source order count at₀ j₀ out at j = length nodes / nodeWords (source .version) - j
+
+node-count-requires : tie.Need-node-count-requires Inv-loop μ-loop
+node-count-requires c κs = search needs
 
 loop-holds : tie.Need-loop-holds Inv-loop μ-loop
-loop-holds c = begin _ _ _ _ _ _ (c .before .before .before .before .pre .1)
+loop-holds c = begin _ _ _ _ _ _ _ (c .before .before .before .before .pre .1)
 
 add-word : tie.Need-add-word Inv-loop μ-loop
 add-word c = omega (arith, c .before .before .before .before .before .before .pre .0 .order-end)
@@ -28,7 +32,7 @@ cast-node-at : tie.Need-cast-node-at Inv-loop μ-loop
 cast-node-at c = search needs
 
 node-at-requires : tie.Need-node-at-requires Inv-loop μ-loop
-node-at-requires c κs = omega (arith, c .word .ensures, c .before .before .before .before .before .before .before .pre .0 .olds _ (c .before .loop-test .taken))
+node-at-requires c κs = omega (arith, c .word .ensures, c .before .before .before .before .before .before .before .pre .0 .olds _ (rw (c .before .node-count .ensures) at (c .before .loop-test .taken)))
 
 child-count-requires : tie.Need-child-count-requires Inv-loop μ-loop
 child-count-requires c κs = search needs
@@ -38,9 +42,11 @@ put-children-of-requires c κs =
     let asked = c .before .before .before .before .before .before .before .before .before .before .pre in
     let loop = c .before .before .before .before .before .loop in
     let test = c .before .before .before .before .loop-test in
+    let node-count = c .before .node-count in
+    let below = rw (node-count .ensures) at (test .taken) in
     let word = c .before .before .before .word in (
       asked .0 .new-start,
-      step-room _ _ _ _ _ _ _ _ _ (loop .inv) (test .taken) _ (word .ensures) _ (c .before .before .node-at .ensures) _
+      step-room _ _ _ _ _ _ _ _ _ _ (loop .inv) below _ (word .ensures) _ (c .before .before .node-at .ensures) _
           (c .before .child-count .ensures),
     )
 
@@ -55,10 +61,12 @@ add-at c =
     let room =
     let loop = c .before .before .before .before .before .before .before .before .loop in
     let test = c .before .before .before .before .before .before .before .loop-test in
+    let node-count = c .before .node-count in
+    let below = rw (node-count .ensures) at (test .taken) in
     let word = c .before .before .before .before .before .before .word in
     let node-at = c .before .before .before .before .before .node-at in
     let child-count = c .before .before .before .before .child-count in
-    step-room _ _ _ _ _ _ _ _ _ (loop .inv) (test .taken) _ (word .ensures) _ (node-at .ensures) _ (child-count .ensures) in
+    step-room _ _ _ _ _ _ _ _ _ _ (loop .inv) below _ (word .ensures) _ (node-at .ensures) _ (child-count .ensures) in
     omega arith
 
 add-j : tie.Need-add-j Inv-loop μ-loop
@@ -71,17 +79,19 @@ loop-again : tie.Need-loop-again Inv-loop μ-loop
 loop-again c =
     let loop = c .before .before .before .before .before .before .before .before .loop in
     let test = c .before .before .before .before .before .before .before .loop-test in
+    let node-count = c .before .node-count in
+    let below = rw (node-count .ensures) at (test .taken) in
     let word = c .before .before .before .before .before .before .word in
     let node-at = c .before .before .before .before .before .node-at in
     let child-count = c .before .before .before .before .child-count in
-    step-next _ _ _ _ _ _ _ _ _ (loop .inv) (test .taken) _ (word .ensures) _ (node-at .ensures) _ (child-count .ensures) _
+    step-next _ _ _ _ _ _ _ _ _ _ (loop .inv) below _ (word .ensures) _ (node-at .ensures) _ (child-count .ensures) _
     (c .before .before .put-children-of .ensures)
 
 same-length : tie.Need-same-length Inv-loop μ-loop
 same-length c = search needs
 
 returns : tie.Need-returns Inv-loop μ-loop
-returns c = λ s order kept e d k p o n. finish s _ _ order _ kept _ _ _ _ _ _ (c .before .loop .inv) (c .loop-test .left) (c .before .before .before .before .before .before .pre .0 .olds) e d k p o n
+returns c = λ s order kept e d k p o n. finish s _ _ _ order _ kept _ _ _ _ _ _ (c .before .loop .inv) (rw (c .before .node-count .ensures) at (c .loop-test .left)) (c .before .before .before .before .before .before .pre .0 .olds) e d k p o n
 
 pub put-children-spec : {M : Type 1} → statement M
 put-children-spec =
@@ -89,6 +99,7 @@ put-children-spec =
     (tie.spec
     Inv-loop
     μ-loop
+    node-count-requires
     loop-holds
     add-word
     word-requires

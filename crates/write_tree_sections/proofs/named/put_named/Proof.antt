@@ -1,6 +1,7 @@
 -- `write_tree_sections::named::put_named` meets its contract.
 use Prim.Native.Nat.{_/_, _-_}
 use lib.ListN.{length}
+use Rattle.image.specs.Sections.{nodeWords}
 use native.Mathlib.Omega.{arith}
 use Rattle.write_tree_sections.proofs.NamedWords.{Naming, begin, step-room, step-text, step-next, finish}
 use borrow.Author.Needs.{needs}
@@ -8,14 +9,17 @@ use Rattle.write_tree_sections.proofs.named.put_named.Statement.{statem
 use Rattle.write_tree_sections.proofs.named.put_named.Tie as tie
 
 abbrev Inv-loop : tie.InvT-loop
-Inv-loop nodes named work numbers out₀ order count text₀ at₀ j₀ out text at j =
-    Naming nodes named work numbers out₀ out text at j
+Inv-loop nodes named work numbers out₀ source order count text₀ at₀ j₀ out text at j =
+    Naming (source .version) nodes named work numbers out₀ out text at j
 
 abbrev μ-loop : tie.MeasureT-loop
-μ-loop nodes named work numbers out₀ order count text₀ at₀ j₀ out text at j = length nodes / 10 - j
+μ-loop nodes named work numbers out₀ source order count text₀ at₀ j₀ out text at j = length nodes / nodeWords (source .version) - j
+
+node-count-requires : tie.Need-node-count-requires Inv-loop μ-loop
+node-count-requires c κs = search needs
 
 loop-holds : tie.Need-loop-holds Inv-loop μ-loop
-loop-holds c = begin _ _ _ _ (c .before .before .before .before .pre .0) _ (c .before .before .before .before .pre .1)
+loop-holds c = begin _ _ _ _ _ (c .before .before .before .before .pre .0) _ (c .before .before .before .before .pre .1)
 
 add-word : tie.Need-add-word Inv-loop μ-loop
 add-word c = omega (arith, c .before .before .before .before .before .before .pre .0 .order .order-end)
@@ -27,7 +31,7 @@ cast-node-at : tie.Need-cast-node-at Inv-loop μ-loop
 cast-node-at c = search needs
 
 node-at-requires : tie.Need-node-at-requires Inv-loop μ-loop
-node-at-requires c κs = omega (arith, c .word .ensures, c .before .before .before .before .before .before .before .pre .0 .order .olds _ (c .before .loop-test .taken))
+node-at-requires c κs = omega (arith, c .word .ensures, c .before .before .before .before .before .before .before .pre .0 .order .olds _ (rw (c .before .node-count .ensures) at (c .before .loop-test .taken)))
 
 named-count-requires : tie.Need-named-count-requires Inv-loop μ-loop
 named-count-requires c κs = search needs
@@ -37,13 +41,15 @@ put-named-of-requires c κs =
     let asked = c .before .before .before .before .before .before .before .before .before .before .pre in
     let loop = c .before .before .before .before .before .loop in
     let test = c .before .before .before .before .loop-test in
+    let node-count = c .before .node-count in
+    let below = rw (node-count .ensures) at (test .taken) in
     let word = c .before .before .before .word in
     let node-at = c .before .before .node-at in
     let named-count = c .before .named-count in
-    let t = step-text _ _ _ _ (asked .0) _ _ _ _ _ (loop .inv) (test .taken) _ (word .ensures) _ (node-at .ensures) _ (named-count .ensures) in (
+    let t = step-text _ _ _ _ _ (asked .0) _ _ _ _ _ (loop .inv) below _ (word .ensures) _ (node-at .ensures) _ (named-count .ensures) in (
       asked .0 .order .new-start,
       omega arith,
-      step-room _ _ _ _ (asked .0) _ _ _ _ _ (loop .inv) (test .taken) _ (word .ensures) _ (node-at .ensures)
+      step-room _ _ _ _ _ (asked .0) _ _ _ _ _ (loop .inv) below _ (word .ensures) _ (node-at .ensures)
           _ (named-count .ensures),
     )
 
@@ -56,10 +62,12 @@ add-text c =
     let asked = c .before .before .before .before .before .before .before .before .before .before .before .before .before .pre in
     let loop = c .before .before .before .before .before .before .before .before .loop in
     let test = c .before .before .before .before .before .before .before .loop-test in
+    let node-count = c .before .node-count in
+    let below = rw (node-count .ensures) at (test .taken) in
     let word = c .before .before .before .before .before .before .word in
     let node-at = c .before .before .before .before .before .node-at in
     let named-count = c .before .before .before .before .named-count in
-    step-text _ _ _ _ (asked .0) _ _ _ _ _ (loop .inv) (test .taken) _ (word .ensures) _ (node-at .ensures) _ (named-count .ensures) in
+    step-text _ _ _ _ _ (asked .0) _ _ _ _ _ (loop .inv) below _ (word .ensures) _ (node-at .ensures) _ (named-count .ensures) in
     omega arith
 
 cast-at : tie.Need-cast-at Inv-loop μ-loop
@@ -74,10 +82,12 @@ add-at c =
     let asked = c .before .before .before .before .before .before .before .before .before .before .before .before .before .pre in
     let loop = c .before .before .before .before .before .before .before .before .loop in
     let test = c .before .before .before .before .before .before .before .loop-test in
+    let node-count = c .before .node-count in
+    let below = rw (node-count .ensures) at (test .taken) in
     let word = c .before .before .before .before .before .before .word in
     let node-at = c .before .before .before .before .before .node-at in
     let named-count = c .before .before .before .before .named-count in
-    step-room _ _ _ _ (asked .0) _ _ _ _ _ (loop .inv) (test .taken) _ (word .ensures) _ (node-at .ensures) _ (named-count .ensures) in
+    step-room _ _ _ _ _ (asked .0) _ _ _ _ _ (loop .inv) below _ (word .ensures) _ (node-at .ensures) _ (named-count .ensures) in
     omega arith
 
 add-j : tie.Need-add-j Inv-loop μ-loop
@@ -91,17 +101,19 @@ loop-again c =
     let asked = c .before .before .before .before .before .before .before .before .before .before .before .before .before .pre in
     let loop = c .before .before .before .before .before .before .before .before .loop in
     let test = c .before .before .before .before .before .before .before .loop-test in
+    let node-count = c .before .node-count in
+    let below = rw (node-count .ensures) at (test .taken) in
     let word = c .before .before .before .before .before .before .word in
     let node-at = c .before .before .before .before .before .node-at in
     let named-count = c .before .before .before .before .named-count in
-    step-next _ _ _ _ (asked .0) _ _ _ _ _ (loop .inv) (test .taken) _ (word .ensures) _ (node-at .ensures) _ (named-count .ensures) _
+    step-next _ _ _ _ _ (asked .0) _ _ _ _ _ (loop .inv) below _ (word .ensures) _ (node-at .ensures) _ (named-count .ensures) _
     (c .before .before .put-named-of .ensures)
 
 same-length : tie.Need-same-length Inv-loop μ-loop
 same-length c = search needs
 
 returns : tie.Need-returns Inv-loop μ-loop
-returns c = λ s order kept e d k. finish s _ _ order _ kept _ (c .before .before .before .before .before .before .pre .0) _ _ _ _ _ (c .before .loop .inv) (c .loop-test .left) e d k
+returns c = λ s order kept e d k. finish s _ _ _ order _ kept _ (c .before .before .before .before .before .before .pre .0) _ _ _ _ _ (c .before .loop .inv) (rw (c .before .node-count .ensures) at (c .loop-test .left)) e d k
 
 pub put-named-spec : {M : Type 1} → statement M
 put-named-spec =
@@ -109,6 +121,7 @@ put-named-spec =
     (tie.spec
     Inv-loop
     μ-loop
+    node-count-requires
     loop-holds
     add-word
     word-requires
