@@ -1,3 +1,4 @@
+pub mod NodeCount
 pub mod Rules
 pub mod ReachedNodes
 pub mod NodeTable

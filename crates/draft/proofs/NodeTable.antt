@@ -11,14 +11,14 @@ use borrow.Author.Tests.{eq-eqb, ne-eqb}
 use Rattle.laws.specs.Refusal.{unless, countsAs, _▸_, firstOf}
 use Rattle.laws.proofs.First.{both, second, pass, fail, as-zero, zero-as, first-next, first-all}
 use Rattle.image.specs.declared.NodeRecord.{NodeRecord}
-use Rattle.image.specs.Sections.{Sections, nodeCount, nodeWord, parentOf, inside}
+use Rattle.image.specs.Sections.{Sections, nodeWords, textEntryWords, nodeCount, nodeWord, parentOf, inside, insideAmong}
 use Rattle.image.specs.Entries.{nodeIn, recordOf}
 use Rattle.image.proofs.Entries.{node-record}
 use Rattle.records.specs.declared.Counts.{Counts}
 use Rattle.records.specs.declared.Sums.{Sums}
 use Rattle.records.specs.Fields.{kindOf}
 use Rattle.records.specs.Records.{targetIn, fieldsRule, containersBefore, usedUp}
-use Rattle.records.specs.Shown.{Shows, tagIn, sumsBefore, insideAmong}
+use Rattle.records.specs.Shown.{Shows, countsOf, tagIn, sumsBefore}
 use Rattle.records.proofs.Tests.{refused, first-broken, first-done}
 use Rattle.records.proofs.PassedRules.{first-sums, within}
 use Rattle.draft.specs.Source.{NodesFrom, draftOf}
@@ -26,14 +26,14 @@ use Rattle.draft.specs.Draft.{draftNodeRule}
 
 -- ---- what is told of node i
 
-module _ (s : Sections) (ns ps ts : List ℕ) (counts : Counts) (g : NodesFrom s ns ps ts counts) where
-  tag-told : (n tag : ℕ) → tag ≡ tagIn (draftOf ns [] [] [] [] [] []) n → tag ≡ tagIn s n
+module _ {v : ℕ} (s : Sections) (ns ps ts : List ℕ) (counts : Counts) (g : NodesFrom s v ns ps ts counts) where
+  tag-told : (n tag : ℕ) → tag ≡ tagIn (draftOf v ns [] [] [] [] [] []) n → tag ≡ tagIn s n
   unfolding tagIn nodeWord
-  tag-told n tag e = rw (g .stride, g .nodes-are) e
+  tag-told n tag e = rw (g .version-is, g .nodes-are) e
 
   module _ (i : ℕ) (r : NodeRecord) (node : r ≡ nodeIn s i) where
     pub fields-told : (sums : Sums) (target tag : ℕ) → sums ≡ sumsBefore s i → target ≡ targetIn r (kindOf (r .tag))
-        → tag ≡ tagIn (draftOf ns [] [] [] [] [] []) target → Shows s i r counts sums tag ps ts
+        → tag ≡ tagIn (draftOf v ns [] [] [] [] [] []) target → Shows s i r counts sums tag ps ts
     fields-told sums target tag u t e =
         record {
           node = node;
@@ -82,11 +82,15 @@ module _ (s : Sections) (ns ps ts : List ℕ) (counts : Counts) (g : NodesFrom s
 -- ---- the loop
 
 -- the counts of a draft, as the code makes them
-abbrev pub countsIn : List ℕ → List ℕ → List ℕ → Counts
-countsIn ns cs ms = record { nodes = length ns / 10; children = length cs; named = length ms / 3 }
+abbrev pub countsIn : ℕ → List ℕ → List ℕ → Counts
+countsIn count cs ms = record { nodes = count; children = length cs; named = length ms / textEntryWords }
 
-pub given : (ns cs ms ds is ps ts : List ℕ) → NodesFrom (draftOf ns cs ms ds is ps ts) ns ps ts (countsIn ns cs ms)
-given ns cs ms ds is ps ts = record { stride = refl; nodes-are = refl; payload-is = refl; strings-are = refl; counts = refl }
+module _ (v : ℕ) (ns cs ms ds is ps ts : List ℕ) (count : ℕ) (e : count ≡ length ns / nodeWords v) where
+  pub counts-are : countsIn count cs ms ≡ countsOf (draftOf v ns cs ms ds is ps ts)
+  counts-are = ap (λ (n : ℕ). countsIn n cs ms) e
+
+  pub given : NodesFrom (draftOf v ns cs ms ds is ps ts) v ns ps ts (countsIn count cs ms)
+  given = record { version-is = refl; nodes-are = refl; payload-is = refl; strings-are = refl; counts = counts-are }
 
 -- the nodes before i pass, and the sums are theirs
 pub record Passing (s : Sections) (i : ℕ) (sums : Sums) : Type 0 where
@@ -145,6 +149,6 @@ module _ (s : Sections) (i : ℕ) (sums : Sums) (p : Passing s i sums) where
 
 -- ---- what is read
 
-module _ (ns cs ms ds is ps ts : List ℕ) where
-  pub node-is : (i : ℕ) (r : NodeRecord) → r ≡ recordOf ns i → r ≡ nodeIn (draftOf ns cs ms ds is ps ts) i
-  node-is i r e = e ∙ node-record (draftOf ns cs ms ds is ps ts) ns i refl refl
+module _ (v : ℕ) (ns cs ms ds is ps ts : List ℕ) where
+  pub node-is : (i : ℕ) (r : NodeRecord) → r ≡ recordOf v ns i → r ≡ nodeIn (draftOf v ns cs ms ds is ps ts) i
+  node-is i r e = e ∙ node-record (draftOf v ns cs ms ds is ps ts) v ns i refl refl

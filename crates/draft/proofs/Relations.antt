@@ -4,7 +4,6 @@ use mathlib.Core.Path.{_≡_, refl, sym, ap, _∙_}
 use mathlib.Core.List.{List, []}
 use mathlib.Core.Bool.{Bool, true, false, cond, not, _&&_}
 use native.Mathlib.Omega.{arith}
-use native.Mathlib.Nat.{add-zero}
 use lib.ListN.{length, getD}
 use lib.Dec.{eqb}
 use borrow.Author.Tests.{not-true, not-false, eq-eqb, ne-eqb}
@@ -16,20 +15,21 @@ use Rattle.texts.specs.Text.{before, rising, orderOf, isLess}
 use Rattle.image.specs.declared.NodeRecord.{NodeRecord}
 use Rattle.image.specs.declared.TextEntry.{TextEntry}
 use Rattle.image.specs.declared.Definition.{Definition}
-use Rattle.image.specs.Sections.{Sections, nodeWord, childWord, parentOf, placeOf, tagOf, f, inside, isContainer, insideContainer, goodText, textOrEmpty}
+use Rattle.image.specs.Sections.{Sections, nodeWords, textEntryWords, definitionWords, insideAmong, nodeWord, childWord, parentOf, placeOf, tagOf, f, inside, isContainer, insideContainer, goodText, textOrEmpty}
+use Rattle.image.proofs.Tests.{both-true, inside-true}
 use Rattle.image.specs.Entries.{textEntryOf, definitionOf, nodeIn, namedIn}
 use Rattle.image.proofs.Entries.{IsNode, is-node, named-entry, item-entry, definition-entry}
 use Rattle.image.proofs.Parts.{good-part}
 use Rattle.records.specs.Records.{numberOfChildren, numberOfNamed, parentRule}
-use Rattle.records.specs.Shown.{ShowsParent, tagIn, insideAmong}
+use Rattle.records.specs.Shown.{ShowsParent, tagIn}
 use Rattle.records.proofs.Tests.{stop, go}
 use Rattle.tree.specs.Tree.{childAt, namedAt, namedText, rightChild, childRule, namedRule, entriesRule}
 use Rattle.index.specs.Definitions.{definitionText, itemText, itemTextOf, firstItem, numberOfItems}
-use Rattle.index.proofs.RisingTexts.{rising-next}
-use Rattle.draft.specs.Source.{draftOf}
+use Rattle.image.proofs.RisingTexts.{rising-next}
+use Rattle.draft.specs.Source.{draftOf, wordOf}
 use Rattle.draft.specs.Draft.{relationRule, orderRule}
 use Rattle.draft.specs.Shown.{shownEntry, shownDefinition, rightContainer, namedRight, TreePassed, ListsPassed}
-use Rattle.draft.proofs.NodeTable.{countsIn}
+use Rattle.draft.proofs.NodeTable.{countsIn, counts-are}
 use Rattle.draft.proofs.Runs.{as-passes, passes-unless, passes-both, passes-all, unless-both, unless-all, rising-upto, all-like}
 
 -- ---- the order of two texts
@@ -51,19 +51,19 @@ definition-rises ws ts d last entry b h p q e = rw (rising-next (shownDefinition
 
 -- ---- a node by its words
 
-module _ (ns : List ℕ) where
+module _ (v : ℕ) (ns : List ℕ) where
   -- sections that have nodes alone
   abbrev alone : Sections
-  alone = draftOf ns [] [] [] [] [] []
+  alone = draftOf v ns [] [] [] [] [] []
 
-  module _ (x i j : ℕ) (b : Bool) (e : b ≡ insideAmong (length ns / 10) x) where
+  module _ (x i j : ℕ) (b : Bool) (e : b ≡ insideAmong (length ns / nodeWords v) x) where
     pub child-outside : not b ≡ true → false ≡ rightChild alone x i j
     child-outside q = ap (λ (t : Bool). t && eqb (parentOf alone x) i && eqb (placeOf alone x) j) (sym (sym e ∙ not-true b q))
 
-    module _ (q : not b ≡ false) (p : ℕ) (k : p ≡ getD ns (x * 10) 0) where
+    module _ (q : not b ≡ false) (p : ℕ) (k : p ≡ wordOf v ns x 0) where
       parent-is : p ≡ parentOf alone x
       unfolding nodeWord
-      parent-is = rw add-zero k
+      parent-is = k
 
       by-parent : rightChild alone x i j ≡ (eqb p i && eqb (placeOf alone x) j)
       by-parent =
@@ -73,7 +73,7 @@ module _ (ns : List ℕ) where
       pub child-astray : (p ≡ i → ⊥) → false ≡ rightChild alone x i j
       child-astray d = sym (by-parent ∙ ap (λ (t : Bool). t && eqb (placeOf alone x) j) (ne-eqb p i d))
 
-      pub child-placed : p ≡ i → (n : ℕ) → n ≡ getD ns (x * 10 + 1) 0 → eqb n j ≡ rightChild alone x i j
+      pub child-placed : p ≡ i → (n : ℕ) → n ≡ wordOf v ns x 1 → eqb n j ≡ rightChild alone x i j
       unfolding nodeWord
       child-placed d n r = sym (by-parent ∙ ap (λ (t : Bool). t && eqb (placeOf alone x) j) (eq-eqb p i d) ∙ ap (λ (m : ℕ). eqb m j) (sym r))
 
@@ -86,41 +86,47 @@ module _ (ns : List ℕ) where
         by true q = ap (λ (x : ℕ). eqb x 1) (sym q)
         by false q = ap (λ (x : ℕ). eqb x 1) (sym q)
 
-    pub no-container : (tag ≡ 1 → ⊥) → false ≡ rightContainer ns n i
+    pub no-container : (tag ≡ 1 → ⊥) → false ≡ rightContainer v ns n i
     no-container d = sym (ap (λ (t : Bool). t && eqb (parentOf alone n) i) (container-is ∙ ne-eqb tag 1 d))
 
-    pub its-container : tag ≡ 1 → (p : ℕ) → p ≡ getD ns (n * 10) 0 → eqb p i ≡ rightContainer ns n i
+    pub its-container : tag ≡ 1 → (p : ℕ) → p ≡ wordOf v ns n 0 → eqb p i ≡ rightContainer v ns n i
     unfolding nodeWord
     its-container d p k =
-        sym (ap (λ (t : Bool). t && eqb (parentOf alone n) i) (container-is ∙ eq-eqb tag 1 d) ∙ ap (λ (x : ℕ). eqb x i) (rw add-zero (sym k)))
+        sym (ap (λ (t : Bool). t && eqb (parentOf alone n) i) (container-is ∙ eq-eqb tag 1 d) ∙ ap (λ (x : ℕ). eqb x i) (sym k))
+
+    -- a node that has a tag is one
+    pub container-there : tag ≡ 1 → n < length ns / nodeWords v
+    container-there d = inside-true (length ns / nodeWords v) n (both-true (inside alone n) _ (container-is ∙ eq-eqb tag 1 d) .0) .0
 
 -- ---- a named entry
 
-module _ (ns ms ts : List ℕ) (i first j : ℕ) (b : Bool) (e : b ≡ rising (shownEntry ms ts first) j) where
-  pub entry-falls : not b ≡ true → false ≡ namedRight ns ms ts i first j
+module _ (v : ℕ) (ns ms ts : List ℕ) (i first j : ℕ) (b : Bool) (e : b ≡ rising (shownEntry ms ts first) j) where
+  pub entry-falls : not b ≡ true → false ≡ namedRight v ns ms ts i first j
   unfolding namedRight
-  entry-falls q = ap (λ (t : Bool). t && rightContainer ns (textEntryOf ms (first + j) .value) i) (sym (sym e ∙ not-true b q))
+  entry-falls q = ap (λ (t : Bool). t && rightContainer v ns (textEntryOf ms (first + j) .value) i) (sym (sym e ∙ not-true b q))
 
-  pub entry-leads : not b ≡ false → (entry : TextEntry) (r : Bool) → entry ≡ textEntryOf ms (first + j) → r ≡ rightContainer ns (entry .value) i
-      → r ≡ namedRight ns ms ts i first j
+  pub entry-leads : not b ≡ false → (entry : TextEntry) (r : Bool) → entry ≡ textEntryOf ms (first + j) → r ≡ rightContainer v ns (entry .value) i
+      → r ≡ namedRight v ns ms ts i first j
   unfolding namedRight
   entry-leads q entry r p k =
-      k ∙ ap (λ (x : TextEntry). rightContainer ns (x .value) i) p
-      ∙ ap (λ (t : Bool). t && rightContainer ns (textEntryOf ms (first + j) .value) i) (sym (sym e ∙ not-false b q))
+      k ∙ ap (λ (x : TextEntry). rightContainer v ns (x .value) i) p
+      ∙ ap (λ (t : Bool). t && rightContainer v ns (textEntryOf ms (first + j) .value) i) (sym (sym e ∙ not-false b q))
 
 -- ---- the rules of node i
 
-module _ (ns cs ms ts : List ℕ) (g : TreePassed (draftOf ns cs ms [] [] [] ts)) (i : ℕ) (h : i < length ns / 10) (r : NodeRecord)
-    (node : r ≡ nodeIn (draftOf ns cs ms [] [] [] ts) i) where
+module _ {v : ℕ} (ns cs ms ts : List ℕ) (g : TreePassed (draftOf v ns cs ms [] [] [] ts)) (i : ℕ) (h : i < length ns / nodeWords v) (r : NodeRecord)
+    (node : r ≡ nodeIn (draftOf v ns cs ms [] [] [] ts) i) where
   abbrev s : Sections
-  s = draftOf ns cs ms [] [] [] ts
+  s = draftOf v ns cs ms [] [] [] ts
 
   node-words : IsNode s i r
   node-words = is-node s i r node
 
-  pub parent-told : (tag : ℕ) → tag ≡ tagIn (alone ns) (r .parent) → ShowsParent s i r (countsIn ns cs ms) tag
+  pub parent-told : (count tag : ℕ) → count ≡ length ns / nodeWords v → tag ≡ tagIn (alone v ns) (r .parent)
+      → ShowsParent s i r (countsIn count cs ms) tag
   unfolding tagIn nodeWord
-  parent-told tag e = record { node = node; counts = refl; parent = e ∙ ap (λ (x : NodeRecord). tagIn (alone ns) (x .parent)) node }
+  parent-told count tag k e =
+      record { node = node; counts = counts-are v ns cs ms [] [] [] ts count k; parent = e ∙ ap (λ (x : NodeRecord). tagIn (alone v ns) (x .parent)) node }
 
   by-passing : relationRule s i ≡ unless (passes (parentRule s i) && passes (entriesRule s i)) 21
   unfolding relationRule
@@ -135,25 +141,25 @@ module _ (ns cs ms ts : List ℕ) (g : TreePassed (draftOf ns cs ms [] [] [] ts)
     pub children-range : r .f3 + r .f4 ≤ length cs
     children-range = omega (arith, g .ranges i h container .children, node-words .f3, node-words .f4)
 
-    pub named-range : (r .f5 + r .f6) * 3 ≤ length ms
+    pub named-range : (r .f5 + r .f6) * textEntryWords ≤ length ms
     named-range = omega (arith, g .ranges i h container .named, node-words .f5, node-words .f6)
 
     -- the tests of ordered children, of named ones
     abbrev children-tests : Bool
-    children-tests = allOf (r .f4) (λ j. rightChild (alone ns) (getD cs (r .f3 + j) 0) i j)
+    children-tests = allOf (r .f4) (λ j. rightChild (alone v ns) (getD cs (r .f3 + j) 0) i j)
 
     abbrev named-tests : Bool
-    named-tests = allOf (r .f6) (namedRight ns ms ts i (r .f5))
+    named-tests = allOf (r .f6) (namedRight v ns ms ts i (r .f5))
 
-    child-test : (j : ℕ) → rightChild (alone ns) (getD cs (r .f3 + j) 0) i j ≡ passes (childRule s i j)
+    child-test : (j : ℕ) → rightChild (alone v ns) (getD cs (r .f3 + j) 0) i j ≡ passes (childRule s i j)
     unfolding childRule childWord nodeWord
     child-test j =
-        ap (λ (k : ℕ). rightChild (alone ns) (getD cs (k + j) 0) i j) (node-words .f3) ∙ sym (passes-unless (rightChild s (childAt s i j) i j) 13)
+        ap (λ (k : ℕ). rightChild (alone v ns) (getD cs (k + j) 0) i j) (node-words .f3) ∙ sym (passes-unless (rightChild s (childAt s i j) i j) 13)
 
     children-pass : children-tests ≡ passes (firstOf (numberOfChildren s i) (childRule s i))
     unfolding numberOfChildren
     children-pass =
-        passes-all (r .f4) (λ j. rightChild (alone ns) (getD cs (r .f3 + j) 0) i j) (childRule s i) (λ j k. child-test j)
+        passes-all (r .f4) (λ j. rightChild (alone v ns) (getD cs (r .f3 + j) 0) i j) (childRule s i) (λ j k. child-test j)
         ∙ ap (λ (n : ℕ). passes (firstOf n (childRule s i))) (node-words .f4)
         ∙ ap (λ (b : Bool). passes (firstOf (cond b (f s i 4) 0) (childRule s i))) (sym container)
 
@@ -169,7 +175,7 @@ module _ (ns cs ms ts : List ℕ) (g : TreePassed (draftOf ns cs ms [] [] [] ts)
     entry-text j k =
         ap (λ (x : TextEntry). textOrEmpty ts (x .offset) (x .len)) (entry-is j) ∙ good-part ts (namedAt s i j 0) (namedAt s i j 1) (good-entry j k)
 
-    named-test : (j : ℕ) → j < r .f6 → namedRight ns ms ts i (r .f5) j ≡ passes (namedRule s i j)
+    named-test : (j : ℕ) → j < r .f6 → namedRight v ns ms ts i (r .f5) j ≡ passes (namedRule s i j)
     unfolding namedRight namedRule nodeWord
     named-test j k =
         rw (
@@ -189,7 +195,7 @@ module _ (ns cs ms ts : List ℕ) (g : TreePassed (draftOf ns cs ms [] [] [] ts)
     named-pass : named-tests ≡ passes (firstOf (numberOfNamed s i) (namedRule s i))
     unfolding numberOfNamed
     named-pass =
-        passes-all (r .f6) (namedRight ns ms ts i (r .f5)) (namedRule s i) named-test
+        passes-all (r .f6) (namedRight v ns ms ts i (r .f5)) (namedRule s i) named-test
         ∙ ap (λ (n : ℕ). passes (firstOf n (namedRule s i))) (node-words .f6)
         ∙ ap (λ (b : Bool). passes (firstOf (cond b (f s i 6) 0) (namedRule s i))) (sym container)
 
@@ -235,9 +241,9 @@ module _ (ns cs ms ts : List ℕ) (g : TreePassed (draftOf ns cs ms [] [] [] ts)
 
 -- ---- the order of definition d and its items
 
-module _ (ds is ts : List ℕ) (g : ListsPassed (draftOf [] [] [] ds is [] ts)) (d : ℕ) (h : d < length ds / 4) where
+module _ (ds is ts : List ℕ) (g : ListsPassed (draftOf 0 [] [] [] ds is [] ts)) (d : ℕ) (h : d < length ds / definitionWords) where
   abbrev lists : Sections
-  lists = draftOf [] [] [] ds is [] ts
+  lists = draftOf 0 [] [] [] ds is [] ts
 
   definition-text : (k : ℕ) → k ≤ d → shownDefinition ds ts k ≡ definitionText lists k
   unfolding shownDefinition
@@ -259,7 +265,7 @@ module _ (ds is ts : List ℕ) (g : ListsPassed (draftOf [] [] [] ds is [] ts)) 
       count-is : entry .count ≡ numberOfItems lists d
       count-is = ap (λ (x : Definition). x .count) (r ∙ definition-entry lists ds d refl)
 
-      pub items-range : (entry .first + entry .count) * 3 ≤ length is
+      pub items-range : (entry .first + entry .count) * textEntryWords ≤ length is
       items-range = omega (arith, g .ranges d h, first-is, count-is)
 
       item-text : (j : ℕ) → j < entry .count → shownEntry is ts (entry .first) j ≡ itemTextOf lists d j

@@ -33,9 +33,9 @@ definitionsPart s = firstOf (definitionCount s) (draftDefinitionRule s) ▸ unle
 abbrev itemsPart : Sections → ℕ
 itemsPart s = firstOf (itemCount s) (draftItemRule s)
 
-module _ (ns cs ms ds is ps ts : List ℕ) where
+module _ (v : ℕ) (ns cs ms ds is ps ts : List ℕ) where
   abbrev s : Sections
-  s = draftOf ns cs ms ds is ps ts
+  s = draftOf v ns cs ms ds is ps ts
 
   in-parts : tablesRule s ≡ (unless (wholeEntries s) 19 ▸ nodesPart s ▸ childrenPart s ▸ namedPart s ▸ definitionsPart s ▸ itemsPart s)
   unfolding tablesRule
@@ -45,7 +45,7 @@ module _ (ns cs ms ds is ps ts : List ℕ) where
       ∙ ap (λ (x : ℕ). firstOf (nodeCount s) (draftNodeRule s) ▸ unless (usedUp s) 19 ▸ childrenPart s ▸ namedPart s ▸ x)
       (grouped (firstOf (definitionCount s) (draftDefinitionRule s)) (unless (itemsUsedUp s) 19) (itemsPart s))))
 
-  module _ (w : Bool) (we : w ≡ wholeEntries (draftOf ns [] ms ds is [] [])) where
+  module _ (w : Bool) (we : w ≡ wholeEntries (draftOf v ns [] ms ds is [] [])) where
     whole-is : w ≡ wholeEntries s
     unfolding wholeEntries
     whole-is = we
@@ -60,7 +60,7 @@ module _ (ns cs ms ds is ps ts : List ℕ) where
       pub nodes-refused : (n ≡ 0 → ⊥) → n ≡ tablesRule s
       nodes-refused d = past-whole n (refused (nodesPart s) _ n ne d)
 
-      module _ (nz : n ≡ 0) (c : ℕ) (ce : c ≡ childrenPart (draftOf ns cs [] [] [] [] [])) where
+      module _ (nz : n ≡ 0) (c : ℕ) (ce : c ≡ childrenPart (draftOf v ns cs [] [] [] [] [])) where
         children-are : c ≡ childrenPart s
         unfolding draftChildRule childWord
         children-are = ce
@@ -71,7 +71,7 @@ module _ (ns cs ms ds is ps ts : List ℕ) where
         pub children-refused : (c ≡ 0 → ⊥) → c ≡ tablesRule s
         children-refused d = past-nodes c (refused (childrenPart s) _ c children-are d)
 
-        module _ (cz : c ≡ 0) (m : ℕ) (me : m ≡ namedPart (draftOf ns [] ms [] [] [] ts)) where
+        module _ (cz : c ≡ 0) (m : ℕ) (me : m ≡ namedPart (draftOf v ns [] ms [] [] [] ts)) where
           named-are : m ≡ namedPart s
           unfolding draftNamedRule namedWord
           named-are = me
@@ -82,7 +82,7 @@ module _ (ns cs ms ds is ps ts : List ℕ) where
           pub named-refused : (m ≡ 0 → ⊥) → m ≡ tablesRule s
           named-refused d = past-children m (refused (namedPart s) _ m named-are d)
 
-          module _ (mz : m ≡ 0) (d : ℕ) (de : d ≡ definitionsPart (draftOf [] [] [] ds is [] ts)) where
+          module _ (mz : m ≡ 0) (d : ℕ) (de : d ≡ definitionsPart (draftOf 0 [] [] [] ds is [] ts)) where
             definitions-are : d ≡ definitionsPart s
             unfolding draftDefinitionRule itemsUsedUp definitionWord
             definitions-are = de
@@ -93,7 +93,7 @@ module _ (ns cs ms ds is ps ts : List ℕ) where
             pub definitions-refused : (d ≡ 0 → ⊥) → d ≡ tablesRule s
             definitions-refused q = past-named d (refused (definitionsPart s) (itemsPart s) d definitions-are q)
 
-            module _ (dz : d ≡ 0) (i : ℕ) (ie : i ≡ itemsPart (draftOf [] [] [] [] is [] ts)) where
+            module _ (dz : d ≡ 0) (i : ℕ) (ie : i ≡ itemsPart (draftOf 0 [] [] [] [] is [] ts)) where
               items-are : i ≡ itemsPart s
               unfolding draftItemRule itemWord
               items-are = ie

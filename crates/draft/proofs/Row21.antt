@@ -1,10 +1,8 @@
 -- Row 21 put together out of what the functions answer, of a draft that row 19 has passed.
-use Prim.Native.Nat.{ℕ, _+_, _*_, _≤_}
+use Prim.Native.Nat.{ℕ}
 use mathlib.Core.Path.{_≡_, refl, sym, _∙_}
 use mathlib.Core.List.{List, []}
 use mathlib.Core.Bool.{Bool, true, false, not}
-use native.Mathlib.Omega.{arith}
-use lib.ListN.{length}
 use Rattle.laws.specs.Refusal.{_▸_, firstOf}
 use Rattle.laws.proofs.First.{second}
 use Rattle.image.specs.Sections.{Sections, nodeCount, definitionCount, nodeWord, childWord, namedWord, definitionWord, itemWord}
@@ -12,41 +10,44 @@ use Rattle.records.specs.Records.{numberOfChildren, numberOfNamed, parentRule, 
 use Rattle.records.proofs.Tests.{stop, go, refused}
 use Rattle.tree.specs.Tree.{childRule, namedRule, entriesRule}
 use Rattle.draft.specs.Source.{draftOf}
-use Rattle.draft.specs.Draft.{tablesRule, relationRule, orderRule, shapeRule}
-use Rattle.draft.specs.Shown.{TreePassed, ListsPassed}
-use Rattle.draft.proofs.Rules.{Tables, tables, tables-fit, items-end}
+use Rattle.draft.specs.Draft.{relationRule, orderRule, shapeRule}
+use Rattle.draft.specs.Shown.{TreePassed, ListsPassed, TablesPassed}
+use Rattle.draft.proofs.Rules.{Tables, tables-fit, items-end}
 
-module _ (ns cs ms ds is ps ts : List ℕ) where
+-- what the rules of this row need
+pub tables-passed : (s : Sections) → Tables s → TablesPassed s
+tables-passed s t =
+    record {
+      some = t .some;
+      tree = record { ranges = tables-fit s t .ranges; texts = t .named-texts };
+      lists = record { ranges = λ d h. items-end s t d h; definitions = λ d h. t .definitions d h .0; items = t .items };
+    }
+
+module _ (v : ℕ) (ns cs ms ds is ps ts : List ℕ) where
   abbrev s : Sections
-  s = draftOf ns cs ms ds is ps ts
+  s = draftOf v ns cs ms ds is ps ts
 
   -- the sections of the tree; of the definitions
   abbrev tree : Sections
-  tree = draftOf ns cs ms [] [] [] ts
+  tree = draftOf v ns cs ms [] [] [] ts
 
   abbrev lists : Sections
-  lists = draftOf [] [] [] ds is [] ts
+  lists = draftOf 0 [] [] [] ds is [] ts
 
   -- ---- what row 19 has shown
 
-  module _ (p : tablesRule s ≡ 0) where
-    shown : Tables s
-    shown = tables s p
-
-    pub root-there : 0 * 10 + 10 ≤ length ns
-    root-there = omega (arith, shown .some)
-
+  module _ (p : TablesPassed s) where
     pub tree-passed : TreePassed tree
     unfolding nodeWord namedWord
     tree-passed =
         record {
-          ranges = λ i h c. let r = tables-fit s shown .ranges i h c in record { children = r .children; named = r .named };
-          texts = shown .named-texts;
+          ranges = λ i h c. let r = p .tree .ranges i h c in record { children = r .children; named = r .named };
+          texts = p .tree .texts;
         }
 
     pub lists-passed : ListsPassed lists
     unfolding definitionWord itemWord
-    lists-passed = record { ranges = λ d h. items-end s shown d h; definitions = λ d h. shown .definitions d h .0; items = shown .items }
+    lists-passed = record { ranges = p .lists .ranges; definitions = p .lists .definitions; items = p .lists .items }
 
   -- ---- the row
 

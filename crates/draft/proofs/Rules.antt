@@ -1,6 +1,7 @@
 -- What the rules 19 and 21 say of a draft that breaks none of them, one fact at a time.
 use Prim.Native.Nat.{ℕ, zero, _+_, _*_, _%_, _/_, _≤_, _<_}
-use mathlib.Core.Path.{_≡_, sym, subst}
+use mathlib.Core.Path.{_≡_, sym, ap, _∙_}
+use native.Mathlib.Nat.{add-zero, div-add-mod'}
 use mathlib.Core.Bool.{true, _&&_, _||_}
 use native.Mathlib.Omega.{arith}
 use lib.ListN.{length}
@@ -8,8 +9,7 @@ use lib.Dec.{eqb, leb}
 use borrow.Author.Tests.{eqb-true, eqb-false, leb-true, ne-eqb, not-true}
 use Rattle.laws.proofs.First.{both, passed, as-zero, first-all}
 use Rattle.texts.specs.Text.{rising}
-use Rattle.image.specs.Sections.{Sections, nodeCount, childCount, namedCount, definitionCount, itemCount, parentOf, f, childWord, namedWord, goodText, inside, isContainer}
-use Rattle.image.specs.Header.{nodeWords}
+use Rattle.image.specs.Sections.{Sections, nodeWords, textEntryWords, definitionWords, nodeCount, childCount, namedCount, definitionCount, itemCount, parentOf, f, childWord, namedWord, goodText, inside, isContainer}
 use Rattle.records.specs.Records.{numberOfChildren, numberOfNamed, fieldsRule, parentRule, rootRight, usedUp}
 use Rattle.records.proofs.PassedRules.{Node, node-of, ranges as fields-ranges}
 use Rattle.tree.specs.Tree.{childAt, namedAt, entryNodes, entriesRule}
@@ -23,10 +23,10 @@ use Rattle.draft.specs.Draft.{wholeEntries, draftNodeRule, draftChildRul
 
 -- each section is whole entries
 pub record Entries (s : Sections) : Type 0 where
-  pub nodes : length (s .nodes) ≡ nodeCount s * nodeWords
-  pub named : length (s .named) ≡ namedCount s * 3
-  pub definitions : length (s .definitions) ≡ definitionCount s * 4
-  pub items : length (s .items) ≡ itemCount s * 3
+  pub nodes : length (s .nodes) ≡ nodeCount s * nodeWords (s .version)
+  pub named : length (s .named) ≡ namedCount s * textEntryWords
+  pub definitions : length (s .definitions) ≡ definitionCount s * definitionWords
+  pub items : length (s .items) ≡ itemCount s * textEntryWords
 
 -- the texts and numbers that a draft's tables hold
 pub record Tables (s : Sections) : Type 0 where
@@ -43,19 +43,19 @@ pub record Tables (s : Sections) : Type 0 where
 
 -- the sections are whole, and there is a node
 record Checked (s : Sections) : Type 0 where
-  nodes : length (s .nodes) % s .stride ≡ 0
-  named : length (s .named) % 3 ≡ 0
-  definitions : length (s .definitions) % 4 ≡ 0
-  items : length (s .items) % 3 ≡ 0
+  nodes : length (s .nodes) % nodeWords (s .version) ≡ 0
+  named : length (s .named) % textEntryWords ≡ 0
+  definitions : length (s .definitions) % definitionWords ≡ 0
+  items : length (s .items) % textEntryWords ≡ 0
   some : zero < nodeCount s
 
 checked : (s : Sections) → wholeEntries s ≡ true → Checked s
 unfolding wholeEntries
 checked s h =
-    let e = both-true (eqb (length (s .nodes) % s .stride) 0 && eqb (length (s .named) % 3) 0 && eqb (length (s .definitions) % 4) 0 && eqb (length (s .items) % 3) 0) _ h in
-    let d = both-true (eqb (length (s .nodes) % s .stride) 0 && eqb (length (s .named) % 3) 0 && eqb (length (s .definitions) % 4) 0) _ (e .0) in
-    let c = both-true (eqb (length (s .nodes) % s .stride) 0 && eqb (length (s .named) % 3) 0) _ (d .0) in
-    let b = both-true (eqb (length (s .nodes) % s .stride) 0) _ (c .0) in
+    let e = both-true (eqb (length (s .nodes) % nodeWords (s .version)) 0 && eqb (length (s .named) % textEntryWords) 0 && eqb (length (s .definitions) % definitionWords) 0 && eqb (length (s .items) % textEntryWords) 0) _ h in
+    let d = both-true (eqb (length (s .nodes) % nodeWords (s .version)) 0 && eqb (length (s .named) % textEntryWords) 0 && eqb (length (s .definitions) % definitionWords) 0) _ (e .0) in
+    let c = both-true (eqb (length (s .nodes) % nodeWords (s .version)) 0 && eqb (length (s .named) % textEntryWords) 0) _ (d .0) in
+    let b = both-true (eqb (length (s .nodes) % nodeWords (s .version)) 0) _ (c .0) in
     record {
       nodes = eqb-true _ _ (b .0);
       named = eqb-true _ _ (b .1);
@@ -66,6 +66,9 @@ checked s h =
   where
     positive : (n : ℕ) → (n ≡ 0 → ⊥) → zero < n
     positive n d = omega arith
+
+whole-nodes : (n w : ℕ) → n % w ≡ 0 → n ≡ n / w * w
+whole-nodes n w e = sym (div-add-mod' n w) ∙ ap (λ (x : ℕ). n / w * w + x) e ∙ add-zero (n / w * w)
 
 module _ (s : Sections) (p : tablesRule s ≡ 0) where
   pub tables : Tables s
@@ -95,19 +98,16 @@ module _ (s : Sections) (p : tablesRule s ≡ 0) where
       below-root : (i : ℕ) → 0 < i → (eqb i 0 || inside s (parentOf s i)) ≡ true → inside s (parentOf s i) ≡ true
       below-root i k q = rw (ne-eqb i 0 (λ e. omega arith)) at q
 
-  pub whole : s .stride ≡ nodeWords → Entries s
+  pub whole : Entries s
   unfolding tablesRule
-  whole wide =
+  whole =
       let c = checked s (passed _ 18 (both _ _ p .0)) in
       record {
-        nodes = by-stride (s .stride) wide (c .nodes);
+        nodes = whole-nodes (length (s .nodes)) (nodeWords (s .version)) (c .nodes);
         named = omega (arith, c .named);
         definitions = omega (arith, c .definitions);
         items = omega (arith, c .items);
       }
-    where
-      by-stride : (w : ℕ) → w ≡ nodeWords → length (s .nodes) % w ≡ 0 → length (s .nodes) ≡ (length (s .nodes) / w) * nodeWords
-      by-stride w e = subst (λ (x : ℕ). length (s .nodes) % x ≡ 0 → length (s .nodes) ≡ (length (s .nodes) / x) * nodeWords) (sym e) (λ q. omega arith)
 
 -- ---- what the tables give
 

@@ -9,7 +9,8 @@ use lib.Dec.{leb}
 use borrow.Author.Tests.{le-leb, lt-leb, leb-true}
 use Rattle.laws.specs.Refusal.{unless}
 use Rattle.draft.specs.declared.Needed.the-variants.{Words, TooMany}
-use Rattle.draft.specs.Needs.{neededOf, neededNumber}
+use Rattle.draft.specs.declared.EntryCounts.{EntryCounts}
+use Rattle.draft.specs.Needs.{wordsFor, neededOf, neededNumber}
 
 fewer : (needed work : ℕ) → work < needed → TooMany ≡ neededOf needed work
 unfolding neededOf
@@ -44,30 +45,29 @@ after-next left used count all e h = omega arith
 pub quarter : (work taken : ℕ) → Fits w64 work → Fits w64 ((work / 4 - taken) * 4)
 quarter work taken h = omega arith
 
--- the counts of nodes, children, named entries, definitions, items and payload bytes
-module _ (n c m d i p work : ℕ) where
+module _ (k : EntryCounts) (work : ℕ) where
   abbrev needed : ℕ
-  needed = 16 * n + 4 * (c + m + d + i + p)
+  needed = wordsFor k
 
-  pub few-nodes : work / 4 / 4 < n → TooMany ≡ neededOf needed work
+  pub few-nodes : work / 4 / 4 < k .nodes → TooMany ≡ neededOf needed work
   few-nodes h = fewer needed work (omega arith)
 
-  pub few-children : (left : ℕ) → left + n * 4 ≡ work / 4 → left < c → TooMany ≡ neededOf needed work
+  pub few-children : (left : ℕ) → left + k .nodes * 4 ≡ work / 4 → left < k .children → TooMany ≡ neededOf needed work
   few-children left e h = fewer needed work (omega arith)
 
-  pub few-named : (left : ℕ) → left + (n * 4 + c) ≡ work / 4 → left < m → TooMany ≡ neededOf needed work
+  pub few-named : (left : ℕ) → left + (k .nodes * 4 + k .children) ≡ work / 4 → left < k .named → TooMany ≡ neededOf needed work
   few-named left e h = fewer needed work (omega arith)
 
-  pub few-definitions : (left : ℕ) → left + (n * 4 + c + m) ≡ work / 4 → left < d → TooMany ≡ neededOf needed work
+  pub few-definitions : (left : ℕ) → left + (k .nodes * 4 + k .children + k .named) ≡ work / 4 → left < k .definitions → TooMany ≡ neededOf needed work
   few-definitions left e h = fewer needed work (omega arith)
 
-  pub few-items : (left : ℕ) → left + (n * 4 + c + m + d) ≡ work / 4 → left < i → TooMany ≡ neededOf needed work
+  pub few-items : (left : ℕ) → left + (k .nodes * 4 + k .children + k .named + k .definitions) ≡ work / 4 → left < k .items → TooMany ≡ neededOf needed work
   few-items left e h = fewer needed work (omega arith)
 
-  pub few-payload : (left : ℕ) → left + (n * 4 + c + m + d + i) ≡ work / 4 → left < p → TooMany ≡ neededOf needed work
+  pub few-payload : (left : ℕ) → left + (k .nodes * 4 + k .children + k .named + k .definitions + k .items) ≡ work / 4 → left < k .payload → TooMany ≡ neededOf needed work
   few-payload left e h = fewer needed work (omega arith)
 
-  pub enough : (left : ℕ) → left + (n * 4 + c + m + d + i + p) ≡ work / 4 → Words ((work / 4 - left) * 4) ≡ neededOf needed work
+  pub enough : (left : ℕ) → left + (k .nodes * 4 + k .children + k .named + k .definitions + k .items + k .payload) ≡ work / 4 → Words ((work / 4 - left) * 4) ≡ neededOf needed work
   unfolding neededOf
   enough left e =
       let same : (work / 4 - left) * 4 ≡ needed = omega arith in

@@ -1,5 +1,5 @@
 -- The rules of a draft, numbers 19 to 22: sections without an index, in any numbering with root 0.
-use Prim.Native.Nat.{ℕ, zero, suc, _+_, _*_, _%_}
+use Prim.Native.Nat.{ℕ, zero, suc, _%_}
 use mathlib.Core.List.{List}
 use mathlib.Core.Bool.{Bool, true, false, _&&_, _||_, not}
 use lib.ListN.{length}
@@ -8,18 +8,19 @@ use Rattle.laws.specs.Refusal.{unless, countsAs, _▸_, firstOf, refusals}
 use Rattle.laws.specs.Counted.{allOf, counted}
 use Rattle.words.specs.Words.{isNone}
 use Rattle.texts.specs.Text.{same, rising, before, texts}
-use Rattle.image.specs.Sections.{Sections, nodeCount, childCount, namedCount, definitionCount, itemCount, nodeWord, parentOf, placeOf, tagOf, childWord, namedWord, goodText, inside, isContainer}
+use Rattle.image.specs.Sections.{Sections, nodeWords, textEntryWords, definitionWords, nodeCount, childCount, namedCount, definitionCount, itemCount, nodeWord, parentOf, placeOf, tagOf, childWord, namedWord, goodText, inside, isContainer}
 use Rattle.records.specs.Records.{fieldsRule, parentRule, rootRight, usedUp, records}
 use Rattle.tree.specs.Tree.{entriesRule, readWalk, allSeen, Walked, trees}
 use Rattle.index.specs.Paths.{nameless, canonicalPath, paths}
 use Rattle.index.specs.Definitions.{goodDefinition, goodItem, itemsRight, numberOfItems, itemsUsedUp, definitionText, itemTextOf, definitions}
+use Rattle.draft.specs.Needs.{entryCounts, wordsFor}
 
 -- ---- 19: the tables
 
 -- each section is whole entries, and there is a node
 unfoldable pub wholeEntries : Sections → Bool
 wholeEntries s =
-    eqb (length (s .nodes) % s .stride) 0 && eqb (length (s .named) % 3) 0 && eqb (length (s .definitions) % 4) 0 && eqb (length (s .items) % 3) 0
+    eqb (length (s .nodes) % nodeWords (s .version)) 0 && eqb (length (s .named) % textEntryWords) 0 && eqb (length (s .definitions) % definitionWords) 0 && eqb (length (s .items) % textEntryWords) 0
     && not (eqb (nodeCount s) 0)
 
 -- the record rules of a node, and that its parent is a node, the root aside
@@ -49,10 +50,10 @@ tablesRule s =
     ▸ unless (itemsUsedUp s) 19
     ▸ firstOf (itemCount s) (draftItemRule s)
 
--- ---- 7: 16 words a node, 4 for each other entry and payload byte
+-- ---- 7: the work words
 
 abbrev pub writeWords : Sections → ℕ
-writeWords s = 16 * nodeCount s + 4 * (childCount s + namedCount s + definitionCount s + itemCount s + length (s .payload))
+writeWords s = wordsFor (entryCounts s)
 
 -- ---- 20: every node is reached by entries from the root
 

@@ -24,13 +24,15 @@ shownDefinition ws strings d = textOrEmpty strings (definitionOf ws d .offset) (
 -- ---- named entries
 
 -- node n is a container whose parent is i
-abbrev pub rightContainer : List ℕ → ℕ → ℕ → Bool
-rightContainer nodes n i = insideContainer (draftOf nodes [] [] [] [] [] []) n && eqb (parentOf (draftOf nodes [] [] [] [] [] []) n) i
+abbrev pub rightContainer : ℕ → List ℕ → ℕ → ℕ → Bool
+rightContainer version nodes n i =
+    let s = draftOf version nodes [] [] [] [] [] [] in
+    insideContainer s n && eqb (parentOf s n) i
 
 -- the j-th named entry from the first one of container i on has its text in order, and names such a container
-unfoldable pub namedRight : List ℕ → List ℕ → List ℕ → ℕ → ℕ → ℕ → Bool
-namedRight nodes named strings i first j =
-    rising (shownEntry named strings first) j && rightContainer nodes (textEntryOf named (first + j) .value) i
+unfoldable pub namedRight : ℕ → List ℕ → List ℕ → List ℕ → ℕ → ℕ → ℕ → Bool
+namedRight version nodes named strings i first j =
+    rising (shownEntry named strings first) j && rightContainer version nodes (textEntryOf named (first + j) .value) i
 
 -- ---- what row 19 has shown
 
@@ -44,3 +46,9 @@ pub record ListsPassed (s : Sections) : Type 0 where
   pub ranges : (d : ℕ) → d < definitionCount s → firstItem s d + numberOfItems s d ≤ itemCount s
   pub definitions : (d : ℕ) → d < definitionCount s → goodDefinition s d ≡ true
   pub items : (j : ℕ) → j < itemCount s → goodItem s j ≡ true
+
+-- there is a root, and both of these hold
+pub record TablesPassed (s : Sections) : Type 0 where
+  pub some : 0 < nodeCount s
+  pub tree : TreePassed s
+  pub lists : ListsPassed s

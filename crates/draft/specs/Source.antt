@@ -1,16 +1,16 @@
--- A draft's sections, out of its words and bytes: a draft has no index.
-use Prim.Native.Nat.{ℕ}
+-- A draft's sections, out of its words and bytes, by its format version: a draft has no index.
+use Prim.Native.Nat.{ℕ, _+_, _*_}
 use mathlib.Core.Path.{_≡_}
 use mathlib.Core.List.{List, []}
-use Rattle.image.specs.Header.{nodeWords}
-use Rattle.image.specs.Sections.{Sections}
+use lib.ListN.{getD}
+use Rattle.image.specs.Sections.{Sections, nodeWords}
 use Rattle.records.specs.declared.Counts.{Counts}
 use Rattle.records.specs.Shown.{countsOf}
 
-abbrev pub draftOf : List ℕ → List ℕ → List ℕ → List ℕ → List ℕ → List ℕ → List ℕ → Sections
-draftOf nodes children named definitions items payload strings =
+abbrev pub draftOf : ℕ → List ℕ → List ℕ → List ℕ → List ℕ → List ℕ → List ℕ → List ℕ → Sections
+draftOf version nodes children named definitions items payload strings =
     record {
-      stride = nodeWords;
+      version = version;
       nodes = nodes;
       children = children;
       named = named;
@@ -21,9 +21,13 @@ draftOf nodes children named definitions items payload strings =
       strings = strings;
     }
 
+-- word k of node n, in the nodes' words: 0 past the end
+abbrev pub wordOf : ℕ → List ℕ → ℕ → ℕ → ℕ
+wordOf version nodes n k = getD nodes (n * nodeWords version + k) 0
+
 -- sections whose nodes, payload and strings are these, with their counts
-pub record NodesFrom (s : Sections) (nodes payload strings : List ℕ) (c : Counts) : Type 0 where
-  pub stride : s .stride ≡ nodeWords
+pub record NodesFrom (s : Sections) (version : ℕ) (nodes payload strings : List ℕ) (c : Counts) : Type 0 where
+  pub version-is : s .version ≡ version
   pub nodes-are : s .nodes ≡ nodes
   pub payload-is : s .payload ≡ payload
   pub strings-are : s .strings ≡ strings

@@ -7,8 +7,9 @@ ghost use mathlib.Core.Path.{_≡_};
 ghost use mathlib.Core.List.{[]};
 ghost use Rattle.image.specs.Header.{inkRight};
 ghost use Rattle.draft.specs.Source.{draftOf};
-ghost use Rattle.draft.specs.Draft.{writeWords};
-ghost use Rattle.draft.specs.Needs.{neededOf};
+ghost use Rattle.draft.specs.Needs.{entryCounts, wordsFor, neededOf};
+use crate::source::Source;
+use image::ImageView;
 
 // Whether an ink version is one that can be written.
 pub fn ink_right(version: u32) -> bool
@@ -26,42 +27,68 @@ pub enum Needed {
     TooMany,
 }
 
-// Compares the work words that a draft needs with those that are lent: 16 a node, 4 for each other entry and payload byte. What is left of a
-// quarter of them goes down entry by entry, so that no sum can be too large.
-pub fn work_words_fit(
+// How many entries of each kind a draft has, and bytes of the payload.
+pub struct EntryCounts {
+    pub nodes: usize,
+    pub children: usize,
+    pub named: usize,
+    pub definitions: usize,
+    pub items: usize,
+    pub payload: usize,
+}
+
+// Counts the entries of a draft.
+pub fn entry_counts(
     nodes: &[u32],
     children: &[u32],
     named: &[u32],
     definitions: &[u32],
     items: &[u32],
     payload: &[u8],
-    work: usize,
-) -> Needed
-    ensures { λ r. ⌜ r ≡ neededOf (writeWords (draftOf (now (nodes .entry)) (now (children .entry)) (now (named .entry)) (now (definitions .entry)) (now (items .entry)) (now (payload .entry)) [])) work ⌝ }
+    source: Source,
+) -> EntryCounts
+    ensures { λ r. ⌜ (let s = draftOf (source .version) (now (nodes .entry)) (now (children .entry)) (now (named .entry)) (now (definitions .entry))
+        (now (items .entry)) (now (payload .entry)) [] in
+        r ≡ entryCounts s) ⌝ }
+{
+    EntryCounts {
+        nodes: source::node_count(nodes, source),
+        children: children.len(),
+        named: named.len() / ImageView::TEXT_ENTRY_WORDS,
+        definitions: definitions.len() / ImageView::DEFINITION_WORDS,
+        items: items.len() / ImageView::TEXT_ENTRY_WORDS,
+        payload: payload.len(),
+    }
+}
+
+// Compares the work words that so many entries need with those that are lent: 16 a node, 4 for each other entry and payload byte. What is left of
+// a quarter of them goes down count by count, so that no sum can be too large.
+pub fn work_words_fit(counts: EntryCounts, work: usize) -> Needed
+    ensures { λ r. ⌜ r ≡ neededOf (wordsFor counts) work ⌝ }
 {
     let all = work / 4;
-    if all / 4 < nodes.len() / 10 {
+    if all / 4 < counts.nodes {
         return Needed::TooMany;
     }
-    let mut left = all - nodes.len() / 10 * 4;
-    if left < children.len() {
+    let mut left = all - counts.nodes * 4;
+    if left < counts.children {
         return Needed::TooMany;
     }
-    left -= children.len();
-    if left < named.len() / 3 {
+    left -= counts.children;
+    if left < counts.named {
         return Needed::TooMany;
     }
-    left -= named.len() / 3;
-    if left < definitions.len() / 4 {
+    left -= counts.named;
+    if left < counts.definitions {
         return Needed::TooMany;
     }
-    left -= definitions.len() / 4;
-    if left < items.len() / 3 {
+    left -= counts.definitions;
+    if left < counts.items {
         return Needed::TooMany;
     }
-    left -= items.len() / 3;
-    if left < payload.len() {
+    left -= counts.items;
+    if left < counts.payload {
         return Needed::TooMany;
     }
-    Needed::Words((all - (left - payload.len())) * 4)
+    Needed::Words((all - (left - counts.payload)) * 4)
 }

@@ -6,13 +6,16 @@ ghost use lib.ListN.{length, getD};
 ghost use Rattle.laws.specs.Refusal.{firstOf};
 ghost use Rattle.laws.specs.Counted.{allOf};
 ghost use Rattle.texts.specs.Text.{before, rising};
-ghost use Rattle.image.specs.Sections.{nodeCount, definitionCount, textOrEmpty};
+ghost use Rattle.image.specs.Sections.{textEntryWords, definitionWords, nodeCount, definitionCount, textOrEmpty};
 ghost use Rattle.tree.specs.Tree.{rightChild};
 ghost use Rattle.draft.specs.Source.{draftOf};
-ghost use Rattle.draft.specs.Draft.{tablesRule, relationRule, orderRule, shapeRule};
-ghost use Rattle.draft.specs.Shown.{shownEntry, shownDefinition, rightContainer, namedRight, TreePassed, ListsPassed};
+ghost use Rattle.draft.specs.Draft.{relationRule, orderRule, shapeRule};
+ghost use Rattle.draft.specs.Shown.{shownEntry, shownDefinition, rightContainer, namedRight, TreePassed, ListsPassed, TablesPassed};
 use crate::source;
+use crate::source::Source;
+use image::ImageView;
 use image::refusal::DRAFT_SHAPE;
+use image::tag::CONTAINER;
 use records::Counts;
 use texts::Order;
 
@@ -33,7 +36,7 @@ fn comes_before(strings: &[u8], offset: u32, len: u32, next_offset: u32, next_le
 
 // Whether the text of an entry, the `place`-th from entry `first` on, comes after that of the entry before it.
 fn entry_rises(entries: &[u32], strings: &[u8], first: usize, place: usize) -> bool
-    requires { ⌜ (first + place) * 3 + 3 ≤ length (now entries) ⌝ }
+    requires { ⌜ (first + place) * textEntryWords + textEntryWords ≤ length (now entries) ⌝ }
     ensures { λ r. ⌜ r ≡ rising (shownEntry (now (entries .entry)) (now (strings .entry)) first) place ⌝ }
 {
     if place == 0 {
@@ -46,7 +49,7 @@ fn entry_rises(entries: &[u32], strings: &[u8], first: usize, place: usize) -> b
 
 // Whether the text of definition `d` comes after that of the definition before it.
 fn definition_rises(definitions: &[u32], strings: &[u8], d: usize) -> bool
-    requires { ⌜ d * 4 + 4 ≤ length (now definitions) ⌝ }
+    requires { ⌜ d * definitionWords + definitionWords ≤ length (now definitions) ⌝ }
     ensures { λ r. ⌜ r ≡ rising (shownDefinition (now (definitions .entry)) (now (strings .entry))) d ⌝ }
 {
     if d == 0 {
@@ -64,26 +67,34 @@ fn definition_rises(definitions: &[u32], strings: &[u8], d: usize) -> bool
 }
 
 // Whether the word is a node whose parent is `id` and that stands at `place` among the ordered children.
-fn right_child(nodes: &[u32], child: u32, id: usize, place: usize) -> bool
-    ensures { λ r. ⌜ r ≡ rightChild (draftOf (now (nodes .entry)) [] [] [] [] [] []) child id place ⌝ }
+fn right_child(nodes: &[u32], child: u32, id: usize, place: usize, source: Source) -> bool
+    ensures { λ r. ⌜ r ≡ rightChild (draftOf (source .version) (now (nodes .entry)) [] [] [] [] [] []) child id place ⌝ }
 {
-    if !source::is_node(nodes.len() / 10, child) {
+    if !image::is_inside(source::node_count(nodes, source), child) {
         return false;
     }
-    if source::word(nodes, child as usize * 10) as usize != id {
+    if source::node_word(nodes, child as usize, 0, source) as usize != id {
         return false;
     }
-    source::word(nodes, child as usize * 10 + 1) as usize == place
+    source::node_word(nodes, child as usize, 1, source) as usize == place
 }
 
 // Whether all of so many ordered children of container `id`, from `start` on, are right.
-fn right_children(nodes: &[u32], children: &[u32], id: usize, start: usize, count: usize) -> bool
+fn right_children(
+    nodes: &[u32],
+    children: &[u32],
+    id: usize,
+    start: usize,
+    count: usize,
+    source: Source,
+) -> bool
     requires { ⌜ start + count ≤ length (now children) ⌝ }
-    ensures { λ r. ⌜ r ≡ allOf count (λ j. rightChild (draftOf (now (nodes .entry)) [] [] [] [] [] []) (getD (now (children .entry)) (start + j) 0) id j) ⌝ }
+    ensures { λ r. ⌜ (let s = draftOf (source .version) (now (nodes .entry)) [] [] [] [] [] [] in
+        r ≡ allOf count (λ j. rightChild s (getD (now (children .entry)) (start + j) 0) id j)) ⌝ }
 {
     let mut j = 0;
     while j < count {
-        if !right_child(nodes, children[start + j], id, j) {
+        if !right_child(nodes, children[start + j], id, j, source) {
             return false;
         }
         j += 1;
@@ -92,13 +103,13 @@ fn right_children(nodes: &[u32], children: &[u32], id: usize, start: usize, coun
 }
 
 // Whether the word is a container whose parent is `id`.
-fn right_container(nodes: &[u32], n: u32, id: usize) -> bool
-    ensures { λ r. ⌜ r ≡ rightContainer (now (nodes .entry)) n id ⌝ }
+fn right_container(nodes: &[u32], n: u32, id: usize, source: Source) -> bool
+    ensures { λ r. ⌜ r ≡ rightContainer (source .version) (now (nodes .entry)) n id ⌝ }
 {
-    if source::tag_at(nodes, n) != 1 {
+    if source::tag_at(nodes, n, source) != CONTAINER {
         return false;
     }
-    source::word(nodes, n as usize * 10) as usize == id
+    source::node_word(nodes, n as usize, 0, source) as usize == id
 }
 
 // Whether a named entry, the `place`-th from entry `first` on, has its text in order and names a container whose parent is `id`.
@@ -109,14 +120,20 @@ fn right_entry(
     id: usize,
     first: usize,
     place: usize,
+    source: Source,
 ) -> bool
-    requires { ⌜ (first + place) * 3 + 3 ≤ length (now named) ⌝ }
-    ensures { λ r. ⌜ r ≡ namedRight (now (nodes .entry)) (now (named .entry)) (now (strings .entry)) id first place ⌝ }
+    requires { ⌜ (first + place) * textEntryWords + textEntryWords ≤ length (now named) ⌝ }
+    ensures { λ r. ⌜ r ≡ namedRight (source .version) (now (nodes .entry)) (now (named .entry)) (now (strings .entry)) id first place ⌝ }
 {
     if !entry_rises(named, strings, first, place) {
         return false;
     }
-    right_container(nodes, source::entry_at(named, first + place).value, id)
+    right_container(
+        nodes,
+        source::entry_at(named, first + place).value,
+        id,
+        source,
+    )
 }
 
 // Whether all of so many named entries of container `id`, from `first` on, are right.
@@ -127,13 +144,14 @@ fn right_entries(
     id: usize,
     first: usize,
     count: usize,
+    source: Source,
 ) -> bool
-    requires { ⌜ (first + count) * 3 ≤ length (now named) ⌝ }
-    ensures { λ r. ⌜ r ≡ allOf count (namedRight (now (nodes .entry)) (now (named .entry)) (now (strings .entry)) id first) ⌝ }
+    requires { ⌜ (first + count) * textEntryWords ≤ length (now named) ⌝ }
+    ensures { λ r. ⌜ r ≡ allOf count (namedRight (source .version) (now (nodes .entry)) (now (named .entry)) (now (strings .entry)) id first) ⌝ }
 {
     let mut j = 0;
     while j < count {
-        if !right_entry(nodes, named, strings, id, first, j) {
+        if !right_entry(nodes, named, strings, id, first, j, source) {
             return false;
         }
         j += 1;
@@ -143,7 +161,7 @@ fn right_entries(
 
 // Whether all of so many items, from `first` on, have their texts in order.
 fn items_rise(items: &[u32], strings: &[u8], first: usize, count: usize) -> bool
-    requires { ⌜ (first + count) * 3 ≤ length (now items) ⌝ }
+    requires { ⌜ (first + count) * textEntryWords ≤ length (now items) ⌝ }
     ensures { λ r. ⌜ r ≡ allOf count (rising (shownEntry (now (items .entry)) (now (strings .entry)) first)) ⌝ }
 {
     let mut j = 0;
@@ -157,27 +175,50 @@ fn items_rise(items: &[u32], strings: &[u8], first: usize, count: usize) -> bool
 }
 
 // The rules of node `i`: its parent's, and of a container those of its entries.
-fn relation_rule(nodes: &[u32], children: &[u32], named: &[u32], strings: &[u8], i: usize) -> u32
-    requires { ⌜ TreePassed (draftOf (now nodes) (now children) (now named) [] [] [] (now strings)) ⌝ }
-    requires { ⌜ i < nodeCount (draftOf (now nodes) (now children) (now named) [] [] [] (now strings)) ⌝ }
-    ensures { λ r. ⌜ r ≡ relationRule (draftOf (now (nodes .entry)) (now (children .entry)) (now (named .entry)) [] [] [] (now (strings .entry))) i ⌝ }
+fn relation_rule(
+    nodes: &[u32],
+    children: &[u32],
+    named: &[u32],
+    strings: &[u8],
+    i: usize,
+    source: Source,
+) -> u32
+    requires { ⌜ (let s = draftOf (source .version) (now nodes) (now children) (now named) [] [] [] (now strings) in TreePassed s × (i < nodeCount s)) ⌝ }
+    ensures { λ r. ⌜ (let s = draftOf (source .version) (now (nodes .entry)) (now (children .entry)) (now (named .entry)) [] [] [] (now (strings .entry)) in
+        r ≡ relationRule s i) ⌝ }
 {
     let counts = Counts {
-        nodes: nodes.len() / 10,
+        nodes: source::node_count(nodes, source),
         children: children.len(),
-        named: named.len() / 3,
+        named: named.len() / ImageView::TEXT_ENTRY_WORDS,
     };
-    let node = source::node_at(nodes, i);
-    if records::parent_rule(node, i, counts, source::tag_at(nodes, node.parent)) != 0 {
+    let node = source::node_at(nodes, i, source);
+    let parent_tag = source::tag_at(nodes, node.parent, source);
+    if records::parent_rule(node, i, counts, parent_tag) != 0 {
         return DRAFT_SHAPE;
     }
-    if node.tag != 1 {
+    if node.tag != CONTAINER {
         return 0;
     }
-    if !right_children(nodes, children, i, node.f3 as usize, node.f4 as usize) {
+    if !right_children(
+        nodes,
+        children,
+        i,
+        node.f3 as usize,
+        node.f4 as usize,
+        source,
+    ) {
         return DRAFT_SHAPE;
     }
-    if right_entries(nodes, named, strings, i, node.f5 as usize, node.f6 as usize) {
+    if right_entries(
+        nodes,
+        named,
+        strings,
+        i,
+        node.f5 as usize,
+        node.f6 as usize,
+        source,
+    ) {
         0
     } else {
         DRAFT_SHAPE
@@ -185,14 +226,21 @@ fn relation_rule(nodes: &[u32], children: &[u32], named: &[u32], strings: &[u8],
 }
 
 // The rules of every node.
-fn relations_rule(nodes: &[u32], children: &[u32], named: &[u32], strings: &[u8]) -> u32
-    requires { ⌜ TreePassed (draftOf (now nodes) (now children) (now named) [] [] [] (now strings)) ⌝ }
-    ensures { λ r. ⌜ r ≡ firstOf (nodeCount (draftOf (now (nodes .entry)) (now (children .entry)) (now (named .entry)) [] [] [] (now (strings .entry)))) (relationRule (draftOf (now (nodes .entry)) (now (children .entry)) (now (named .entry)) [] [] [] (now (strings .entry)))) ⌝ }
+fn relations_rule(
+    nodes: &[u32],
+    children: &[u32],
+    named: &[u32],
+    strings: &[u8],
+    source: Source,
+) -> u32
+    requires { ⌜ TreePassed (draftOf (source .version) (now nodes) (now children) (now named) [] [] [] (now strings)) ⌝ }
+    ensures { λ r. ⌜ (let s = draftOf (source .version) (now (nodes .entry)) (now (children .entry)) (now (named .entry)) [] [] [] (now (strings .entry)) in
+        r ≡ firstOf (nodeCount s) (relationRule s)) ⌝ }
 {
-    let count = nodes.len() / 10;
+    let count = source::node_count(nodes, source);
     let mut i = 0;
     while i < count {
-        let refused = relation_rule(nodes, children, named, strings, i);
+        let refused = relation_rule(nodes, children, named, strings, i, source);
         if refused != 0 {
             return refused;
         }
@@ -203,9 +251,8 @@ fn relations_rule(nodes: &[u32], children: &[u32], named: &[u32], strings: &[u8]
 
 // The order of definition `d` and of its items.
 fn order_rule(definitions: &[u32], items: &[u32], strings: &[u8], d: usize) -> u32
-    requires { ⌜ ListsPassed (draftOf [] [] [] (now definitions) (now items) [] (now strings)) ⌝ }
-    requires { ⌜ d < definitionCount (draftOf [] [] [] (now definitions) (now items) [] (now strings)) ⌝ }
-    ensures { λ r. ⌜ r ≡ orderRule (draftOf [] [] [] (now (definitions .entry)) (now (items .entry)) [] (now (strings .entry))) d ⌝ }
+    requires { ⌜ (let s = draftOf 0 [] [] [] (now definitions) (now items) [] (now strings) in ListsPassed s × (d < definitionCount s)) ⌝ }
+    ensures { λ r. ⌜ (let s = draftOf 0 [] [] [] (now (definitions .entry)) (now (items .entry)) [] (now (strings .entry)) in r ≡ orderRule s d) ⌝ }
 {
     if !definition_rises(definitions, strings, d) {
         return DRAFT_SHAPE;
@@ -225,10 +272,11 @@ fn order_rule(definitions: &[u32], items: &[u32], strings: &[u8], d: usize) -> u
 
 // The order of every definition and of its items.
 fn orders_rule(definitions: &[u32], items: &[u32], strings: &[u8]) -> u32
-    requires { ⌜ ListsPassed (draftOf [] [] [] (now definitions) (now items) [] (now strings)) ⌝ }
-    ensures { λ r. ⌜ r ≡ firstOf (definitionCount (draftOf [] [] [] (now (definitions .entry)) (now (items .entry)) [] (now (strings .entry)))) (orderRule (draftOf [] [] [] (now (definitions .entry)) (now (items .entry)) [] (now (strings .entry)))) ⌝ }
+    requires { ⌜ ListsPassed (draftOf 0 [] [] [] (now definitions) (now items) [] (now strings)) ⌝ }
+    ensures { λ r. ⌜ (let s = draftOf 0 [] [] [] (now (definitions .entry)) (now (items .entry)) [] (now (strings .entry)) in
+        r ≡ firstOf (definitionCount s) (orderRule s)) ⌝ }
 {
-    let count = definitions.len() / 4;
+    let count = definitions.len() / ImageView::DEFINITION_WORDS;
     let mut d = 0;
     while d < count {
         let refused = order_rule(definitions, items, strings, d);
@@ -240,7 +288,7 @@ fn orders_rule(definitions: &[u32], items: &[u32], strings: &[u8]) -> u32
     0
 }
 
-// Row 21, or 0, of a draft whose tables row 19 has passed.
+// Row 21, or 0, of a draft of which row 19 has shown what the rules here need.
 pub fn shape_rule(
     nodes: &[u32],
     children: &[u32],
@@ -249,14 +297,17 @@ pub fn shape_rule(
     items: &[u32],
     payload: &[u8],
     strings: &[u8],
+    source: Source,
 ) -> u32
-    requires { ⌜ tablesRule (draftOf (now nodes) (now children) (now named) (now definitions) (now items) (now payload) (now strings)) ≡ 0 ⌝ }
-    ensures { λ r. ⌜ r ≡ shapeRule (draftOf (now (nodes .entry)) (now (children .entry)) (now (named .entry)) (now (definitions .entry)) (now (items .entry)) (now (payload .entry)) (now (strings .entry))) ⌝ }
+    requires { ⌜ TablesPassed (draftOf (source .version) (now nodes) (now children) (now named) (now definitions) (now items) (now payload) (now strings)) ⌝ }
+    ensures { λ r. ⌜ (let s = draftOf (source .version) (now (nodes .entry)) (now (children .entry)) (now (named .entry)) (now (definitions .entry))
+        (now (items .entry)) (now (payload .entry)) (now (strings .entry)) in
+        r ≡ shapeRule s) ⌝ }
 {
-    if !records::root_right(source::node_at(nodes, 0)) {
+    if !records::root_right(source::node_at(nodes, 0, source)) {
         return DRAFT_SHAPE;
     }
-    let refused = relations_rule(nodes, children, named, strings);
+    let refused = relations_rule(nodes, children, named, strings, source);
     if refused != 0 {
         return refused;
     }

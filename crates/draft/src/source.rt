@@ -1,15 +1,21 @@
-// A draft's words and entries. The writer reads a draft by these functions alone.
+// A draft's words, nodes and entries. The writer reads a draft by these functions alone.
 ghost use mathlib.Core.Path.{_≡_};
-ghost use Prim.Native.Nat.{_+_, _*_, _≤_};
-ghost use lib.ListN.{length, getD};
-ghost use Rattle.image.specs.Entries.{recordOf, textEntryOf, definitionOf};
 ghost use mathlib.Core.List.{[]};
-ghost use Rattle.records.specs.Shown.{insideAmong, tagIn};
-ghost use Rattle.draft.specs.Source.{draftOf};
+ghost use Prim.Native.Nat.{ℕ, _+_, _*_, _/_, _≤_, _<_};
+ghost use lib.ListN.{length, getD};
+ghost use Rattle.image.specs.Sections.{nodeWords, textEntryWords, definitionWords};
+ghost use Rattle.image.specs.Entries.{recordOf, textEntryOf, definitionOf};
+ghost use Rattle.records.specs.Shown.{tagIn};
+ghost use Rattle.draft.specs.Source.{draftOf, wordOf};
 use image::Definition;
-use image::NONE;
+use image::ImageView;
 use image::NodeRecord;
 use image::TextEntry;
+
+// How the words of a draft are to be read: the format version decides how many of them a node has.
+pub struct Source {
+    pub version: u32,
+}
 
 // A word: 0 past the end.
 pub fn word(words: &[u32], i: usize) -> u32
@@ -18,12 +24,49 @@ pub fn word(words: &[u32], i: usize) -> u32
     if i < words.len() { words[i] } else { 0 }
 }
 
-// Node `i` of the nodes' words.
-pub fn node_at(nodes: &[u32], i: usize) -> NodeRecord
-    requires { ⌜ i * 10 + 10 ≤ length (now nodes) ⌝ }
-    ensures { λ r. ⌜ r ≡ recordOf (now (nodes .entry)) i ⌝ }
+// Words a node.
+pub fn node_words(source: Source) -> usize
+    ensures { λ r. ⌜ r ≡ nodeWords (source .version) ⌝ }
 {
-    let at = i * 10;
+    image::node_size(source.version) as usize / 4
+}
+
+// How many nodes there are.
+pub fn node_count(nodes: &[u32], source: Source) -> usize
+    ensures { λ r. ⌜ r ≡ length (now (nodes .entry)) / nodeWords (source .version) ⌝ }
+{
+    nodes.len() / node_words(source)
+}
+
+// The first word of node `i`.
+fn first_word(i: usize, source: Source) -> usize
+    requires { ⌜ i * nodeWords (source .version) ≤ 18446744073709551615 ⌝ }
+    ensures { λ r. ⌜ r ≡ i * nodeWords (source .version) ⌝ }
+{
+    i * node_words(source)
+}
+
+// Word `k` of node `i`.
+pub fn node_word(nodes: &[u32], i: usize, k: usize, source: Source) -> u32
+    requires { ⌜ (i < length (now nodes) / nodeWords (source .version)) × (k < nodeWords (source .version)) ⌝ }
+    ensures { λ r. ⌜ r ≡ getD (now (nodes .entry)) (i * nodeWords (source .version) + k) 0 ⌝ }
+{
+    nodes[first_word(i, source) + k]
+}
+
+// Word `k` of the node that a word names: 0 past the end.
+pub fn word_of(nodes: &[u32], n: u32, k: usize, source: Source) -> u32
+    requires { ⌜ k < nodeWords (source .version) ⌝ }
+    ensures { λ r. ⌜ r ≡ wordOf (source .version) (now (nodes .entry)) n k ⌝ }
+{
+    word(nodes, first_word(n as usize, source) + k)
+}
+
+// The node whose words begin at `at`.
+fn record_at(nodes: &[u32], at: usize) -> NodeRecord
+    requires { ⌜ at + 9 < length (now nodes) ⌝ }
+    ensures { λ r. ⌜ ((version i : ℕ) → at ≡ i * nodeWords version → r ≡ recordOf version (now (nodes .entry)) i) ⌝ }
+{
     NodeRecord {
         parent: nodes[at],
         place: nodes[at + 1],
@@ -38,12 +81,20 @@ pub fn node_at(nodes: &[u32], i: usize) -> NodeRecord
     }
 }
 
+// Node `i`.
+pub fn node_at(nodes: &[u32], i: usize, source: Source) -> NodeRecord
+    requires { ⌜ i < length (now nodes) / nodeWords (source .version) ⌝ }
+    ensures { λ r. ⌜ r ≡ recordOf (source .version) (now (nodes .entry)) i ⌝ }
+{
+    record_at(nodes, first_word(i, source))
+}
+
 // Entry `j` of the words of the named entries or the items.
 pub fn entry_at(entries: &[u32], j: usize) -> TextEntry
-    requires { ⌜ j * 3 + 3 ≤ length (now entries) ⌝ }
+    requires { ⌜ j * textEntryWords + textEntryWords ≤ length (now entries) ⌝ }
     ensures { λ r. ⌜ r ≡ textEntryOf (now (entries .entry)) j ⌝ }
 {
-    let at = j * 3;
+    let at = j * ImageView::TEXT_ENTRY_WORDS;
     TextEntry {
         offset: entries[at],
         len: entries[at + 1],
@@ -53,10 +104,10 @@ pub fn entry_at(entries: &[u32], j: usize) -> TextEntry
 
 // Definition `j` of the definitions' words.
 pub fn definition_at(definitions: &[u32], j: usize) -> Definition
-    requires { ⌜ j * 4 + 4 ≤ length (now definitions) ⌝ }
+    requires { ⌜ j * definitionWords + definitionWords ≤ length (now definitions) ⌝ }
     ensures { λ r. ⌜ r ≡ definitionOf (now (definitions .entry)) j ⌝ }
 {
-    let at = j * 4;
+    let at = j * ImageView::DEFINITION_WORDS;
     Definition {
         offset: definitions[at],
         len: definitions[at + 1],
@@ -65,23 +116,12 @@ pub fn definition_at(definitions: &[u32], j: usize) -> Definition
     }
 }
 
-// Whether the word is a node's number, among so many nodes; NONE never is.
-pub fn is_node(nodes: usize, n: u32) -> bool
-    ensures { λ r. ⌜ r ≡ insideAmong nodes n ⌝ }
-{
-    if n == NONE {
-        false
-    } else {
-        (n as usize) < nodes
-    }
-}
-
 // The tag of node `n`, 0 where there is no such node.
-pub fn tag_at(nodes: &[u32], n: u32) -> u32
-    ensures { λ r. ⌜ r ≡ tagIn (draftOf (now (nodes .entry)) [] [] [] [] [] []) n ⌝ }
+pub fn tag_at(nodes: &[u32], n: u32, source: Source) -> u32
+    ensures { λ r. ⌜ r ≡ tagIn (draftOf (source .version) (now (nodes .entry)) [] [] [] [] [] []) n ⌝ }
 {
-    if is_node(nodes.len() / 10, n) {
-        word(nodes, n as usize * 10 + 2)
+    if image::is_inside(node_count(nodes, source), n) {
+        node_word(nodes, n as usize, 2, source)
     } else {
         0
     }

@@ -3,15 +3,17 @@ ghost use mathlib.Core.Path.{_≡_};
 ghost use mathlib.Core.List.{List, []};
 ghost use Prim.Native.Nat.{ℕ};
 ghost use Rattle.laws.specs.Refusal.{unless, _▸_, firstOf};
-ghost use Rattle.image.specs.Sections.{Sections, nodeCount, childCount, namedCount, definitionCount, itemCount, goodIn};
+ghost use Rattle.image.specs.Sections.{Sections, insideAmong, nodeCount, childCount, namedCount, definitionCount, itemCount, goodIn};
 ghost use Rattle.image.specs.Entries.{nodeIn};
 ghost use Rattle.records.specs.Records.{usedUp};
-ghost use Rattle.records.specs.Shown.{sumsBefore, insideAmong, startsNext};
+ghost use Rattle.records.specs.Shown.{sumsBefore, startsNext};
 ghost use Rattle.index.specs.Definitions.{itemsUsedUp};
 ghost use Rattle.draft.specs.Source.{NodesFrom, draftOf};
 ghost use Rattle.draft.specs.Draft.{wholeEntries, draftNodeRule, draftChildRule, draftNamedRule, draftDefinitionRule, draftItemRule, tablesRule};
 use crate::source;
+use crate::source::Source;
 use image::Definition;
+use image::ImageView;
 use image::NodeRecord;
 use image::TextEntry;
 use image::refusal::BAD_DRAFT;
@@ -19,22 +21,29 @@ use records::Counts;
 use records::Sums;
 
 // Whether each section is whole entries, and there is a node.
-fn whole_entries(nodes: &[u32], named: &[u32], definitions: &[u32], items: &[u32]) -> bool
-    ensures { λ r. ⌜ r ≡ wholeEntries (draftOf (now (nodes .entry)) [] (now (named .entry)) (now (definitions .entry)) (now (items .entry)) [] []) ⌝ }
+fn whole_entries(
+    nodes: &[u32],
+    named: &[u32],
+    definitions: &[u32],
+    items: &[u32],
+    source: Source,
+) -> bool
+    ensures { λ r. ⌜ (let s = draftOf (source .version) (now (nodes .entry)) [] (now (named .entry)) (now (definitions .entry)) (now (items .entry)) [] [] in
+        r ≡ wholeEntries s) ⌝ }
 {
-    if nodes.len() % 10 != 0 {
+    if nodes.len() % source::node_words(source) != 0 {
         return false;
     }
-    if named.len() % 3 != 0 {
+    if named.len() % ImageView::TEXT_ENTRY_WORDS != 0 {
         return false;
     }
-    if definitions.len() % 4 != 0 {
+    if definitions.len() % ImageView::DEFINITION_WORDS != 0 {
         return false;
     }
-    if items.len() % 3 != 0 {
+    if items.len() % ImageView::TEXT_ENTRY_WORDS != 0 {
         return false;
     }
-    nodes.len() / 10 != 0
+    source::node_count(nodes, source) != 0
 }
 
 // The rules of node `i`: those of its fields, and that its parent is a node, the root aside.
@@ -46,17 +55,19 @@ fn node_rule(
     sums: Sums,
     i: usize,
     node: NodeRecord,
+    source: Source,
 ) -> u32
-    ensures { λ r. ⌜ ((s : Sections) → NodesFrom s (now (nodes .entry)) (now (payload .entry)) (now (strings .entry)) counts → sums ≡ sumsBefore s i → node ≡ nodeIn s i → r ≡ draftNodeRule s i) ⌝ }
+    ensures { λ r. ⌜ ((s : Sections) → NodesFrom s (source .version) (now (nodes .entry)) (now (payload .entry)) (now (strings .entry)) counts
+        → sums ≡ sumsBefore s i → node ≡ nodeIn s i → r ≡ draftNodeRule s i) ⌝ }
 {
-    let target_tag = source::tag_at(nodes, records::target_of(node));
+    let target_tag = source::tag_at(nodes, records::target_of(node), source);
     if records::fields_rule(node, counts, sums, target_tag, payload, strings) != 0 {
         return BAD_DRAFT;
     }
     if i == 0 {
         return 0;
     }
-    if source::is_node(counts.nodes, node.parent) {
+    if image::is_inside(counts.nodes, node.parent) {
         0
     } else {
         BAD_DRAFT
@@ -64,13 +75,23 @@ fn node_rule(
 }
 
 // The rules of every node, and that they use up the ordered children, the named ones and the payload.
-fn nodes_rule(nodes: &[u32], children: &[u32], named: &[u32], payload: &[u8], strings: &[u8]) -> u32
-    ensures { λ r. ⌜ ((ds is : List ℕ) → r ≡ (firstOf (nodeCount (draftOf (now (nodes .entry)) (now (children .entry)) (now (named .entry)) ds is (now (payload .entry)) (now (strings .entry)))) (draftNodeRule (draftOf (now (nodes .entry)) (now (children .entry)) (now (named .entry)) ds is (now (payload .entry)) (now (strings .entry)))) ▸ unless (usedUp (draftOf (now (nodes .entry)) (now (children .entry)) (now (named .entry)) ds is (now (payload .entry)) (now (strings .entry)))) 19)) ⌝ }
+fn nodes_rule(
+    nodes: &[u32],
+    children: &[u32],
+    named: &[u32],
+    payload: &[u8],
+    strings: &[u8],
+    source: Source,
+) -> u32
+    ensures { λ r. ⌜ ((ds is : List ℕ)
+        → (let s = draftOf (source .version) (now (nodes .entry)) (now (children .entry)) (now (named .entry)) ds is
+        (now (payload .entry)) (now (strings .entry)) in
+        r ≡ (firstOf (nodeCount s) (draftNodeRule s) ▸ unless (usedUp s) 19))) ⌝ }
 {
     let counts = Counts {
-        nodes: nodes.len() / 10,
+        nodes: source::node_count(nodes, source),
         children: children.len(),
-        named: named.len() / 3,
+        named: named.len() / ImageView::TEXT_ENTRY_WORDS,
     };
     let mut sums = Sums {
         children: 0,
@@ -80,8 +101,8 @@ fn nodes_rule(nodes: &[u32], children: &[u32], named: &[u32], payload: &[u8], st
     };
     let mut i = 0;
     while i < counts.nodes {
-        let node = source::node_at(nodes, i);
-        if node_rule(nodes, payload, strings, counts, sums, i, node) != 0 {
+        let node = source::node_at(nodes, i, source);
+        if node_rule(nodes, payload, strings, counts, sums, i, node, source) != 0 {
             return BAD_DRAFT;
         }
         sums = records::add(sums, node);
@@ -95,13 +116,14 @@ fn nodes_rule(nodes: &[u32], children: &[u32], named: &[u32], payload: &[u8], st
 }
 
 // Every ordered child is a node.
-fn children_rule(nodes: &[u32], children: &[u32]) -> u32
-    ensures { λ r. ⌜ r ≡ firstOf (childCount (draftOf (now (nodes .entry)) (now (children .entry)) [] [] [] [] [])) (draftChildRule (draftOf (now (nodes .entry)) (now (children .entry)) [] [] [] [] [])) ⌝ }
+fn children_rule(nodes: &[u32], children: &[u32], source: Source) -> u32
+    ensures { λ r. ⌜ (let s = draftOf (source .version) (now (nodes .entry)) (now (children .entry)) [] [] [] [] [] in
+        r ≡ firstOf (childCount s) (draftChildRule s)) ⌝ }
 {
-    let count = nodes.len() / 10;
+    let count = source::node_count(nodes, source);
     let mut j = 0;
     while j < children.len() {
-        if !source::is_node(count, children[j]) {
+        if !image::is_inside(count, children[j]) {
             return BAD_DRAFT;
         }
         j += 1;
@@ -111,12 +133,13 @@ fn children_rule(nodes: &[u32], children: &[u32]) -> u32
 
 // A named entry, where there are so many nodes: its text is good, and it names a node.
 fn entry_rule(entry: TextEntry, nodes: usize, strings: &[u8]) -> u32
-    ensures { λ r. ⌜ r ≡ (unless (goodIn (now (strings .entry)) (entry .offset) (entry .len)) 19 ▸ unless (insideAmong nodes (entry .value)) 19) ⌝ }
+    ensures { λ r. ⌜ r ≡ (unless (goodIn (now (strings .entry)) (entry .offset) (entry .len)) 19
+        ▸ unless (insideAmong nodes (entry .value)) 19) ⌝ }
 {
     if !image::good_text(strings, entry.offset, entry.len) {
         return BAD_DRAFT;
     }
-    if source::is_node(nodes, entry.value) {
+    if image::is_inside(nodes, entry.value) {
         0
     } else {
         BAD_DRAFT
@@ -124,11 +147,12 @@ fn entry_rule(entry: TextEntry, nodes: usize, strings: &[u8]) -> u32
 }
 
 // The rules of every named entry.
-fn named_rule(nodes: &[u32], named: &[u32], strings: &[u8]) -> u32
-    ensures { λ r. ⌜ r ≡ firstOf (namedCount (draftOf (now (nodes .entry)) [] (now (named .entry)) [] [] [] (now (strings .entry)))) (draftNamedRule (draftOf (now (nodes .entry)) [] (now (named .entry)) [] [] [] (now (strings .entry)))) ⌝ }
+fn named_rule(nodes: &[u32], named: &[u32], strings: &[u8], source: Source) -> u32
+    ensures { λ r. ⌜ (let s = draftOf (source .version) (now (nodes .entry)) [] (now (named .entry)) [] [] [] (now (strings .entry)) in
+        r ≡ firstOf (namedCount s) (draftNamedRule s)) ⌝ }
 {
-    let nodes = nodes.len() / 10;
-    let count = named.len() / 3;
+    let nodes = source::node_count(nodes, source);
+    let count = named.len() / ImageView::TEXT_ENTRY_WORDS;
     let mut j = 0;
     while j < count {
         let refused = entry_rule(source::entry_at(named, j), nodes, strings);
@@ -142,7 +166,8 @@ fn named_rule(nodes: &[u32], named: &[u32], strings: &[u8]) -> u32
 
 // A definition, where the ones before it use so many of all the items: its text is good, and its items follow theirs.
 fn definition_rule(definition: Definition, used: usize, items: usize, strings: &[u8]) -> u32
-    ensures { λ r. ⌜ r ≡ (unless (goodIn (now (strings .entry)) (definition .offset) (definition .len)) 19 ▸ unless (startsNext (definition .first) (definition .count) used items) 19) ⌝ }
+    ensures { λ r. ⌜ r ≡ (unless (goodIn (now (strings .entry)) (definition .offset) (definition .len)) 19
+        ▸ unless (startsNext (definition .first) (definition .count) used items) 19) ⌝ }
 {
     if !image::good_text(strings, definition.offset, definition.len) {
         return BAD_DRAFT;
@@ -156,10 +181,11 @@ fn definition_rule(definition: Definition, used: usize, items: usize, strings: &
 
 // The rules of every definition, and that they use up the items.
 fn definitions_rule(definitions: &[u32], items: &[u32], strings: &[u8]) -> u32
-    ensures { λ r. ⌜ r ≡ (firstOf (definitionCount (draftOf [] [] [] (now (definitions .entry)) (now (items .entry)) [] (now (strings .entry)))) (draftDefinitionRule (draftOf [] [] [] (now (definitions .entry)) (now (items .entry)) [] (now (strings .entry)))) ▸ unless (itemsUsedUp (draftOf [] [] [] (now (definitions .entry)) (now (items .entry)) [] (now (strings .entry)))) 19) ⌝ }
+    ensures { λ r. ⌜ (let s = draftOf 0 [] [] [] (now (definitions .entry)) (now (items .entry)) [] (now (strings .entry)) in
+        r ≡ (firstOf (definitionCount s) (draftDefinitionRule s) ▸ unless (itemsUsedUp s) 19)) ⌝ }
 {
-    let count = definitions.len() / 4;
-    let all = items.len() / 3;
+    let count = definitions.len() / ImageView::DEFINITION_WORDS;
+    let all = items.len() / ImageView::TEXT_ENTRY_WORDS;
     let mut used = 0;
     let mut d = 0;
     while d < count {
@@ -175,9 +201,9 @@ fn definitions_rule(definitions: &[u32], items: &[u32], strings: &[u8]) -> u32
 
 // The text of every item is good.
 fn items_rule(items: &[u32], strings: &[u8]) -> u32
-    ensures { λ r. ⌜ r ≡ firstOf (itemCount (draftOf [] [] [] [] (now (items .entry)) [] (now (strings .entry)))) (draftItemRule (draftOf [] [] [] [] (now (items .entry)) [] (now (strings .entry)))) ⌝ }
+    ensures { λ r. ⌜ (let s = draftOf 0 [] [] [] [] (now (items .entry)) [] (now (strings .entry)) in r ≡ firstOf (itemCount s) (draftItemRule s)) ⌝ }
 {
-    let count = items.len() / 3;
+    let count = items.len() / ImageView::TEXT_ENTRY_WORDS;
     let mut j = 0;
     while j < count {
         let item = source::entry_at(items, j);
@@ -198,21 +224,24 @@ pub fn tables_rule(
     items: &[u32],
     payload: &[u8],
     strings: &[u8],
+    source: Source,
 ) -> u32
-    ensures { λ r. ⌜ r ≡ tablesRule (draftOf (now (nodes .entry)) (now (children .entry)) (now (named .entry)) (now (definitions .entry)) (now (items .entry)) (now (payload .entry)) (now (strings .entry))) ⌝ }
+    ensures { λ r. ⌜ (let s = draftOf (source .version) (now (nodes .entry)) (now (children .entry)) (now (named .entry)) (now (definitions .entry))
+        (now (items .entry)) (now (payload .entry)) (now (strings .entry)) in
+        r ≡ tablesRule s) ⌝ }
 {
-    if !whole_entries(nodes, named, definitions, items) {
+    if !whole_entries(nodes, named, definitions, items, source) {
         return BAD_DRAFT;
     }
-    let refused = nodes_rule(nodes, children, named, payload, strings);
+    let refused = nodes_rule(nodes, children, named, payload, strings, source);
     if refused != 0 {
         return refused;
     }
-    let refused = children_rule(nodes, children);
+    let refused = children_rule(nodes, children, source);
     if refused != 0 {
         return refused;
     }
-    let refused = named_rule(nodes, named, strings);
+    let refused = named_rule(nodes, named, strings, source);
     if refused != 0 {
         return refused;
     }

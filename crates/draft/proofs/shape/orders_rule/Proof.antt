@@ -11,7 +11,7 @@ use Rattle.draft.proofs.shape.orders_rule.Statement.{statement}
 use Rattle.draft.proofs.shape.orders_rule.Tie as tie
 
 abbrev Inv-loop : tie.InvT-loop
-Inv-loop definitions items strings count d₀ d = (d ≤ count) × (firstOf d (orderRule (draftOf [] [] [] definitions items [] strings)) ≡ 0)
+Inv-loop definitions items strings count d₀ d = (d ≤ count) × (firstOf d (orderRule (draftOf 0 [] [] [] definitions items [] strings)) ≡ 0)
 
 abbrev μ-loop : tie.MeasureT-loop
 μ-loop definitions items strings count d₀ d = count - d

@@ -13,10 +13,12 @@ use Rattle.draft.proofs.shape.right_children.Statement.{statement}
 use Rattle.draft.proofs.shape.right_children.Tie as tie
 
 abbrev Inv-loop : tie.InvT-loop
-Inv-loop nodes children id start count j₀ j = (j ≤ count) × (allOf j (λ k. rightChild (draftOf nodes [] [] [] [] [] []) (getD children (start + k) 0) id k) ≡ true)
+Inv-loop nodes children id start count source j₀ j =
+    let s = draftOf (source .version) nodes [] [] [] [] [] [] in
+    (j ≤ count) × (allOf j (λ k. rightChild s (getD children (start + k) 0) id k) ≡ true)
 
 abbrev μ-loop : tie.MeasureT-loop
-μ-loop nodes children id start count j₀ j = count - j
+μ-loop nodes children id start count source j₀ j = count - j
 
 loop-holds : tie.Need-loop-holds Inv-loop μ-loop
 loop-holds c = (search needs, all-starts _)

@@ -10,10 +10,10 @@ use Rattle.draft.proofs.shape.right_entries.Statement.{statement}
 use Rattle.draft.proofs.shape.right_entries.Tie as tie
 
 abbrev Inv-loop : tie.InvT-loop
-Inv-loop nodes named strings id first count j₀ j = (j ≤ count) × (allOf j (namedRight nodes named strings id first) ≡ true)
+Inv-loop nodes named strings id first count source j₀ j = (j ≤ count) × (allOf j (namedRight (source .version) nodes named strings id first) ≡ true)
 
 abbrev μ-loop : tie.MeasureT-loop
-μ-loop nodes named strings id first count j₀ j = count - j
+μ-loop nodes named strings id first count source j₀ j = count - j
 
 loop-holds : tie.Need-loop-holds Inv-loop μ-loop
 loop-holds c = (search needs, all-starts _)

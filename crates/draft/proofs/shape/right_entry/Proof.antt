@@ -8,7 +8,7 @@ entry-rises-requires : tie.Need-entry-rises-requires
 entry-rises-requires c κs = search needs
 
 returns : tie.Need-returns
-returns c = entry-falls _ _ _ _ _ _ _ (c .before .entry-rises .ensures) (c .if1 .taken)
+returns c = entry-falls _ _ _ _ _ _ _ _ (c .before .entry-rises .ensures) (c .if1 .taken)
 
 add-entry-at : tie.Need-add-entry-at
 add-entry-at c = search needs
@@ -21,7 +21,7 @@ right-container-requires c κs = search needs
 
 returns-2 : tie.Need-returns-2
 returns-2 c =
-    entry-leads _ _ _ _ _ _ _ (c .before .before .before .entry-rises .ensures) (c .before .before .if1 .left) _ _ (c .before .entry-at .ensures) (c .right-container .ensures)
+    entry-leads _ _ _ _ _ _ _ _ (c .before .before .before .entry-rises .ensures) (c .before .before .if1 .left) _ _ (c .before .entry-at .ensures) (c .right-container .ensures)
 
 pub right-entry-spec : {M : Type 1} → statement M
 right-entry-spec =

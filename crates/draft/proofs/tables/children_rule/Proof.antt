@@ -1,5 +1,5 @@
 -- `draft::tables::children_rule` meets its contract. The invariant: the children before `j` pass.
-use Prim.Native.Nat.{_≤_, _-_}
+use Prim.Native.Nat.{ℕ, _/_, _≤_, _-_}
 use mathlib.Core.Path.{_≡_}
 use mathlib.Core.List.{[]}
 use native.Mathlib.Omega.{arith}
@@ -7,6 +7,7 @@ use lib.ListN.{length}
 use borrow.Author.Needs.{needs}
 use Rattle.laws.specs.Refusal.{firstOf}
 use Rattle.index.proofs.RuleRuns.{run-starts, run-ends}
+use Rattle.image.specs.Sections.{nodeWords}
 use Rattle.draft.specs.Source.{draftOf}
 use Rattle.draft.specs.Draft.{draftChildRule}
 use Rattle.draft.proofs.EntryTables.{child-told, test-stops, test-goes}
@@ -14,26 +15,34 @@ use Rattle.draft.proofs.tables.children_rule.Statement.{statement}
 use Rattle.draft.proofs.tables.children_rule.Tie as tie
 
 abbrev Inv-loop : tie.InvT-loop
-Inv-loop nodes children count j₀ j = (j ≤ length children) × (firstOf j (draftChildRule (draftOf nodes children [] [] [] [] [])) ≡ 0)
+Inv-loop nodes children count j₀ j =
+    (j ≤ length children)
+    × ((v : ℕ) → count ≡ length nodes / nodeWords v → firstOf j (draftChildRule (draftOf v nodes children [] [] [] [] [])) ≡ 0)
 
 abbrev μ-loop : tie.MeasureT-loop
 μ-loop nodes children count j₀ j = length children - j
 
+node-count-requires : tie.Need-node-count-requires Inv-loop μ-loop
+node-count-requires c κs = search needs
+
 loop-holds : tie.Need-loop-holds Inv-loop μ-loop
-loop-holds c = (search needs, run-starts _)
+loop-holds c = (search needs, λ v e. run-starts _)
 
-mul-is-node : tie.Need-mul-is-node Inv-loop μ-loop
-mul-is-node c = search needs
+mul-is-inside : tie.Need-mul-is-inside Inv-loop μ-loop
+mul-is-inside c = search needs
 
-shared-slice-read-is-node : tie.Need-shared-slice-read-is-node Inv-loop μ-loop
-shared-slice-read-is-node c = search needs
+shared-slice-read-is-inside : tie.Need-shared-slice-read-is-inside Inv-loop μ-loop
+shared-slice-read-is-inside c = search needs
 
-is-node-requires : tie.Need-is-node-requires Inv-loop μ-loop
-is-node-requires c κs = search needs
+is-inside-requires : tie.Need-is-inside-requires Inv-loop μ-loop
+is-inside-requires c κs = search needs
 
 returns : tie.Need-returns Inv-loop μ-loop
 returns c =
-    test-stops _ _ _ _ (c .before .before .before .before .loop .inv .1) (child-told _ _ _ _ (c .before .is-node .ensures)) _ (c .before .before .before .loop-test .taken) (λ z. omega arith) (c .if1 .taken)
+    let loop = c .before .before .before .before in
+    let count = loop .before .node-count .ensures in
+    let child = child-told _ _ _ _ count _ _ (c .before .is-inside .ensures) in
+    test-stops _ _ _ _ (loop .loop .inv .1 _ count) child _ (c .before .before .before .loop-test .taken) (λ z. omega arith) (c .if1 .taken)
 
 add-j : tie.Need-add-j Inv-loop μ-loop
 add-j c = search needs
@@ -42,10 +51,16 @@ loop-less : tie.Need-loop-less Inv-loop μ-loop
 loop-less c = search needs
 
 loop-again : tie.Need-loop-again Inv-loop μ-loop
-loop-again c = (search needs, test-goes _ _ _ _ (c .before .before .before .before .loop .inv .1) (child-told _ _ _ _ (c .before .is-node .ensures)) (c .if1 .left))
+loop-again c =
+    let passed = c .before .before .before .before .loop .inv .1 in (
+      search needs,
+      λ v e. test-goes _ _ _ _ (passed v e) (child-told v _ _ _ e _ _ (c .before .is-inside .ensures)) (c .if1 .left),
+    )
 
 returns-2 : tie.Need-returns-2 Inv-loop μ-loop
-returns-2 c = run-ends _ _ _ (c .before .loop .inv .0) (c .loop-test .left) (c .before .loop .inv .1)
+returns-2 c =
+    let passed = c .before .loop .inv in
+    run-ends _ _ _ (passed .0) (c .loop-test .left) (passed .1 _ (c .before .before .node-count .ensures))
 
 pub children-rule-spec : {M : Type 1} → statement M
 children-rule-spec =
@@ -53,10 +68,11 @@ children-rule-spec =
     (tie.spec
     Inv-loop
     μ-loop
+    node-count-requires
     loop-holds
-    mul-is-node
-    shared-slice-read-is-node
-    is-node-requires
+    mul-is-inside
+    shared-slice-read-is-inside
+    is-inside-requires
     returns
     add-j
     loop-less

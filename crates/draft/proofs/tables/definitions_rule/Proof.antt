@@ -15,8 +15,8 @@ use Rattle.draft.proofs.tables.definitions_rule.Tie as tie
 
 abbrev Inv-loop : tie.InvT-loop
 Inv-loop definitions items strings count all used₀ d₀ used d =
-    (d ≤ count) × (used ≡ itemsBefore (draftOf [] [] [] definitions items [] strings) d)
-    × (firstOf d (draftDefinitionRule (draftOf [] [] [] definitions items [] strings)) ≡ 0)
+    (d ≤ count) × (used ≡ itemsBefore (draftOf 0 [] [] [] definitions items [] strings) d)
+    × (firstOf d (draftDefinitionRule (draftOf 0 [] [] [] definitions items [] strings)) ≡ 0)
 
 abbrev μ-loop : tie.MeasureT-loop
 μ-loop definitions items strings count all used₀ d₀ used d = count - d

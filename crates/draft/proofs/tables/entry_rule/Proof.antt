@@ -12,17 +12,17 @@ good-text-requires c κs = search needs
 returns : tie.Need-returns
 returns c = stop _ _ _ _ refl (c .before .good-text .ensures) (c .if1 .taken)
 
-is-node-requires : tie.Need-is-node-requires
-is-node-requires c κs = search needs
+is-inside-requires : tie.Need-is-inside-requires
+is-inside-requires c κs = search needs
 
 returns-2 : tie.Need-returns-2
 returns-2 c =
-    go _ _ _ _ _ (c .before .before .before .good-text .ensures) (c .before .before .if1 .left) (last-yes _ _ _ (c .before .is-node .ensures) (c .if2 .taken))
+    go _ _ _ _ _ (c .before .before .before .good-text .ensures) (c .before .before .if1 .left) (last-yes _ _ _ (c .before .is-inside .ensures) (c .if2 .taken))
 
 returns-3 : tie.Need-returns-3
 returns-3 c =
-    go _ _ _ _ _ (c .before .before .before .good-text .ensures) (c .before .before .if1 .left) (last-no _ _ _ (c .before .is-node .ensures) (c .if2 .left))
+    go _ _ _ _ _ (c .before .before .before .good-text .ensures) (c .before .before .if1 .left) (last-no _ _ _ (c .before .is-inside .ensures) (c .if2 .left))
 
 pub entry-rule-spec : {M : Type 1} → statement M
 entry-rule-spec =
-    tie.close (tie.spec good-text-requires returns is-node-requires returns-2 returns-3)
+    tie.close (tie.spec good-text-requires returns is-inside-requires returns-2 returns-3)

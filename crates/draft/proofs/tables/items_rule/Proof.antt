@@ -13,7 +13,7 @@ use Rattle.draft.proofs.tables.items_rule.Statement.{statement}
 use Rattle.draft.proofs.tables.items_rule.Tie as tie
 
 abbrev Inv-loop : tie.InvT-loop
-Inv-loop items strings count j₀ j = (j ≤ count) × (firstOf j (draftItemRule (draftOf [] [] [] [] items [] strings)) ≡ 0)
+Inv-loop items strings count j₀ j = (j ≤ count) × (firstOf j (draftItemRule (draftOf 0 [] [] [] [] items [] strings)) ≡ 0)
 
 abbrev μ-loop : tie.MeasureT-loop
 μ-loop items strings count j₀ j = count - j

@@ -1,10 +1,12 @@
 -- `draft::tables::named_rule` meets its contract. The invariant: the entries before `j` pass.
-use Prim.Native.Nat.{_≤_, _-_}
+use Prim.Native.Nat.{ℕ, _/_, _≤_, _-_}
 use mathlib.Core.Path.{_≡_}
 use mathlib.Core.List.{[]}
 use borrow.Author.Needs.{needs}
 use Rattle.laws.specs.Refusal.{firstOf}
 use Rattle.index.proofs.RuleRuns.{run-starts, run-stops, run-goes, run-ends}
+use lib.ListN.{length}
+use Rattle.image.specs.Sections.{nodeWords}
 use Rattle.draft.specs.Source.{draftOf}
 use Rattle.draft.specs.Draft.{draftNamedRule}
 use Rattle.draft.proofs.EntryTables.{entry-told}
@@ -12,13 +14,18 @@ use Rattle.draft.proofs.tables.named_rule.Statement.{statement}
 use Rattle.draft.proofs.tables.named_rule.Tie as tie
 
 abbrev Inv-loop : tie.InvT-loop
-Inv-loop nodes named strings nodes' count j₀ j = (j ≤ count) × (firstOf j (draftNamedRule (draftOf nodes [] named [] [] [] strings)) ≡ 0)
+Inv-loop nodes named strings all count j₀ j =
+    (j ≤ count)
+    × ((v : ℕ) → all ≡ length nodes / nodeWords v → firstOf j (draftNamedRule (draftOf v nodes [] named [] [] [] strings)) ≡ 0)
 
 abbrev μ-loop : tie.MeasureT-loop
-μ-loop nodes named strings nodes' count j₀ j = count - j
+μ-loop nodes named strings all count j₀ j = count - j
+
+node-count-requires : tie.Need-node-count-requires Inv-loop μ-loop
+node-count-requires c κs = search needs
 
 loop-holds : tie.Need-loop-holds Inv-loop μ-loop
-loop-holds c = (search needs, run-starts _)
+loop-holds c = (search needs, λ v e. run-starts _)
 
 entry-at-requires : tie.Need-entry-at-requires Inv-loop μ-loop
 entry-at-requires c κs = search needs
@@ -28,8 +35,10 @@ entry-rule-requires c κs = search needs
 
 returns : tie.Need-returns Inv-loop μ-loop
 returns c =
-    run-stops _ _ _ _ (c .before .before .before .loop-test .taken) (c .before .before .before .before .loop .inv .1) (entry-told _ _ _ _ _ _ (c .before .before .entry-at .ensures) (c .before .entry-rule .ensures))
-    (c .if1 .taken)
+    let loop = c .before .before .before .before in
+    let count = loop .before .node-count .ensures in
+    let entry = entry-told _ _ _ _ _ count _ _ _ (c .before .before .entry-at .ensures) (c .before .entry-rule .ensures) in
+    run-stops _ _ _ _ (c .before .before .before .loop-test .taken) (loop .loop .inv .1 _ count) entry (c .if1 .taken)
 
 add-j : tie.Need-add-j Inv-loop μ-loop
 add-j c = search needs
@@ -38,13 +47,18 @@ loop-less : tie.Need-loop-less Inv-loop μ-loop
 loop-less c = search needs
 
 loop-again : tie.Need-loop-again Inv-loop μ-loop
-loop-again c = (
-  search needs,
-  run-goes _ _ _ (c .before .before .before .before .loop .inv .1) (entry-told _ _ _ _ _ _ (c .before .before .entry-at .ensures) (c .before .entry-rule .ensures)) (c .if1 .left),
-)
+loop-again c =
+    let passed = c .before .before .before .before .loop .inv .1 in (
+      search needs,
+      λ v e.
+          let entry = entry-told v _ _ _ _ e _ _ _ (c .before .before .entry-at .ensures) (c .before .entry-rule .ensures) in
+          run-goes _ _ _ (passed v e) entry (c .if1 .left),
+    )
 
 returns-2 : tie.Need-returns-2 Inv-loop μ-loop
-returns-2 c = run-ends _ _ _ (c .before .loop .inv .0) (c .loop-test .left) (c .before .loop .inv .1)
+returns-2 c =
+    let passed = c .before .loop .inv in
+    run-ends _ _ _ (passed .0) (c .loop-test .left) (passed .1 _ (c .before .before .node-count .ensures))
 
 pub named-rule-spec : {M : Type 1} → statement M
 named-rule-spec =
@@ -52,6 +66,7 @@ named-rule-spec =
     (tie.spec
     Inv-loop
     μ-loop
+    node-count-requires
     loop-holds
     entry-at-requires
     entry-rule-requires

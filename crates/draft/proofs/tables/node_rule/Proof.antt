@@ -28,8 +28,8 @@ returns-2 c =
     (fields-told s _ _ _ _ g _ _ node _ _ _ sums (c .before .before .before .before .target-of .ensures) (c .before .before .before .tag-at .ensures)))
     (c .before .if1 .left) (c .if2 .taken)
 
-is-node-requires : tie.Need-is-node-requires
-is-node-requires c κs = search needs
+is-inside-requires : tie.Need-is-inside-requires
+is-inside-requires c κs = search needs
 
 returns-3 : tie.Need-returns-3
 returns-3 c =
@@ -38,7 +38,7 @@ returns-3 c =
     (c .before .before .before .before .fields-rule .ensures s _
     (fields-told s _ _ _ _ g _ _ node _ _ _ sums (c .before .before .before .before .before .before .target-of .ensures)
     (c .before .before .before .before .before .tag-at .ensures)))
-    (c .before .before .before .if1 .left) (c .before .before .if2 .left) _ (c .before .is-node .ensures) (c .if3 .taken)
+    (c .before .before .before .if1 .left) (c .before .before .if2 .left) _ (c .before .is-inside .ensures) (c .if3 .taken)
 
 returns-4 : tie.Need-returns-4
 returns-4 c =
@@ -47,7 +47,7 @@ returns-4 c =
     (c .before .before .before .before .fields-rule .ensures s _
     (fields-told s _ _ _ _ g _ _ node _ _ _ sums (c .before .before .before .before .before .before .target-of .ensures)
     (c .before .before .before .before .before .tag-at .ensures)))
-    (c .before .before .before .if1 .left) (c .before .before .if2 .left) _ (c .before .is-node .ensures) (c .if3 .left)
+    (c .before .before .before .if1 .left) (c .before .before .if2 .left) _ (c .before .is-inside .ensures) (c .if3 .left)
 
 pub node-rule-spec : {M : Type 1} → statement M
 node-rule-spec =
@@ -58,6 +58,6 @@ node-rule-spec =
     fields-rule-requires
     returns
     returns-2
-    is-node-requires
+    is-inside-requires
     returns-3
     returns-4)

@@ -6,22 +6,26 @@ use mathlib.Core.List.{List, []}
 use native.Mathlib.Omega.{arith}
 use borrow.Author.Needs.{needs}
 use Rattle.draft.specs.Source.{draftOf}
-use Rattle.draft.proofs.NodeTable.{Passing, passing-start, passing-next, given, few, fields-pass, node-is, refused-here, all-summed, all-used, left-over}
+use Rattle.draft.proofs.NodeTable.{Passing, passing-start, passing-next, counts-are, given, few, fields-pass, node-is, refused-here, all-summed, all-used, left-over}
+use Rattle.draft.proofs.NodeCount.{below-count, upto-count, past-count}
 use Rattle.draft.proofs.tables.nodes_rule.Statement.{statement}
 use Rattle.draft.proofs.tables.nodes_rule.Tie as tie
 
 abbrev Inv-loop : tie.InvT-loop
-Inv-loop nodes children named payload strings counts sums₀ i₀ sums i =
-    (i ≤ counts .nodes) × ((ds is : List ℕ) → Passing (draftOf nodes children named ds is payload strings) i sums)
+Inv-loop nodes children named payload strings source counts sums₀ i₀ sums i =
+    (i ≤ counts .nodes) × ((ds is : List ℕ) → Passing (draftOf (source .version) nodes children named ds is payload strings) i sums)
 
 abbrev μ-loop : tie.MeasureT-loop
-μ-loop nodes children named payload strings counts sums₀ i₀ sums i = counts .nodes - i
+μ-loop nodes children named payload strings source counts sums₀ i₀ sums i = counts .nodes - i
+
+node-count-requires : tie.Need-node-count-requires Inv-loop μ-loop
+node-count-requires c κs = search needs
 
 loop-holds : tie.Need-loop-holds Inv-loop μ-loop
 loop-holds c = (search needs, λ ds is. passing-start _)
 
 node-at-requires : tie.Need-node-at-requires Inv-loop μ-loop
-node-at-requires c κs = search needs
+node-at-requires c κs = below-count _ _ (c .before .before .before .node-count .ensures) _ (c .if1 .taken)
 
 node-rule-requires : tie.Need-node-rule-requires Inv-loop μ-loop
 node-rule-requires c κs = search needs
@@ -29,9 +33,11 @@ node-rule-requires c κs = search needs
 returns : tie.Need-returns Inv-loop μ-loop
 returns c =
     λ ds is.
-    let p = c .before .before .before .before .before .loop .inv .1 ds is in
-    refused-here _ _ _ p _ (c .before .before .before .if1 .taken)
-    (c .before .node-rule .ensures _ (given _ _ _ ds is _ _) (p .summed) (node-is _ _ _ ds is _ _ _ _ (c .before .before .node-at .ensures))) (c .if2 .taken)
+    let loop = c .before .before .before .before .before in
+    let count = loop .before .node-count .ensures in
+    let p = loop .loop .inv .1 ds is in
+    refused-here _ _ _ p _ (below-count _ _ count _ (c .before .before .before .if1 .taken))
+    (c .before .node-rule .ensures _ (given _ _ _ _ ds is _ _ _ count) (p .summed) (node-is _ _ _ _ ds is _ _ _ _ (c .before .before .node-at .ensures))) (c .if2 .taken)
 
 add-requires : tie.Need-add-requires Inv-loop μ-loop
 add-requires c κs = let h = few _ _ _ (c .before .before .before .before .before .loop .inv .1 [] []) in omega arith
@@ -46,9 +52,10 @@ loop-again : tie.Need-loop-again Inv-loop μ-loop
 loop-again c = (
   search needs,
   λ ds is.
-      let p = c .before .before .before .before .before .before .loop .inv .1 ds is in
-      let node = node-is _ _ _ ds is _ _ _ _ (c .before .before .before .node-at .ensures) in
-      let passes = sym (c .before .before .node-rule .ensures _ (given _ _ _ ds is _ _) (p .summed) node) ∙ c .before .if2 .left in
+      let loop = c .before .before .before .before .before .before in
+      let p = loop .loop .inv .1 ds is in
+      let node = node-is _ _ _ _ ds is _ _ _ _ (c .before .before .before .node-at .ensures) in
+      let passes = sym (c .before .before .node-rule .ensures _ (given _ _ _ _ ds is _ _ _ (loop .before .node-count .ensures)) (p .summed) node) ∙ c .before .if2 .left in
       passing-next _ _ _ p _ passes (c .add .ensures _ _ (p .summed) node (fields-pass _ _ passes)),
 )
 
@@ -58,18 +65,28 @@ used-up-requires c κs = search needs
 returns-2 : tie.Need-returns-2 Inv-loop μ-loop
 returns-2 c =
     λ ds is.
-    let p = c .before .before .before .before .loop .inv .1 ds is in
-    let h = c .before .before .before .before .loop .inv .0 in
-    let k = c .before .before .if1 .left in
-    all-used _ _ _ p h k _ (c .before .used-up .ensures _ (all-summed _ _ _ p h k) refl refl) (c .if3 .taken)
+    let loop = c .before .before .before .before in
+    let count = loop .before .node-count .ensures in
+    let p = loop .loop .inv .1 ds is in
+    let h = upto-count _ _ count _ (loop .loop .inv .0) in
+    let k = past-count _ _ count _ (c .before .before .if1 .left) in
+    let to = loop .before .before .before .before .before .before .before .args in
+    let told = counts-are (to .source .version) (to .nodes .now) (to .children .now) (to .named .now) ds is (to .payload .now) (to .strings .now) _ count in
+    let used = c .before .used-up .ensures _ (all-summed _ _ _ p h k) told refl in
+    all-used _ _ _ p h k _ used (c .if3 .taken)
 
 returns-3 : tie.Need-returns-3 Inv-loop μ-loop
 returns-3 c =
     λ ds is.
-    let p = c .before .before .before .before .loop .inv .1 ds is in
-    let h = c .before .before .before .before .loop .inv .0 in
-    let k = c .before .before .if1 .left in
-    left-over _ _ _ p h k _ (c .before .used-up .ensures _ (all-summed _ _ _ p h k) refl refl) (c .if3 .left)
+    let loop = c .before .before .before .before in
+    let count = loop .before .node-count .ensures in
+    let p = loop .loop .inv .1 ds is in
+    let h = upto-count _ _ count _ (loop .loop .inv .0) in
+    let k = past-count _ _ count _ (c .before .before .if1 .left) in
+    let to = loop .before .before .before .before .before .before .before .args in
+    let told = counts-are (to .source .version) (to .nodes .now) (to .children .now) (to .named .now) ds is (to .payload .now) (to .strings .now) _ count in
+    let used = c .before .used-up .ensures _ (all-summed _ _ _ p h k) told refl in
+    left-over _ _ _ p h k _ used (c .if3 .left)
 
 pub nodes-rule-spec : {M : Type 1} → statement M
 nodes-rule-spec =
@@ -77,6 +94,7 @@ nodes-rule-spec =
     (tie.spec
     Inv-loop
     μ-loop
+    node-count-requires
     loop-holds
     node-at-requires
     node-rule-requires

@@ -8,37 +8,67 @@ whole-entries-requires : tie.Need-whole-entries-requires
 whole-entries-requires c κs = search needs
 
 returns : tie.Need-returns
-returns c = broken-entries _ _ _ _ _ _ _ _ (c .before .whole-entries .ensures) (c .if1 .taken)
+returns c = broken-entries _ _ _ _ _ _ _ _ _ (c .before .whole-entries .ensures) (c .if1 .taken)
 
 nodes-rule-requires : tie.Need-nodes-rule-requires
 nodes-rule-requires c κs = search needs
 
 returns-2 : tie.Need-returns-2
-returns-2 c = nodes-refused _ _ _ _ _ _ _ _ (c .before .before .before .whole-entries .ensures) (c .before .before .if1 .left) _ (c .before .nodes-rule .ensures _ _) (c .if2 .taken)
+returns-2 c =
+    let whole = c .before .before .before in
+    nodes-refused _ _ _ _ _ _ _ _ _ (whole .whole-entries .ensures) (c .before .before .if1 .left) _ (c .before .nodes-rule .ensures _ _) (c .if2 .taken)
 
 children-rule-requires : tie.Need-children-rule-requires
 children-rule-requires c κs = search needs
 
 returns-3 : tie.Need-returns-3
-returns-3 c = children-refused _ _ _ _ _ _ _ _ (c .before .before .before .before .before .whole-entries .ensures) (c .before .before .before .before .if1 .left) _ (c .before .before .before .nodes-rule .ensures _ _) (c .before .before .if2 .left) _ (c .before .children-rule .ensures) (c .if3 .taken)
+returns-3 c =
+    let nodes = c .before .before .before in
+    let whole = c .before .before .before .before .before in
+    children-refused _ _ _ _ _ _ _ _ _ (whole .whole-entries .ensures) (c .before .before .before .before .if1 .left) _ (nodes .nodes-rule .ensures _ _)
+    (c .before .before .if2 .left) _ (c .before .children-rule .ensures) (c .if3 .taken)
 
 named-rule-requires : tie.Need-named-rule-requires
 named-rule-requires c κs = search needs
 
 returns-4 : tie.Need-returns-4
-returns-4 c = named-refused _ _ _ _ _ _ _ _ (c .before .before .before .before .before .before .before .whole-entries .ensures) (c .before .before .before .before .before .before .if1 .left) _ (c .before .before .before .before .before .nodes-rule .ensures _ _) (c .before .before .before .before .if2 .left) _ (c .before .before .before .children-rule .ensures) (c .before .before .if3 .left) _ (c .before .named-rule .ensures) (c .if4 .taken)
+returns-4 c =
+    let nodes = c .before .before .before .before .before in
+    let children = c .before .before .before in
+    let whole = c .before .before .before .before .before .before .before in
+    named-refused _ _ _ _ _ _ _ _ _ (whole .whole-entries .ensures) (c .before .before .before .before .before .before .if1 .left) _ (nodes .nodes-rule .ensures _ _)
+    (c .before .before .before .before .if2 .left) _ (children .children-rule .ensures)
+    (c .before .before .if3 .left) _ (c .before .named-rule .ensures) (c .if4 .taken)
 
 definitions-rule-requires : tie.Need-definitions-rule-requires
 definitions-rule-requires c κs = search needs
 
 returns-5 : tie.Need-returns-5
-returns-5 c = definitions-refused _ _ _ _ _ _ _ _ (c .before .before .before .before .before .before .before .before .before .whole-entries .ensures) (c .before .before .before .before .before .before .before .before .if1 .left) _ (c .before .before .before .before .before .before .before .nodes-rule .ensures _ _) (c .before .before .before .before .before .before .if2 .left) _ (c .before .before .before .before .before .children-rule .ensures) (c .before .before .before .before .if3 .left) _ (c .before .before .before .named-rule .ensures) (c .before .before .if4 .left) _ (c .before .definitions-rule .ensures) (c .if5 .taken)
+returns-5 c =
+    let nodes = c .before .before .before .before .before .before .before in
+    let children = c .before .before .before .before .before in
+    let named = c .before .before .before in
+    let whole = c .before .before .before .before .before .before .before .before .before in
+    definitions-refused _ _ _ _ _ _ _ _ _ (whole .whole-entries .ensures) (c .before .before .before .before .before .before .before .before .if1 .left) _ (nodes .nodes-rule .ensures _ _)
+    (c .before .before .before .before .before .before .if2 .left) _ (children .children-rule .ensures)
+    (c .before .before .before .before .if3 .left) _ (named .named-rule .ensures)
+    (c .before .before .if4 .left) _ (c .before .definitions-rule .ensures) (c .if5 .taken)
 
 items-rule-requires : tie.Need-items-rule-requires
 items-rule-requires c κs = search needs
 
 returns-6 : tie.Need-returns-6
-returns-6 c = items-decide _ _ _ _ _ _ _ _ (c .before .before .before .before .before .before .before .before .before .before .whole-entries .ensures) (c .before .before .before .before .before .before .before .before .before .if1 .left) _ (c .before .before .before .before .before .before .before .before .nodes-rule .ensures _ _) (c .before .before .before .before .before .before .before .if2 .left) _ (c .before .before .before .before .before .before .children-rule .ensures) (c .before .before .before .before .before .if3 .left) _ (c .before .before .before .before .named-rule .ensures) (c .before .before .before .if4 .left) _ (c .before .before .definitions-rule .ensures) (c .before .if5 .left) _ (c .items-rule .ensures)
+returns-6 c =
+    let nodes = c .before .before .before .before .before .before .before .before in
+    let children = c .before .before .before .before .before .before in
+    let named = c .before .before .before .before in
+    let definitions = c .before .before in
+    let whole = c .before .before .before .before .before .before .before .before .before .before in
+    items-decide _ _ _ _ _ _ _ _ _ (whole .whole-entries .ensures) (c .before .before .before .before .before .before .before .before .before .if1 .left) _ (nodes .nodes-rule .ensures _ _)
+    (c .before .before .before .before .before .before .before .if2 .left) _ (children .children-rule .ensures)
+    (c .before .before .before .before .before .if3 .left) _ (named .named-rule .ensures)
+    (c .before .before .before .if4 .left) _ (definitions .definitions-rule .ensures)
+    (c .before .if5 .left) _ (c .items-rule .ensures)
 
 pub tables-rule-spec : {M : Type 1} → statement M
 tables-rule-spec =
