@@ -21,6 +21,10 @@ draftOf version nodes children named definitions items payload strings =
       strings = strings;
     }
 
+-- a draft that has nodes and a payload alone
+abbrev pub nodesOnly : ℕ → List ℕ → List ℕ → Sections
+nodesOnly version nodes payload = draftOf version nodes [] [] [] [] payload []
+
 -- word k of node n, in the nodes' words: 0 past the end
 abbrev pub wordOf : ℕ → List ℕ → ℕ → ℕ → ℕ
 wordOf version nodes n k = getD nodes (n * nodeWords version + k) 0
