@@ -20,14 +20,14 @@ use Rattle.tree.specs.Work.{treeWords}
 use Rattle.tree.specs.Parts.{Fit}
 use Rattle.tree.proofs.Numbers.{get-below}
 use Rattle.draft.specs.Draft.{tablesRule, writeWords, reachRule, shapeRule, pathsRule}
-use Rattle.draft.specs.Source.{draftOf}
+use Rattle.draft.specs.Source.{draftOf, nodesOnly}
 use Rattle.draft.specs.Numbering.{numbering, oldOf}
 use Rattle.draft.proofs.Rules.{tables, whole, tables-fit}
 use Rattle.draft_image.specs.Strings.{uses, byPath, storedTexts, distinct, offsetOf}
 use Rattle.draft_image.specs.Ready.{OldsAt, NewsAt, textUses}
 use Rattle.write_numbering.specs.Work.{treeOf, Leads, Numbered}
 use Rattle.write_numbering.proofs.WholeDraft.{whole-seen, fit-tree, leads-tree, numbered-whole}
-use Rattle.write_text_uses.specs.Uses.{useWords, usesMost, wordsFrom, withWords, nodesOnly, Readable, Collectable, Collected}
+use Rattle.write_text_uses.specs.Uses.{useWords, usesMost, wordsFrom, withWords, Readable, Collectable, Collected}
 use Rattle.write_text_uses.proofs.Fits.{uses-length, readable}
 use Rattle.write_text_uses.proofs.Bounds.{uses-bound, olds-below}
 use Rattle.write_text_uses.proofs.AllUses.{uses-are}

@@ -8,10 +8,10 @@ use Rattle.laws.specs.Lists.{flatMap}
 use Rattle.image.specs.Sections.{Sections, nodeWords, definitionWords, nodeWord, namedWord, definitionWord, itemWord}
 use Rattle.records.specs.Fields.{Field, text, optional, command, operator, node, optionalNode, container, optionalContainer, plain, atMost, children, named, payload, wrong}
 use Rattle.records.specs.Records.{numberOfNamed, listWord}
-use Rattle.draft.specs.Source.{draftOf}
+use Rattle.draft.specs.Source.{draftOf, nodesOnly}
 use Rattle.draft.specs.Numbering.{oldOf}
 use Rattle.draft_image.proofs.Joins.{join-same}
-use Rattle.write_text_uses.specs.Uses.{listItemPairs, listOriginPairs, listPairs, fieldPairs, nodePairs, namedPairs, definitionPairs, allNodePairs, allNamedPairs, allDefinitionPairs, useWords, wordsFrom, Room, Put, nodesOnly, namedOnly, definitionsOnly, Olds, Readable, Collectable, Collected}
+use Rattle.write_text_uses.specs.Uses.{listItemPairs, listOriginPairs, listPairs, fieldPairs, nodePairs, namedPairs, definitionPairs, allNodePairs, allNamedPairs, allDefinitionPairs, useWords, wordsFrom, Room, Put, namedOnly, definitionsOnly, Olds, Readable, Collectable, Collected}
 use Rattle.write_text_uses.proofs.Pairs.{pairs-length, uses-pairs}
 use Rattle.write_text_uses.proofs.Puts.{put-long, put-both, order-kept}
 

@@ -9,6 +9,7 @@ use native.Mathlib.Decide.{decLt}
 use lib.ListN.{length}
 use lib.Dec.{eqb}
 use borrow.Author.Tests.{ne-eqb}
+use Rattle.draft.specs.Source.{nodesOnly}
 use Rattle.laws.specs.Refusal.{unless, _▸_, firstOf}
 use Rattle.laws.specs.Lists.{flatMap}
 use Rattle.laws.proofs.First.{first-all, passed}
@@ -20,7 +21,7 @@ use Rattle.records.specs.Fields.{Kind, kinds, kindOf, fields}
 use Rattle.records.specs.Records.{listWord}
 use Rattle.records.proofs.ByKind.{past-kinds}
 use Rattle.draft.specs.Numbering.{oldOf}
-use Rattle.write_text_uses.specs.Uses.{useIf, listItemPairs, listOriginPairs, listPairs, fieldPairs, nodePairs, payloadOnly, nodesOnly, ListInside, Olds, Readable}
+use Rattle.write_text_uses.specs.Uses.{useIf, listItemPairs, listOriginPairs, listPairs, fieldPairs, nodePairs, payloadOnly, ListInside, Olds, Readable}
 
 module _ (s : Sections) (i : ℕ) where
   -- the pairs of a node of tag t

@@ -8,11 +8,11 @@ use lib.Seq.{getD-take, getD-drop, ext-getD, length-take-le}
 use Rattle.image.specs.Sections.{Sections, nodeWords, nodeCount, nodeWord}
 use Rattle.records.specs.Records.{listWord}
 use Rattle.draft.specs.Draft.{tablesRule}
-use Rattle.draft.specs.Source.{draftOf}
+use Rattle.draft.specs.Source.{draftOf, nodesOnly}
 use Rattle.draft.proofs.Rules.{tables}
 use Rattle.draft.proofs.ReachedNodes.{Numbered}
 use Rattle.draft_image.specs.Ready.{OldsAt}
-use Rattle.write_text_uses.specs.Uses.{useWords, usesMost, wordsFrom, nodesOnly, Readable, Collectable}
+use Rattle.write_text_uses.specs.Uses.{useWords, usesMost, wordsFrom, Readable, Collectable}
 use Rattle.write_text_uses.proofs.AllUses.{uses-are}
 use Rattle.write_text_uses.proofs.Fits.{readable, uses-length}
 use Rattle.write_text_uses.proofs.Bounds.{uses-bound, olds-below}

@@ -12,7 +12,7 @@ use Rattle.records.specs.Fields.{Field, text, optional, command, operator, node
 use Rattle.records.specs.Records.{fieldsAt, numberOfNamed, listItems, listOrigins, listItemWord, listOriginWord, records}
 use Rattle.tree.specs.Tree.{namedAt}
 use Rattle.index.specs.Definitions.{firstItem, numberOfItems}
-use Rattle.draft.specs.Source.{draftOf}
+use Rattle.draft.specs.Source.{draftOf, nodesOnly}
 use Rattle.draft.specs.Numbering.{oldOf}
 use Rattle.draft_image.specs.Ready.{textUses}
 
@@ -114,13 +114,10 @@ pub record Put (ws w₀ : List ℕ) (at : ℕ) (w : List ℕ) (r : ℕ) : Type 0
 
 -- ---- what is read of a draft
 
--- a draft that has a payload alone; nodes and a payload; nodes and named entries; definitions and items. Where there are no nodes, the
+-- a draft that has a payload alone; nodes and named entries; definitions and items. Where there are no nodes, the
 -- version says nothing
 abbrev pub payloadOnly : List ℕ → Sections
 payloadOnly bytes = draftOf 0 [] [] [] [] [] bytes []
-
-abbrev pub nodesOnly : ℕ → List ℕ → List ℕ → Sections
-nodesOnly version nodes bytes = draftOf version nodes [] [] [] [] bytes []
 
 abbrev pub namedOnly : ℕ → List ℕ → List ℕ → Sections
 namedOnly version nodes entries = draftOf version nodes [] entries [] [] [] []

@@ -2,8 +2,9 @@
 use Prim.Native.Nat.{_+_, _-_, _/_}
 use native.Mathlib.Omega.{arith}
 use lib.ListN.{length}
+use Rattle.draft.specs.Source.{nodesOnly}
 use Rattle.image.specs.Sections.{nodeWords}
-use Rattle.write_text_uses.specs.Uses.{nodePairs, allNodePairs, nodesOnly}
+use Rattle.write_text_uses.specs.Uses.{nodePairs, allNodePairs}
 use Rattle.write_text_uses.proofs.Puts.{Ordered, ordered-start, ordered-room, ordered-next, old-read, going-end}
 use Rattle.write_text_uses.proofs.Nodes.{node-needs}
 use borrow.Author.Needs.{needs}

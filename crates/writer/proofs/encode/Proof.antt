@@ -96,20 +96,25 @@ same-length-2 c = search needs
 
 returns-4 : tie.Need-returns-4
 returns-4 c =
+    let right = sym (c .before .before .before .before .before .before .before .before .before .before .before .before .before .before .before .before .before .before .ink-right .ensures) ∙ not-false _ (c .before .before .before .before .before .before .before .before .before .before .before .before .before .before .before .before .before .if1 .left) in
+    let ruled = no-rule _ _ (c .before .before .before .before .before .before .before .before .before .before .before .before .before .before .before .before .tables-rule .ensures) (search needs) in
+    let back =
     let to = c .before .before .before .before .before .before .before .before .before .before .before .before .before .before .before .before .before .before .before .before .before .before .before .before .before .before .before .before .args in
-    let ink-right = c .before .before .before .before .before .before .before .before .before .before .before .before .before .before .before .before .before .before .ink-right in
-    let if1 = c .before .before .before .before .before .before .before .before .before .before .before .before .before .before .before .before .before .if1 in
-    let tables-rule = c .before .before .before .before .before .before .before .before .before .before .before .before .before .before .before .before .tables-rule in
     let work-words-fit = c .before .before .before .before .before .before .before .before .before .before .before .before .before .before .work-words-fit in
     let needed = c .before .before .before .before .before .before .before .before .before .before .before .before .needed in
     let write = c .before .before .before .before .before .before .before .before .write in
-    let s = draftOf (to .nodes .now) (to .children .now) (to .named .now) (to .definitions .now) (to .items .now) (to .payload .now) (to .strings .now) in
+    let s = draftOf version (to .nodes .now) (to .children .now) (to .named .now) (to .definitions .now) (to .items .now) (to .payload .now) (to .strings .now) in
+    given-back (writeWords s) _ (to .work .now) _ (work-words-fit .ensures) (needed .given .1) (write .last .1 .1 .1 .1 .1 .1 .1 .1 .1 .0)
+    (search needs) _ (c .before .before .clear .ensures) in
+    let to = c .before .before .before .before .before .before .before .before .before .before .before .before .before .before .before .before .before .before .before .before .before .before .before .before .before .before .before .before .args in
+    let work-words-fit = c .before .before .before .before .before .before .before .before .before .before .before .before .before .before .work-words-fit in
+    let needed = c .before .before .before .before .before .before .before .before .before .before .before .before .needed in
+    let write = c .before .before .before .before .before .before .before .before .write in
+    let s = draftOf version (to .nodes .now) (to .children .now) (to .named .now) (to .definitions .now) (to .items .now) (to .payload .now) (to .strings .now) in
     ended _ _ _ _ _ _ _
-    (encode-written (to .ink) s (to .out .now) (to .work .now) (sym (ink-right .ensures) ∙ not-false _ (if1 .left))
-    (no-rule _ _ (tables-rule .ensures) (search needs)) (lent (writeWords s) _ (to .work .now) _ (work-words-fit .ensures) (needed .given .1) .1)
-    (write .last .1 .1 .1 .1 .1 .1 .1 .1 .0) (write .result) (write .ensures) _
-    (given-back (writeWords s) _ (to .work .now) _ (work-words-fit .ensures) (needed .given .1) (write .last .1 .1 .1 .1 .1 .1 .1 .1 .1 .0)
-    (search needs) _ (c .before .before .clear .ensures)))
+    (encode-written (to .ink) s (to .out .now) (to .work .now) right ruled
+    (lent (writeWords s) _ (to .work .now) _ (work-words-fit .ensures) (needed .given .1) .1) (write .last .1 .1 .1 .1 .1 .1 .1 .1 .0)
+    (write .result) (write .ensures) _ back)
 
 pub encode-spec : {M : Type 1} → statement M
 encode-spec =
