@@ -7,7 +7,7 @@ ghost use Rattle.words.specs.Words.{wordAt, wordIn};
 ghost use Rattle.image.specs.Sections.{nodeWords, textEntryWords, definitionWords};
 ghost use Rattle.image.specs.Entries.{recordOf, textEntryOf, definitionOf};
 ghost use Rattle.records.specs.Shown.{tagIn};
-ghost use Rattle.draft.specs.Source.{draftOf, wordOf};
+ghost use Rattle.draft.specs.Source.{draftOf, commonWords, wordOf};
 use image::Definition;
 use image::ImageView;
 use image::NodeRecord;
@@ -57,7 +57,7 @@ pub fn node_word(nodes: &[u32], i: usize, k: usize, source: Source) -> u32
 
 // Word `k` of the node that a word names: 0 past the end.
 pub fn word_of(nodes: &[u32], n: u32, k: usize, source: Source) -> u32
-    requires { ⌜ k < nodeWords (source .version) ⌝ }
+    requires { ⌜ k < commonWords ⌝ }
     ensures { λ r. ⌜ r ≡ wordOf (source .version) (now (nodes .entry)) n k ⌝ }
 {
     word(nodes, first_word(n as usize, source) + k)

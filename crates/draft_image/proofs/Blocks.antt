@@ -8,11 +8,12 @@ use lib.ListN.{length, getD, replicate, length-append}
 use lib.Seq.{sets, length-sets}
 use Rattle.laws.specs.Counted.{sumOf}
 use Rattle.words.specs.Words.{NONE}
-use Rattle.image.specs.Sections.{Sections, nodeCount, childCount, namedCount, definitionCount, itemCount, indexCount, nodeWord, childWord, namedWord, definitionWord, itemWord, indexWord}
-use Rattle.image.specs.Header.{nodeWords}
+use Rattle.image.specs.Sections.{Sections, nodeWords, textEntryWords, definitionWords, nodeCount, childCount, namedCount, definitionCount, itemCount, indexCount, nodeWord, childWord, namedWord, definitionWord, itemWord, indexWord}
+use Rattle.image.proofs.Widths.{words-some}
 use Rattle.records.specs.Fields.{Field}
 use Rattle.records.specs.Records.{fieldsAt, numberOfChildren, numberOfNamed}
 use Rattle.tree.specs.Tree.{childAt, namedAt, namedText}
+use Rattle.draft.specs.Source.{commonWords}
 use Rattle.draft.specs.Numbering.{oldOf, newOf}
 use Rattle.draft_image.specs.Strings.{byPath, textWords}
 use Rattle.draft_image.specs.Written.{fieldStart, fieldWords, putFields, moreWords, nodeOut, childrenOut, namedOut, definitionOut, itemOut, indexOut, writtenWith}
@@ -31,33 +32,33 @@ module _ (s : Sections) (order : List ℕ) (kept : List (List ℕ)) where
   put-length i ws (x ∷ xs) =
       put-length i (sets ws (fieldStart x) (fieldWords s order kept i x)) xs ∙ length-sets ws (fieldStart x) (fieldWords s order kept i x)
 
-  more-length : (i : ℕ) → length (moreWords s order kept i) ≡ s .stride - nodeWords
+  more-length : (i : ℕ) → length (moreWords s order kept i) ≡ nodeWords (s .version) - commonWords
   unfolding moreWords
-  more-length i = ones-len (s .stride - nodeWords) (λ k. nodeWord s i (nodeWords + k))
+  more-length i = ones-len (nodeWords (s .version) - commonWords) (λ k. nodeWord s i (commonWords + k))
 
-  module _ (wide : nodeWords ≤ s .stride) where
-    pub node-length : (i : ℕ) → length (nodeOut s order kept i) ≡ s .stride
-    unfolding nodeOut
-    node-length i =
-        omega (
-          arith,
-          length-append (putFields s order kept i (replicate 7 NONE) (fieldsAt s i)) (moreWords s order kept i),
-          put-length i (replicate 7 NONE) (fieldsAt s i),
-          more-length i,
-        )
+  pub node-length : (i : ℕ) → length (nodeOut s order kept i) ≡ nodeWords (s .version)
+  unfolding nodeOut
+  node-length i =
+      omega (
+        arith,
+        length-append (putFields s order kept i (replicate 7 NONE) (fieldsAt s i)) (moreWords s order kept i),
+        put-length i (replicate 7 NONE) (fieldsAt s i),
+        more-length i,
+        words-some (s .version),
+      )
 
-    pub nodes-length : length (w .nodes) ≡ nodeCount s * s .stride
-    unfolding w writtenWith
-    nodes-length = even-len (nodeCount s) (s .stride) (λ j. nodeOut s order kept (oldOf order j)) (λ m h. node-length (oldOf order m))
+  pub nodes-length : length (w .nodes) ≡ nodeCount s * nodeWords (s .version)
+  unfolding w writtenWith
+  nodes-length = even-len (nodeCount s) (nodeWords (s .version)) (λ j. nodeOut s order kept (oldOf order j)) (λ m h. node-length (oldOf order m))
 
-    pub node-count : nodeCount w ≡ nodeCount s
-    unfolding w writtenWith
-    node-count = div-eq-of-eq-mul-left {n = s .stride} (omega arith) nodes-length
+  pub node-count : nodeCount w ≡ nodeCount s
+  unfolding w writtenWith
+  node-count = div-eq-of-eq-mul-left {n = nodeWords (s .version)} (omega (arith, words-some (s .version))) nodes-length
 
-    -- word k of node j
-    pub node-word : (j k : ℕ) → j < nodeCount s → k < s .stride → nodeWord w j k ≡ getD (nodeOut s order kept (oldOf order j)) k 0
-    unfolding nodeWord w writtenWith
-    node-word j k h q = even-read (nodeCount s) (s .stride) (λ m. nodeOut s order kept (oldOf order m)) (λ m i. node-length (oldOf order m)) j k h q
+  -- word k of node j
+  pub node-word : (j k : ℕ) → j < nodeCount s → k < nodeWords (s .version) → nodeWord w j k ≡ getD (nodeOut s order kept (oldOf order j)) k 0
+  unfolding nodeWord w writtenWith
+  node-word j k h q = even-read (nodeCount s) (nodeWords (s .version)) (λ m. nodeOut s order kept (oldOf order m)) (λ m i. node-length (oldOf order m)) j k h q
 
   -- ---- ordered children
 
@@ -83,15 +84,15 @@ module _ (s : Sections) (order : List ℕ) (kept : List (List ℕ)) where
   abbrev named-entry : ℕ → ℕ → List ℕ
   named-entry i k = textWords kept (namedText s i k) ++ (newOf order (namedAt s i k 2) ∷ [])
 
-  pub named-length : (i : ℕ) → length (namedOut s order kept i) ≡ numberOfNamed s i * 3
+  pub named-length : (i : ℕ) → length (namedOut s order kept i) ≡ numberOfNamed s i * textEntryWords
   unfolding namedOut
-  named-length i = even-len (numberOfNamed s i) 3 (named-entry i) (λ m h. refl)
+  named-length i = even-len (numberOfNamed s i) textEntryWords (named-entry i) (λ m h. refl)
 
-  pub named-whole : length (w .named) ≡ sumOf (nodeCount s) (λ j. numberOfNamed s (oldOf order j)) * 3
+  pub named-whole : length (w .named) ≡ sumOf (nodeCount s) (λ j. numberOfNamed s (oldOf order j)) * textEntryWords
   unfolding w writtenWith
   named-whole =
-      join-len (nodeCount s) (λ j. namedOut s order kept (oldOf order j)) (λ j. numberOfNamed s (oldOf order j) * 3) (λ m h. named-length (oldOf order m))
-      ∙ sum-scale (nodeCount s) 3 (λ j. numberOfNamed s (oldOf order j))
+      join-len (nodeCount s) (λ j. namedOut s order kept (oldOf order j)) (λ j. numberOfNamed s (oldOf order j) * textEntryWords) (λ m h. named-length (oldOf order m))
+      ∙ sum-scale (nodeCount s) textEntryWords (λ j. numberOfNamed s (oldOf order j))
 
   pub named-count : namedCount w ≡ sumOf (nodeCount s) (λ j. numberOfNamed s (oldOf order j))
   named-count = omega (arith, named-whole)
@@ -103,47 +104,47 @@ module _ (s : Sections) (order : List ℕ) (kept : List (List ℕ)) where
   unfolding namedWord namedOut w writtenWith
   named-word j k m h q r =
       ap (λ (at : ℕ). getD (w .named) at 0) place
-      ∙ join-read (nodeCount s) (λ i. namedOut s order kept (oldOf order i)) (λ i. numberOfNamed s (oldOf order i) * 3) (λ i z. named-length (oldOf order i)) j (k * 3 + m) h
+      ∙ join-read (nodeCount s) (λ i. namedOut s order kept (oldOf order i)) (λ i. numberOfNamed s (oldOf order i) * textEntryWords) (λ i z. named-length (oldOf order i)) j (k * textEntryWords + m) h
       (omega arith)
-      ∙ even-read (numberOfNamed s (oldOf order j)) 3 (named-entry (oldOf order j)) (λ i z. refl) k m q r
+      ∙ even-read (numberOfNamed s (oldOf order j)) textEntryWords (named-entry (oldOf order j)) (λ i z. refl) k m q r
     where
-      place : (sumOf j (λ i. numberOfNamed s (oldOf order i)) + k) * 3 + m ≡ sumOf j (λ i. numberOfNamed s (oldOf order i) * 3) + (k * 3 + m)
-      place = omega (arith, sum-scale j 3 (λ i. numberOfNamed s (oldOf order i)))
+      place : (sumOf j (λ i. numberOfNamed s (oldOf order i)) + k) * textEntryWords + m ≡ sumOf j (λ i. numberOfNamed s (oldOf order i) * textEntryWords) + (k * textEntryWords + m)
+      place = omega (arith, sum-scale j textEntryWords (λ i. numberOfNamed s (oldOf order i)))
 
   -- ---- definitions and items
 
-  pub definitions-whole : length (w .definitions) ≡ definitionCount s * 4
+  pub definitions-whole : length (w .definitions) ≡ definitionCount s * definitionWords
   unfolding w writtenWith definitionOut
-  definitions-whole = even-len (definitionCount s) 4 (definitionOut s order kept) (λ m h. refl)
+  definitions-whole = even-len (definitionCount s) definitionWords (definitionOut s order kept) (λ m h. refl)
 
   pub definition-count : definitionCount w ≡ definitionCount s
   definition-count = omega (arith, definitions-whole)
 
-  pub definition-word : (d m : ℕ) → d < definitionCount s → m < 4 → definitionWord w d m ≡ getD (definitionOut s order kept d) m 0
+  pub definition-word : (d m : ℕ) → d < definitionCount s → m < definitionWords → definitionWord w d m ≡ getD (definitionOut s order kept d) m 0
   unfolding w writtenWith
   definition-word d m h q =
-      unfold definitionWord in even-read (definitionCount s) 4 (definitionOut s order kept) (λ e i. unfold definitionOut in refl) d m h q
+      unfold definitionWord in even-read (definitionCount s) definitionWords (definitionOut s order kept) (λ e i. unfold definitionOut in refl) d m h q
 
-  pub items-whole : length (w .items) ≡ itemCount s * 3
+  pub items-whole : length (w .items) ≡ itemCount s * textEntryWords
   unfolding w writtenWith itemOut
-  items-whole = even-len (itemCount s) 3 (itemOut s order kept) (λ m h. refl)
+  items-whole = even-len (itemCount s) textEntryWords (itemOut s order kept) (λ m h. refl)
 
   pub item-count : itemCount w ≡ itemCount s
   item-count = omega (arith, items-whole)
 
-  pub item-word : (j m : ℕ) → j < itemCount s → m < 3 → itemWord w j m ≡ getD (itemOut s order kept j) m 0
+  pub item-word : (j m : ℕ) → j < itemCount s → m < textEntryWords → itemWord w j m ≡ getD (itemOut s order kept j) m 0
   unfolding w writtenWith
-  item-word j m h q = unfold itemWord in even-read (itemCount s) 3 (itemOut s order kept) (λ e i. unfold itemOut in refl) j m h q
+  item-word j m h q = unfold itemWord in even-read (itemCount s) textEntryWords (itemOut s order kept) (λ e i. unfold itemOut in refl) j m h q
 
   -- ---- the index
 
-  pub index-whole : length (w .index) ≡ length (byPath s order) * 3
+  pub index-whole : length (w .index) ≡ length (byPath s order) * textEntryWords
   unfolding w writtenWith indexOut
-  index-whole = even-len (length (byPath s order)) 3 (λ k. indexOut s order kept (getD (byPath s order) k 0)) (λ m h. refl)
+  index-whole = even-len (length (byPath s order)) textEntryWords (λ k. indexOut s order kept (getD (byPath s order) k 0)) (λ m h. refl)
 
   pub index-count : indexCount w ≡ length (byPath s order)
   index-count = omega (arith, index-whole)
 
-  pub index-word : (k m : ℕ) → k < length (byPath s order) → m < 3 → indexWord w k m ≡ getD (indexOut s order kept (getD (byPath s order) k 0)) m 0
+  pub index-word : (k m : ℕ) → k < length (byPath s order) → m < textEntryWords → indexWord w k m ≡ getD (indexOut s order kept (getD (byPath s order) k 0)) m 0
   unfolding indexWord w writtenWith
-  index-word k m h q = even-read (length (byPath s order)) 3 (λ e. indexOut s order kept (getD (byPath s order) e 0)) (λ e i. unfold indexOut in refl) k m h q
+  index-word k m h q = even-read (length (byPath s order)) textEntryWords (λ e. indexOut s order kept (getD (byPath s order) e 0)) (λ e i. unfold indexOut in refl) k m h q

@@ -8,12 +8,12 @@ use lib.Dec.{eqb}
 use Rattle.laws.specs.Counted.{joinOf, sumOf, counted}
 use Rattle.laws.specs.Lists.{flatMap, placeIn, lists}
 use Rattle.words.specs.Words.{NONE, bytesOf, words}
-use Rattle.image.specs.Sections.{Sections, nodeCount, definitionCount, itemCount, nodeWord, parentOf, placeOf, tagOf, f, definitionWord, itemWord, textAt}
-use Rattle.image.specs.Header.{nodeWords}
+use Rattle.image.specs.Sections.{Sections, nodeWords, nodeCount, definitionCount, itemCount, nodeWord, parentOf, placeOf, tagOf, f, definitionWord, itemWord, textAt}
 use Rattle.records.specs.Fields.{Field, text, optional, command, operator, node, optionalNode, container, optionalContainer, plain, atMost, children, named, payload, wrong}
 use Rattle.records.specs.Records.{fieldsAt, numberOfChildren, numberOfNamed, payloadLengthOf, listItems, listOrigins, listWord, listItemWord, listOriginWord}
 use Rattle.tree.specs.Tree.{childAt, namedAt, namedText}
 use Rattle.index.specs.Definitions.{definitionText, itemText}
+use Rattle.draft.specs.Source.{commonWords}
 use Rattle.draft.specs.Numbering.{numbering, oldOf, newOf, numberings}
 use Rattle.draft_image.specs.Strings.{byPath, pathOf, storedTexts, offsetOf, textWords, optionalWords, strings}
 
@@ -62,7 +62,7 @@ module _ (s : Sections) (order : List ℕ) (kept : List (List ℕ)) where
 
   -- words past f6, of which version 2 has none, are written as they stand
   unfoldable pub moreWords : ℕ → List ℕ
-  moreWords i = joinOf (s .stride - nodeWords) (λ k. nodeWord s i (nodeWords + k) ∷ [])
+  moreWords i = joinOf (nodeWords (s .version) - commonWords) (λ k. nodeWord s i (commonWords + k) ∷ [])
 
   -- fields that the kind lacks are NONE
   unfoldable pub nodeOut : ℕ → List ℕ
@@ -101,7 +101,7 @@ module _ (s : Sections) (order : List ℕ) (kept : List (List ℕ)) where
   unfoldable pub writtenWith : Sections
   writtenWith =
       record {
-        stride = s .stride;
+        version = s .version;
         nodes = joinOf (nodeCount s) (λ j. nodeOut (oldOf order j));
         children = joinOf (nodeCount s) (λ j. childrenOut (oldOf order j));
         named = joinOf (nodeCount s) (λ j. namedOut (oldOf order j));

@@ -5,7 +5,7 @@ use mathlib.Core.List.{List}
 use native.Mathlib.Omega.{arith}
 use native.Mathlib.Nat.{mul-comm, mul-assoc, mul-le-mul-left}
 use lib.ListN.{length}
-use Rattle.words.specs.Words.{wordsOf}
+use Rattle.words.specs.Words.{wordsOf, NONE}
 use Rattle.words.proofs.Words.{length-words}
 use Rattle.image.specs.Sections.{nodeWords}
 use Rattle.image.proofs.Parts.{entry-inside}
@@ -31,6 +31,11 @@ is-ten version = refl
 -- n nodes in bytes
 pub size-words : (n version : ℕ) → n * (4 * nodeWords version) ≡ 4 * (n * nodeWords version)
 size-words n version = sym (mul-assoc n 4 (nodeWords version)) ∙ ap (λ (x : ℕ). x * nodeWords version) (mul-comm n 4) ∙ mul-assoc 4 n (nodeWords version)
+
+-- the words before a node whose number is a word
+pub number-words : (i version : ℕ) → i ≤ NONE → i * nodeWords version ≤ NONE * 11
+unfolding nodeWords
+number-words i version h = omega arith
 
 -- the node behind another begins where that ends
 pub next-node : (i version : ℕ) → (i + 1) * nodeWords version ≡ i * nodeWords version + nodeWords version

@@ -5,7 +5,7 @@ use lib.ListN.{getD}
 use Rattle.image.specs.declared.NodeRecord.{NodeRecord}
 use Rattle.image.specs.declared.TextEntry.{TextEntry}
 use Rattle.image.specs.declared.Definition.{Definition}
-use Rattle.image.specs.Sections.{Sections, nodeWords, textEntryWords, definitionWords, parentOf, placeOf, tagOf, f, namedWord, definitionWord, itemWord, indexWord}
+use Rattle.image.specs.Sections.{Sections, nodeWords, textEntryWords, definitionWords, parentOf, placeOf, tagOf, f, namedWord, definitionWord, itemWord, indexWord, partAt}
 
 -- node i, by the format version
 unfoldable pub recordOf : ℕ → List ℕ → ℕ → NodeRecord
@@ -37,7 +37,17 @@ definitionOf ws j =
       count = getD ws (j * definitionWords + 3) 0;
     }
 
--- ---- the same of the sections of an image or a draft
+-- ---- texts of entries
+
+-- the text of the j-th entry of three words, from the first one of a run on
+unfoldable pub entryTextFrom : List ℕ → List ℕ → ℕ → ℕ → List ℕ
+entryTextFrom ws strings first j = partAt strings (textEntryOf ws (first + j) .offset) (textEntryOf ws (first + j) .len)
+
+-- the text of definition d
+unfoldable pub definitionTextIn : List ℕ → List ℕ → ℕ → List ℕ
+definitionTextIn ws strings d = partAt strings (definitionOf ws d .offset) (definitionOf ws d .len)
+
+-- ---- entries of the sections of an image or a draft
 
 -- node i
 abbrev pub nodeIn : Sections → ℕ → NodeRecord
@@ -71,5 +81,5 @@ definitionIn s j = record { offset = definitionWord s j 0; len = definitionWord 
 
 -- names on an `unfolding` line what a computation with this module needs
 unfoldable pub entries : Unit {0}
-unfolding recordOf textEntryOf definitionOf
+unfolding recordOf textEntryOf definitionOf entryTextFrom definitionTextIn
 entries = tt

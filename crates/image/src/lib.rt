@@ -3,12 +3,13 @@ ghost use mathlib.Core.Path.{_≡_};
 ghost use Prim.Native.Nat.{_+_, _*_, _/_, _≤_, _<_};
 ghost use lib.ListN.{length, getD};
 ghost use Rattle.words.specs.Words.{wordsOf};
-ghost use Rattle.image.specs.Sections.{nodeWords, textEntrySize, definitionSize, goodIn, goodBytes, insideAmong, optionalIn, textOrEmpty};
+ghost use Rattle.image.specs.Sections.{nodeWords, textEntrySize, definitionSize, goodIn, goodBytes, insideAmong, optionalIn, partAt, textOrEmpty};
 ghost use Rattle.image.specs.Header.{sectionBytes, sizes, openedOf};
 ghost use Rattle.image.specs.Entries.{recordOf, textEntryOf, definitionOf};
 
 pub mod encoding;
 mod header;
+pub mod order;
 pub mod refusal;
 pub mod tag;
 
@@ -53,18 +54,27 @@ impl ImageView {
 
     pub const DEFINITION_WORDS: usize = 4;
 
+    // Bytes of a word, and of such entries.
+    pub const WORD_BYTES: usize = 4;
+
+    const NODE_BYTES: usize = ImageView::WORD_BYTES * ImageView::NODE_WORDS;
+
+    pub const TEXT_ENTRY_BYTES: usize = ImageView::WORD_BYTES * ImageView::TEXT_ENTRY_WORDS;
+
+    pub const DEFINITION_BYTES: usize = ImageView::WORD_BYTES * ImageView::DEFINITION_WORDS;
+
     // Bytes an entry, by section. A node's goes by the version: `node_size`.
-    const NODE_SIZE: u32 = 40;
+    const NODE_SIZE: u32 = ImageView::NODE_BYTES as u32;
 
-    pub const CHILD_SIZE: u32 = 4;
+    pub const CHILD_SIZE: u32 = ImageView::WORD_BYTES as u32;
 
-    pub const NAMED_SIZE: u32 = 12;
+    pub const NAMED_SIZE: u32 = ImageView::TEXT_ENTRY_BYTES as u32;
 
-    pub const DEFINITION_SIZE: u32 = 16;
+    pub const DEFINITION_SIZE: u32 = ImageView::DEFINITION_BYTES as u32;
 
-    pub const ITEM_SIZE: u32 = 12;
+    pub const ITEM_SIZE: u32 = ImageView::TEXT_ENTRY_BYTES as u32;
 
-    pub const INDEX_SIZE: u32 = 12;
+    pub const INDEX_SIZE: u32 = ImageView::TEXT_ENTRY_BYTES as u32;
 
     pub const PAYLOAD_SIZE: u32 = 1;
 
@@ -94,6 +104,29 @@ pub struct NodeRecord {
     pub f4: u32,
     pub f5: u32,
     pub f6: u32,
+}
+
+// Which word of a node is which.
+impl NodeRecord {
+    pub const PARENT: usize = 0;
+
+    pub const PLACE: usize = 1;
+
+    pub const TAG: usize = 2;
+
+    pub const F0: usize = 3;
+
+    pub const F1: usize = 4;
+
+    pub const F2: usize = 5;
+
+    pub const F3: usize = 6;
+
+    pub const F4: usize = 7;
+
+    pub const F5: usize = 8;
+
+    pub const F6: usize = 9;
 }
 
 // An entry of three words: a text, and the node of a named or index entry or the value of an item.
@@ -162,7 +195,7 @@ pub fn section_sizes(version: u32) -> [u32; 8]
 pub fn node_count(part: &[u8], version: u32) -> usize
     ensures { λ r. ⌜ r ≡ length (wordsOf (now (part .entry))) / nodeWords version ⌝ }
 {
-    part.len() / (ImageView::NODE_SIZE as usize)
+    part.len() / ImageView::NODE_BYTES
 }
 
 // The first word of node `i`.
@@ -171,6 +204,14 @@ fn first_word(version: u32, i: usize) -> usize
     ensures { λ r. ⌜ r ≡ i * nodeWords version ⌝ }
 {
     i * ImageView::NODE_WORDS
+}
+
+// Word `k` of node `i` of the nodes' bytes, or 0 past their end.
+pub fn node_word_or_zero(part: &[u8], version: u32, i: u32, k: usize) -> u32
+    requires { ⌜ k < nodeWords version ⌝ }
+    ensures { λ r. ⌜ r ≡ getD (wordsOf (now (part .entry))) (i * nodeWords version + k) 0 ⌝ }
+{
+    words::get(part, 4 * (first_word(version, i as usize) + k))
 }
 
 // Word `k` of node `i` of the nodes' bytes.
@@ -247,6 +288,22 @@ pub fn text_part(strings: &[u8], offset: u32, len: u32) -> &[u8]
     let end = start + len as usize;
     if end <= strings.len() {
         &strings[start..end]
+    } else {
+        &strings[..0]
+    }
+}
+
+// The bytes of a text, as far as the strings go.
+pub fn text_bytes(strings: &[u8], offset: u32, len: u32) -> &[u8]
+    ensures { λ r. ⌜ now r ≡ partAt (now (strings .entry)) offset len ⌝ }
+{
+    let start = offset as usize;
+    let end = start + len as usize;
+    if end <= strings.len() {
+        return &strings[start..end];
+    }
+    if start <= strings.len() {
+        &strings[start..]
     } else {
         &strings[..0]
     }

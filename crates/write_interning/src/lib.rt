@@ -8,6 +8,7 @@ ghost use Rattle.write_text_keys.specs.Keys.{keyIn, Placed};
 ghost use Rattle.write_sorting.specs.Sorted.{byKey, isort, part};
 ghost use Rattle.write_interning.specs.Uses.{storedOf, joined, answerOf, Offsets, RisesFrom, upFrom, Firsts, headOf};
 use draft::source;
+use draft::source::Source;
 use write_text_keys::Tables;
 
 // How long the stored texts are, or that they are too long for a word to say where each begins.
@@ -29,23 +30,33 @@ fn number(w: &mut [u32], from: usize, to: usize)
 }
 
 // Puts the uses 0 to n - 1 in the order of their texts, those of one text in their own order. The paths, which come last, are in order.
-fn arrange(nodes: &[u32], strings: &[u8], w: &mut [u32], t: Tables, n: usize)
+fn arrange(nodes: &[u32], strings: &[u8], w: &mut [u32], t: Tables, n: usize, source: Source)
     requires { ⌜ (t .texts ≤ n) × (n + n ≤ t .at) × Placed t (length (now w)) × (n < 2 ^ 32) ⌝ }
-    requires { ⌜ RisesFrom (byKey (keyIn (now nodes) (now strings) t (now w))) (t .texts) n ⌝ }
-    ensures { λ _. ⌜ take n (now (w .exit)) ≡ isort (byKey (keyIn (now (nodes .entry)) (now (strings .entry)) t (now (w .entry)))) (upFrom 0 n) ⌝ }
+    requires { ⌜ RisesFrom (byKey (keyIn (source .version) (now nodes) (now strings) t (now w))) (t .texts) n ⌝ }
+    ensures { λ _. ⌜ (let key = keyIn (source .version) (now (nodes .entry)) (now (strings .entry)) t (now (w .entry)) in
+        take n (now (w .exit)) ≡ isort (byKey key) (upFrom 0 n)) ⌝ }
     ensures { λ _. ⌜ drop (t .at) (now (w .exit)) ≡ drop (t .at) (now (w .entry)) ⌝ }
 {
     let m = t.texts;
     number(w, 0, m);
-    write_sorting::sort(nodes, strings, w, t, m);
+    write_sorting::sort(nodes, strings, w, t, m, source);
     number(w, m, n);
-    write_sorting::merge(nodes, strings, w, t, m, n);
+    write_sorting::merge(nodes, strings, w, t, m, n, source);
 }
 
 // The first use of the i-th use of the order.
-fn head_of(nodes: &[u32], strings: &[u8], w: &[u32], t: Tables, n: usize, i: usize) -> u32
+fn head_of(
+    nodes: &[u32],
+    strings: &[u8],
+    w: &[u32],
+    t: Tables,
+    n: usize,
+    i: usize,
+    source: Source,
+) -> u32
     requires { ⌜ (n ≤ length (now w)) × Placed t (length (now w)) ⌝ }
-    ensures { λ r. ⌜ r ≡ headOf (byKey (keyIn (now (nodes .entry)) (now (strings .entry)) t (now (w .entry)))) (now (w .entry)) n i ⌝ }
+    ensures { λ r. ⌜ (let key = keyIn (source .version) (now (nodes .entry)) (now (strings .entry)) t (now (w .entry)) in
+        r ≡ headOf (byKey key) (now (w .entry)) n i) ⌝ }
 {
     let use_here = source::word(w, i);
     if i == 0 {
@@ -53,22 +64,23 @@ fn head_of(nodes: &[u32], strings: &[u8], w: &[u32], t: Tables, n: usize, i: usi
     }
     let use_before = source::word(w, i - 1);
     let first = source::word(w, n + use_before as usize);
-    if write_text_keys::below(nodes, strings, w, t, use_before, use_here) {
+    if write_text_keys::below(nodes, strings, w, t, use_before, use_here, source) {
         return use_here;
     }
     first
 }
 
 // The order is in the first n words: each use's first use goes into the n words after them.
-fn mark(nodes: &[u32], strings: &[u8], w: &mut [u32], t: Tables, n: usize)
+fn mark(nodes: &[u32], strings: &[u8], w: &mut [u32], t: Tables, n: usize, source: Source)
     requires { ⌜ (n + n ≤ t .at) × Placed t (length (now w)) ⌝ }
-    requires { ⌜ take n (now w) ≡ isort (byKey (keyIn (now nodes) (now strings) t (now w))) (upFrom 0 n) ⌝ }
-    ensures { λ _. ⌜ Firsts (keyIn (now (nodes .entry)) (now (strings .entry)) t (now (w .entry))) n (now (w .exit)) ⌝ }
+    requires { ⌜ take n (now w) ≡ isort (byKey (keyIn (source .version) (now nodes) (now strings) t (now w))) (upFrom 0 n) ⌝ }
+    ensures { λ _. ⌜ (let key = keyIn (source .version) (now (nodes .entry)) (now (strings .entry)) t (now (w .entry)) in
+        Firsts key n (now (w .exit))) ⌝ }
     ensures { λ _. ⌜ drop (t .at) (now (w .exit)) ≡ drop (t .at) (now (w .entry)) ⌝ }
 {
     let mut i = 0;
     while i < n {
-        let first = head_of(nodes, strings, w, t, n, i);
+        let first = head_of(nodes, strings, w, t, n, i, source);
         let at = n + source::word(w, i) as usize;
         w[at] = first;
         i += 1;
@@ -76,11 +88,20 @@ fn mark(nodes: &[u32], strings: &[u8], w: &mut [u32], t: Tables, n: usize)
 }
 
 // Each use's first use is in the n words after the first n: its text's offset comes there. The nodes serve the contract alone.
-fn assign(nodes: &[u32], strings: &[u8], w: &mut [u32], t: Tables, n: usize) -> Stored
+fn assign(
+    nodes: &[u32],
+    strings: &[u8],
+    w: &mut [u32],
+    t: Tables,
+    n: usize,
+    source: Source,
+) -> Stored
     requires { ⌜ (n + n ≤ t .at) × Placed t (length (now w)) × (n < 2 ^ 32) ⌝ }
-    requires { ⌜ Firsts (keyIn (now nodes) (now strings) t (now w)) n (now w) ⌝ }
-    ensures { λ r. ⌜ r ≡ answerOf (length (joined (storedOf (keyIn (now (nodes .entry)) (now (strings .entry)) t (now (w .entry))) n))) ⌝ }
-    ensures { λ _. ⌜ (length (joined (storedOf (keyIn (now (nodes .entry)) (now (strings .entry)) t (now (w .entry))) n)) < 2 ^ 32 → Offsets (keyIn (now (nodes .entry)) (now (strings .entry)) t (now (w .entry))) n (now (w .exit))) ⌝ }
+    requires { ⌜ Firsts (keyIn (source .version) (now nodes) (now strings) t (now w)) n (now w) ⌝ }
+    ensures { λ r. ⌜ (let key = keyIn (source .version) (now (nodes .entry)) (now (strings .entry)) t (now (w .entry)) in
+        r ≡ answerOf (length (joined (storedOf key n)))) ⌝ }
+    ensures { λ _. ⌜ (let key = keyIn (source .version) (now (nodes .entry)) (now (strings .entry)) t (now (w .entry)) in
+        length (joined (storedOf key n)) < 2 ^ 32 → Offsets key n (now (w .exit))) ⌝ }
     ensures { λ _. ⌜ drop (t .at) (now (w .exit)) ≡ drop (t .at) (now (w .entry)) ⌝ }
 {
     let mut total = 0usize;
@@ -103,31 +124,49 @@ fn assign(nodes: &[u32], strings: &[u8], w: &mut [u32], t: Tables, n: usize) -> 
 }
 
 // Gives each of the uses 0 to n - 1 the offset of its text among the stored texts, in the n words after the first n, which are worked in.
-pub fn intern(nodes: &[u32], strings: &[u8], w: &mut [u32], t: Tables, n: usize) -> Stored
+pub fn intern(
+    nodes: &[u32],
+    strings: &[u8],
+    w: &mut [u32],
+    t: Tables,
+    n: usize,
+    source: Source,
+) -> Stored
     requires { ⌜ (t .texts ≤ n) × (n + n ≤ t .at) × Placed t (length (now w)) × (n < 2 ^ 32) ⌝ }
-    requires { ⌜ RisesFrom (byKey (keyIn (now nodes) (now strings) t (now w))) (t .texts) n ⌝ }
-    ensures { λ r. ⌜ r ≡ answerOf (length (joined (storedOf (keyIn (now (nodes .entry)) (now (strings .entry)) t (now (w .entry))) n))) ⌝ }
-    ensures { λ _. ⌜ (length (joined (storedOf (keyIn (now (nodes .entry)) (now (strings .entry)) t (now (w .entry))) n)) < 2 ^ 32 → Offsets (keyIn (now (nodes .entry)) (now (strings .entry)) t (now (w .entry))) n (now (w .exit))) ⌝ }
+    requires { ⌜ RisesFrom (byKey (keyIn (source .version) (now nodes) (now strings) t (now w))) (t .texts) n ⌝ }
+    ensures { λ r. ⌜ (let key = keyIn (source .version) (now (nodes .entry)) (now (strings .entry)) t (now (w .entry)) in
+        r ≡ answerOf (length (joined (storedOf key n)))) ⌝ }
+    ensures { λ _. ⌜ (let key = keyIn (source .version) (now (nodes .entry)) (now (strings .entry)) t (now (w .entry)) in
+        length (joined (storedOf key n)) < 2 ^ 32 → Offsets key n (now (w .exit))) ⌝ }
     ensures { λ _. ⌜ drop (t .at) (now (w .exit)) ≡ drop (t .at) (now (w .entry)) ⌝ }
 {
-    arrange(nodes, strings, w, t, n);
-    mark(nodes, strings, w, t, n);
-    assign(nodes, strings, w, t, n)
+    arrange(nodes, strings, w, t, n, source);
+    mark(nodes, strings, w, t, n, source);
+    assign(nodes, strings, w, t, n, source)
 }
 
 // Writes the stored texts one after the other at the front of the output, given each use's offset.
-pub fn emit(nodes: &[u32], strings: &[u8], w: &[u32], t: Tables, n: usize, out: &mut [u8])
+pub fn emit(
+    nodes: &[u32],
+    strings: &[u8],
+    w: &[u32],
+    t: Tables,
+    n: usize,
+    out: &mut [u8],
+    source: Source,
+)
     requires { ⌜ (n + n ≤ t .at) × Placed t (length (now w)) × (n < 2 ^ 32) ⌝ }
-    requires { ⌜ Offsets (keyIn (now nodes) (now strings) t (now w)) n (now w) ⌝ }
-    requires { ⌜ length (joined (storedOf (keyIn (now nodes) (now strings) t (now w)) n)) ≤ length (now out) ⌝ }
-    ensures { λ _. ⌜ now (out .exit) ≡ joined (storedOf (keyIn (now (nodes .entry)) (now (strings .entry)) t (now (w .entry))) n) ++ drop (length (joined (storedOf (keyIn (now (nodes .entry)) (now (strings .entry)) t (now (w .entry))) n))) (now (out .entry)) ⌝ }
+    requires { ⌜ Offsets (keyIn (source .version) (now nodes) (now strings) t (now w)) n (now w) ⌝ }
+    requires { ⌜ length (joined (storedOf (keyIn (source .version) (now nodes) (now strings) t (now w)) n)) ≤ length (now out) ⌝ }
+    ensures { λ _. ⌜ (let key = keyIn (source .version) (now (nodes .entry)) (now (strings .entry)) t (now (w .entry)) in
+        now (out .exit) ≡ joined (storedOf key n) ++ drop (length (joined (storedOf key n))) (now (out .entry))) ⌝ }
 {
     let mut end = 0usize;
     let mut k = 0;
     while k < n {
         if source::word(w, n + k) as usize == end {
             let len = write_text_keys::key_length(strings, w, t, k as u32);
-            write_text_keys::put_key(nodes, strings, w, t, k as u32, &mut out[end..]);
+            write_text_keys::put_key(nodes, strings, w, t, k as u32, &mut out[end..], source);
             end += len;
         }
         k += 1;

@@ -8,17 +8,16 @@ use Rattle.words.specs.Words.{NONE, isNone}
 use Rattle.image.specs.Sections.{Sections, textAt, goodText}
 use Rattle.image.proofs.Parts.{good, part-length}
 use lib.ListN.{length}
-use Rattle.image.specs.Header.{nodeWords}
 use Rattle.draft.specs.Numbering.{newOf}
 use Rattle.draft_image.specs.Ready.{NewsAt}
 pub use Rattle.draft_image.proofs.Joins.{join-same}
 use Rattle.write_numbering.specs.Numbers.{newIn}
 
 -- sections with some of their lists by name
-abbrev pub retold : Sections → List ℕ → List ℕ → List ℕ → List ℕ → Sections
-retold s nodes children named payload =
+abbrev pub retold : Sections → ℕ → List ℕ → List ℕ → List ℕ → List ℕ → Sections
+retold s version nodes children named payload =
     record {
-      stride = nodeWords;
+      version = version;
       nodes = nodes;
       children = children;
       named = named;
@@ -29,11 +28,11 @@ retold s nodes children named payload =
       strings = s .strings;
     }
 
-pub told : (s : Sections) (nodes children named payload : List ℕ) → s .stride ≡ nodeWords → s .nodes ≡ nodes → s .children ≡ children
-    → s .named ≡ named → s .payload ≡ payload → s ≡ retold s nodes children named payload
-told s nodes children named payload q e d m p =
+pub told : (s : Sections) (version : ℕ) (nodes children named payload : List ℕ) → s .version ≡ version → s .nodes ≡ nodes → s .children ≡ children
+    → s .named ≡ named → s .payload ≡ payload → s ≡ retold s version nodes children named payload
+told s version nodes children named payload q e d m p =
     λ t. record {
-      stride = q t;
+      version = q t;
       nodes = e t;
       children = d t;
       named = m t;

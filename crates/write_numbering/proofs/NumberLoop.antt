@@ -100,9 +100,10 @@ module _ (n base : ℕ) (w₀ : List ℕ) where
 
 module _ (s : Sections) (w₀ w : List ℕ) (r : Read s w₀ w) where
   -- the words that the walk does not use
-  pub rest-kept : (base : ℕ) (w′ : List ℕ) → treeWords s ≤ base → w₀ ≡ replicate (nodeCount s) 0 ++ drop (nodeCount s) w′
+  pub rest-kept : (count : ℕ) → count ≡ nodeCount s → (base : ℕ) (w′ : List ℕ) → treeWords s ≤ base → w₀ ≡ replicate count 0 ++ drop count w′
       → drop (base + 2 * nodeCount s) w ≡ drop (base + 2 * nodeCount s) w′
-  rest-kept base w′ h e =
+  rest-kept count c base w′ h q =
+      let e = subst (λ (n : ℕ). w₀ ≡ replicate n 0 ++ drop n w′) c q in
       drop-more (treeWords s) (base + 2 * nodeCount s) w w₀ (omega arith) (r .rest) ∙ ap (drop (base + 2 * nodeCount s)) e
       ∙ cleared-rest (nodeCount s) (base + 2 * nodeCount s) w′ (omega arith)
 
@@ -111,8 +112,8 @@ module _ (s : Sections) (w₀ w : List ℕ) (r : Read s w₀ w) where
     unfolding numbering
     mark-is i h = r .marks i h ∙ mark-place suc (readWalk s .seen) i (read-distinct s) (each-marked s g l all i h)
 
-    pub marks-right : Marks (nodeCount s) w
-    marks-right =
+    marks-all : Marks (nodeCount s) w
+    marks-all =
         record {
           few = few-nodes s g l all words;
           some = λ i h. omega (arith, mark-is i h);
@@ -122,8 +123,15 @@ module _ (s : Sections) (w₀ w : List ℕ) (r : Read s w₀ w) where
               sym (old-of-new s g l all i h) ∙ ap (oldOf (numbering s)) same ∙ old-of-new s g l all k q;
         }
 
-    pub numbers-right : (base : ℕ) (w₁ : List ℕ) → Ordered (nodeCount s) base w w₁ → Numbered s base w₁
-    numbers-right base w₁ o = record { few = few-nodes s g l all words; olds = old; news = new }
+    -- where the code has the count of nodes as a number
+    pub marks-right : (count : ℕ) → count ≡ nodeCount s → Marks count w
+    marks-right count c = subst (λ (n : ℕ). Marks n w) (sym c) marks-all
+
+    pub numbers-right : (count : ℕ) → count ≡ nodeCount s → (base : ℕ) (w₁ : List ℕ) → Ordered count base w w₁ → Numbered s base w₁
+    numbers-right count c base w₁ o = numbers-all base w₁ (subst (λ (n : ℕ). Ordered n base w w₁) c o)
+
+    numbers-all : (base : ℕ) (w₁ : List ℕ) → Ordered (nodeCount s) base w w₁ → Numbered s base w₁
+    numbers-all base w₁ o = record { few = few-nodes s g l all words; olds = old; news = new }
       where
         old : (j : ℕ) → j < nodeCount s → getD w₁ (base + j) 0 ≡ oldOf (numbering s) j
         old j h =

@@ -123,9 +123,9 @@ module _ (s : Sections) (count : ℕ) (e : count ≡ nodeCount s) (g : Fit s) (l
 
 -- ---- the words of the marked nodes are not 0
 
-pub read-all : (s : Sections) (w₀ w : List ℕ) → Read s w₀ w → allOf (nodeCount s) (marked w) ≡ allSeen s (readWalk s .seen)
+pub read-all : (s : Sections) (w₀ w : List ℕ) → Read s w₀ w → (count : ℕ) → count ≡ nodeCount s → allOf count (marked w) ≡ allSeen s (readWalk s .seen)
 unfolding allSeen
-read-all s w₀ w r = all-ext (nodeCount s) (marked w) (λ i. has i (readWalk s .seen)) each
+read-all s w₀ w r count c = ap (λ (n : ℕ). allOf n (marked w)) c ∙ all-ext (nodeCount s) (marked w) (λ i. has i (readWalk s .seen)) each
   where
     not-not : (b : Bool) → not (not b) ≡ b
     not-not true = refl

@@ -6,15 +6,15 @@ use mathlib.Core.Bool.{true}
 use lib.ListN.{getD, drop}
 use Rattle.laws.specs.Lists.{placeIn}
 use Rattle.words.specs.Words.{NONE}
-use Rattle.image.specs.Sections.{Sections, nodeCount, childCount, namedCount, childWord, namedWord, inside}
+use Rattle.image.specs.Sections.{Sections, textEntryWords, nodeCount, childCount, namedCount, childWord, namedWord, inside}
 use Rattle.tree.specs.Tree.{entryNodes, readWalk}
 use Rattle.tree.specs.Work.{markIn, treeWords, Pushed, Entered}
 use Rattle.draft.specs.Source.{draftOf}
 use Rattle.draft.specs.Numbering.{numbering, oldOf}
 
 -- nodes, ordered children and named children of a draft; its other sections do not matter here
-abbrev pub treeOf : List ℕ → List ℕ → List ℕ → Sections
-treeOf nodes children named = draftOf nodes children named [] [] [] []
+abbrev pub treeOf : ℕ → List ℕ → List ℕ → List ℕ → Sections
+treeOf version nodes children named = draftOf version nodes children named [] [] [] []
 
 -- every entry leads to a node, which NONE is not
 pub record Leads (s : Sections) : Type 0 where
@@ -40,7 +40,7 @@ childDown cs start count j = getD cs (start + (count - 1 - j)) 0
 
 -- the node of named entry j
 abbrev pub namedDown : List ℕ → ℕ → ℕ → ℕ → ℕ
-namedDown ms start count j = getD ms ((start + (count - 1 - j)) * 3 + 2) 0
+namedDown ms start count j = getD ms ((start + (count - 1 - j)) * textEntryWords + 2) 0
 
 abbrev pub ChildrenPushed : List ℕ → ℕ → ℕ → ℕ → ℕ → List ℕ → List ℕ → Type 0
 ChildrenPushed cs start count base depth w₀ w = Pushed free (childDown cs start count) count base depth w₀ w 0

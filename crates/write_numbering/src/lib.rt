@@ -5,12 +5,15 @@ ghost use mathlib.Core.Path.{_≡_};
 ghost use mathlib.Core.Bool.{true};
 ghost use Prim.Native.Nat.{ℕ, _+_, _*_, _/_, _≤_, _<_};
 ghost use lib.ListN.{length, getD, drop};
-ghost use Rattle.image.specs.Sections.{nodeCount};
+ghost use Rattle.image.specs.Sections.{textEntryWords, nodeCount};
 ghost use Rattle.tree.specs.Tree.{entryNodes, readWalk, allSeen};
 ghost use Rattle.tree.specs.Work.{treeWords};
 ghost use Rattle.tree.specs.Parts.{Fit};
 ghost use Rattle.write_numbering.specs.Work.{treeOf, Leads, Numbered, ChildrenPushed, NamedPushed, NodeEntered, Read, Marks, Ordered};
 use draft::source;
+use draft::source::Source;
+use image::ImageView;
+use image::tag::CONTAINER;
 
 // Pushes `count` ordered children from `start` on, the last first, so that the first is on top.
 fn push_children(
@@ -41,12 +44,12 @@ fn push_named(
     base: usize,
     depth: usize,
 )
-    requires { ⌜ (start + count ≤ length (now named) / 3) × (base + depth + count ≤ length (now work)) ⌝ }
+    requires { ⌜ (start + count ≤ length (now named) / textEntryWords) × (base + depth + count ≤ length (now work)) ⌝ }
     ensures { λ r. ⌜ NamedPushed (now (named .entry)) start count base depth (now (work .entry)) (now (work .exit)) ⌝ }
 {
     let mut j = 0;
     while j < count {
-        let at = (start + (count - 1 - j)) * 3 + 2;
+        let at = (start + (count - 1 - j)) * ImageView::TEXT_ENTRY_WORDS + 2;
         work[base + depth + j] = source::word(named, at);
         j += 1;
     }
@@ -62,14 +65,15 @@ fn enter(
     work: &mut [u32],
     base: usize,
     depth: usize,
+    source: Source,
 ) -> usize
-    requires { ⌜ Fit (treeOf (now nodes) (now children) (now named)) ⌝ }
-    requires { ⌜ id < nodeCount (treeOf (now nodes) (now children) (now named)) ⌝ }
-    requires { ⌜ base + depth + length (entryNodes (treeOf (now nodes) (now children) (now named)) id) ≤ length (now work) ⌝ }
-    ensures { λ r. ⌜ NodeEntered (treeOf (now (nodes .entry)) (now (children .entry)) (now (named .entry))) id base depth (now (work .entry)) (now (work .exit)) r ⌝ }
+    requires { ⌜ (let s = treeOf (source .version) (now nodes) (now children) (now named) in
+        Fit s × (id < nodeCount s) × (base + depth + length (entryNodes s id) ≤ length (now work))) ⌝ }
+    ensures { λ r. ⌜ (let s = treeOf (source .version) (now (nodes .entry)) (now (children .entry)) (now (named .entry)) in
+        NodeEntered s id base depth (now (work .entry)) (now (work .exit)) r) ⌝ }
 {
-    let node = source::node_at(nodes, id);
-    if node.tag != 1 {
+    let node = source::node_at(nodes, id, source);
+    if node.tag != CONTAINER {
         return depth;
     }
     let start = node.f5 as usize;
@@ -84,13 +88,19 @@ fn enter(
 
 // The walk from the root: marks in the first `count` words, which are 0, and the stack behind them. A node is marked when
 // it is taken, with the count of marked nodes.
-fn walk(nodes: &[u32], children: &[u32], named: &[u32], work: &mut [u32], count: usize)
-    requires { ⌜ Fit (treeOf (now nodes) (now children) (now named)) ⌝ }
-    requires { ⌜ Leads (treeOf (now nodes) (now children) (now named)) ⌝ }
-    requires { ⌜ count ≡ nodeCount (treeOf (now nodes) (now children) (now named)) ⌝ }
-    requires { ⌜ treeWords (treeOf (now nodes) (now children) (now named)) ≤ length (now work) ⌝ }
+fn walk(
+    nodes: &[u32],
+    children: &[u32],
+    named: &[u32],
+    work: &mut [u32],
+    count: usize,
+    source: Source,
+)
+    requires { ⌜ (let s = treeOf (source .version) (now nodes) (now children) (now named) in
+        Fit s × Leads s × (count ≡ nodeCount s) × (treeWords s ≤ length (now work))) ⌝ }
     requires { ⌜ ((i : ℕ) → i < count → getD (now work) i 0 ≡ 0) ⌝ }
-    ensures { λ r. ⌜ Read (treeOf (now (nodes .entry)) (now (children .entry)) (now (named .entry))) (now (work .entry)) (now (work .exit)) ⌝ }
+    ensures { λ r. ⌜ (let s = treeOf (source .version) (now (nodes .entry)) (now (children .entry)) (now (named .entry)) in
+        Read s (now (work .entry)) (now (work .exit))) ⌝ }
 {
     work[count] = 0;
     let mut depth = 1;
@@ -101,7 +111,7 @@ fn walk(nodes: &[u32], children: &[u32], named: &[u32], work: &mut [u32], count:
         if work[id] == 0 {
             taken += 1;
             work[id] = taken;
-            depth = enter(nodes, children, named, id, work, count, depth);
+            depth = enter(nodes, children, named, id, work, count, depth, source);
         }
     }
 }
@@ -124,18 +134,26 @@ fn set_numbers(work: &mut [u32], count: usize, base: usize)
 // Numbers the nodes of a draft in the order of the written image. Whether entries lead from the root to every node: then
 // from word `base` on stand the draft's numbers of the image's nodes, and behind them the image's numbers of the draft's.
 // The words before are not cleared.
-pub fn number(nodes: &[u32], children: &[u32], named: &[u32], work: &mut [u32], base: usize) -> bool
-    requires { ⌜ Fit (treeOf (now nodes) (now children) (now named)) ⌝ }
-    requires { ⌜ Leads (treeOf (now nodes) (now children) (now named)) ⌝ }
-    requires { ⌜ treeWords (treeOf (now nodes) (now children) (now named)) ≤ base ⌝ }
-    requires { ⌜ base + 2 * nodeCount (treeOf (now nodes) (now children) (now named)) ≤ length (now work) ⌝ }
-    ensures answer { λ r. ⌜ r ≡ allSeen (treeOf (now (nodes .entry)) (now (children .entry)) (now (named .entry))) (readWalk (treeOf (now (nodes .entry)) (now (children .entry)) (now (named .entry))) .seen) ⌝ }
-    ensures numbers { λ r. ⌜ (r ≡ true → Numbered (treeOf (now (nodes .entry)) (now (children .entry)) (now (named .entry))) base (now (work .exit))) ⌝ }
-    ensures rest { λ r. ⌜ drop (base + 2 * nodeCount (treeOf (now (nodes .entry)) (now (children .entry)) (now (named .entry)))) (now (work .exit)) ≡ drop (base + 2 * nodeCount (treeOf (now (nodes .entry)) (now (children .entry)) (now (named .entry)))) (now (work .entry)) ⌝ }
+pub fn number(
+    nodes: &[u32],
+    children: &[u32],
+    named: &[u32],
+    work: &mut [u32],
+    base: usize,
+    source: Source,
+) -> bool
+    requires { ⌜ (let s = treeOf (source .version) (now nodes) (now children) (now named) in
+        Fit s × Leads s × (treeWords s ≤ base) × (base + 2 * nodeCount s ≤ length (now work))) ⌝ }
+    ensures answer { λ r. ⌜ (let s = treeOf (source .version) (now (nodes .entry)) (now (children .entry)) (now (named .entry)) in
+        r ≡ allSeen s (readWalk s .seen)) ⌝ }
+    ensures numbers { λ r. ⌜ (let s = treeOf (source .version) (now (nodes .entry)) (now (children .entry)) (now (named .entry)) in
+        r ≡ true → Numbered s base (now (work .exit))) ⌝ }
+    ensures rest { λ r. ⌜ (let s = treeOf (source .version) (now (nodes .entry)) (now (children .entry)) (now (named .entry)) in
+        drop (base + 2 * nodeCount s) (now (work .exit)) ≡ drop (base + 2 * nodeCount s) (now (work .entry))) ⌝ }
 {
-    let count = nodes.len() / 10;
+    let count = source::node_count(nodes, source);
     tree::clear(work, count);
-    walk(nodes, children, named, work, count);
+    walk(nodes, children, named, work, count, source);
     if !tree::all_marked(work, count) {
         return false;
     }

@@ -6,6 +6,7 @@ ghost use lib.ListN.{length, take, drop};
 ghost use lib.Seq.{paste};
 ghost use Rattle.write_text_keys.specs.Keys.{keyIn, Placed};
 ghost use Rattle.write_sorting.specs.Sorted.{byKey, isort, merge, takesRight, part, Ordered};
+use draft::source::Source;
 use write_text_keys::Tables;
 
 // Whether a merge of the words from n + i on and those from j up to n goes on with the latter.
@@ -17,28 +18,39 @@ fn takes_right(
     n: usize,
     i: usize,
     j: usize,
+    source: Source,
 ) -> bool
     requires { ⌜ (n + i < length (now w)) × Placed t (length (now w)) ⌝ }
-    ensures { λ r. ⌜ r ≡ takesRight (byKey (keyIn (now (nodes .entry)) (now (strings .entry)) t (now (w .entry)))) (now (w .entry)) n i j ⌝ }
+    ensures { λ r. ⌜ (let lt = byKey (keyIn (source .version) (now (nodes .entry)) (now (strings .entry)) t (now (w .entry))) in
+        r ≡ takesRight lt (now (w .entry)) n i j) ⌝ }
 {
     if j < n {
-        write_text_keys::below(nodes, strings, w, t, w[j], w[n + i])
+        write_text_keys::below(nodes, strings, w, t, w[j], w[n + i], source)
     } else {
         false
     }
 }
 
 // Merges the m words from n on and those from m up to n into the first n words.
-fn merge_parts(nodes: &[u32], strings: &[u8], w: &mut [u32], t: Tables, m: usize, n: usize)
+fn merge_parts(
+    nodes: &[u32],
+    strings: &[u8],
+    w: &mut [u32],
+    t: Tables,
+    m: usize,
+    n: usize,
+    source: Source,
+)
     requires { ⌜ (m ≤ n) × (n + m ≤ t .at) × Placed t (length (now w)) ⌝ }
-    ensures { λ _. ⌜ take n (now (w .exit)) ≡ merge (byKey (keyIn (now (nodes .entry)) (now (strings .entry)) t (now (w .entry)))) (part n (n + m) (now (w .entry))) (part m n (now (w .entry))) ⌝ }
+    ensures { λ _. ⌜ (let lt = byKey (keyIn (source .version) (now (nodes .entry)) (now (strings .entry)) t (now (w .entry))) in
+        take n (now (w .exit)) ≡ merge lt (part n (n + m) (now (w .entry))) (part m n (now (w .entry)))) ⌝ }
     ensures { λ _. ⌜ drop (t .at) (now (w .exit)) ≡ drop (t .at) (now (w .entry)) ⌝ }
 {
     let mut i = 0;
     let mut j = m;
     let mut k = 0;
     while i < m {
-        if takes_right(nodes, strings, w, t, n, i, j) {
+        if takes_right(nodes, strings, w, t, n, i, j, source) {
             w[k] = w[j];
             j += 1;
         } else {
@@ -75,25 +87,35 @@ fn copy_down(w: &mut [u32], m: usize, n: usize)
 
 // Merges the m words from n on, which are in order, and those from m up to n into the first n words. Where the two stand in order they are
 // put one after the other.
-fn join_parts(nodes: &[u32], strings: &[u8], w: &mut [u32], t: Tables, m: usize, n: usize)
+fn join_parts(
+    nodes: &[u32],
+    strings: &[u8],
+    w: &mut [u32],
+    t: Tables,
+    m: usize,
+    n: usize,
+    source: Source,
+)
     requires { ⌜ (0 < m) × (m < n) × (n + m ≤ t .at) × Placed t (length (now w)) ⌝ }
-    requires { ⌜ Ordered (byKey (keyIn (now nodes) (now strings) t (now w))) (part n (n + m) (now w)) ⌝ }
-    ensures { λ _. ⌜ take n (now (w .exit)) ≡ merge (byKey (keyIn (now (nodes .entry)) (now (strings .entry)) t (now (w .entry)))) (part n (n + m) (now (w .entry))) (part m n (now (w .entry))) ⌝ }
+    requires { ⌜ Ordered (byKey (keyIn (source .version) (now nodes) (now strings) t (now w))) (part n (n + m) (now w)) ⌝ }
+    ensures { λ _. ⌜ (let lt = byKey (keyIn (source .version) (now (nodes .entry)) (now (strings .entry)) t (now (w .entry))) in
+        take n (now (w .exit)) ≡ merge lt (part n (n + m) (now (w .entry))) (part m n (now (w .entry)))) ⌝ }
     ensures { λ _. ⌜ drop (t .at) (now (w .exit)) ≡ drop (t .at) (now (w .entry)) ⌝ }
 {
     let last = w[n + m - 1];
     let first = w[m];
-    if write_text_keys::below(nodes, strings, w, t, first, last) {
-        merge_parts(nodes, strings, w, t, m, n);
+    if write_text_keys::below(nodes, strings, w, t, first, last, source) {
+        merge_parts(nodes, strings, w, t, m, n, source);
     } else {
         copy_down(w, m, n);
     }
 }
 
 // Sorts the first n words by their texts; the n words after them are worked in.
-pub fn sort(nodes: &[u32], strings: &[u8], w: &mut [u32], t: Tables, n: usize)
+pub fn sort(nodes: &[u32], strings: &[u8], w: &mut [u32], t: Tables, n: usize, source: Source)
     requires { ⌜ (n + n ≤ t .at) × Placed t (length (now w)) ⌝ }
-    ensures { λ _. ⌜ take n (now (w .exit)) ≡ isort (byKey (keyIn (now (nodes .entry)) (now (strings .entry)) t (now (w .entry)))) (take n (now (w .entry))) ⌝ }
+    ensures { λ _. ⌜ (let lt = byKey (keyIn (source .version) (now (nodes .entry)) (now (strings .entry)) t (now (w .entry))) in
+        take n (now (w .exit)) ≡ isort lt (take n (now (w .entry)))) ⌝ }
     ensures { λ _. ⌜ drop (t .at) (now (w .exit)) ≡ drop (t .at) (now (w .entry)) ⌝ }
 {
     if n < 2 {
@@ -106,7 +128,7 @@ pub fn sort(nodes: &[u32], strings: &[u8], w: &mut [u32], t: Tables, n: usize)
         paths: t.paths,
         lengths: t.lengths,
     };
-    sort(nodes, strings, &mut w[m..], second, n - m);
+    sort(nodes, strings, &mut w[m..], second, n - m, source);
     copy_up(w, m, n);
     let first = Tables {
         at: t.at - n,
@@ -114,15 +136,24 @@ pub fn sort(nodes: &[u32], strings: &[u8], w: &mut [u32], t: Tables, n: usize)
         paths: t.paths,
         lengths: t.lengths,
     };
-    sort(nodes, strings, &mut w[n..], first, m);
-    join_parts(nodes, strings, w, t, m, n);
+    sort(nodes, strings, &mut w[n..], first, m, source);
+    join_parts(nodes, strings, w, t, m, n, source);
 }
 
 // Merges the first m words and those from m up to n, each part in order, into the first n words; the m words after them are worked in.
-pub fn merge(nodes: &[u32], strings: &[u8], w: &mut [u32], t: Tables, m: usize, n: usize)
+pub fn merge(
+    nodes: &[u32],
+    strings: &[u8],
+    w: &mut [u32],
+    t: Tables,
+    m: usize,
+    n: usize,
+    source: Source,
+)
     requires { ⌜ (m ≤ n) × (n + m ≤ t .at) × Placed t (length (now w)) ⌝ }
-    requires { ⌜ Ordered (byKey (keyIn (now nodes) (now strings) t (now w))) (take m (now w)) ⌝ }
-    ensures { λ _. ⌜ take n (now (w .exit)) ≡ merge (byKey (keyIn (now (nodes .entry)) (now (strings .entry)) t (now (w .entry)))) (take m (now (w .entry))) (part m n (now (w .entry))) ⌝ }
+    requires { ⌜ Ordered (byKey (keyIn (source .version) (now nodes) (now strings) t (now w))) (take m (now w)) ⌝ }
+    ensures { λ _. ⌜ (let lt = byKey (keyIn (source .version) (now (nodes .entry)) (now (strings .entry)) t (now (w .entry))) in
+        take n (now (w .exit)) ≡ merge lt (take m (now (w .entry))) (part m n (now (w .entry)))) ⌝ }
     ensures { λ _. ⌜ drop (t .at) (now (w .exit)) ≡ drop (t .at) (now (w .entry)) ⌝ }
 {
     if m == 0 {
@@ -132,5 +163,5 @@ pub fn merge(nodes: &[u32], strings: &[u8], w: &mut [u32], t: Tables, m: usize, 
         return;
     }
     copy_up(w, m, n);
-    join_parts(nodes, strings, w, t, m, n);
+    join_parts(nodes, strings, w, t, m, n, source);
 }

@@ -18,15 +18,15 @@ use Rattle.write_text_keys.specs.Keys.{atEnd, pieceByte, lastByte, stepB
 abbrev pub withLeft : Cursor → ℕ → Cursor
 withLeft c n = record { named = c .named; at = c .at; left = n; above = c .above }
 
-pub step-in : (nodes : List ℕ) (c : Cursor) (n : ℕ) → c .left ≡ suc n → stepBack nodes c ≡ withLeft c n
+pub step-in : (v : ℕ) (nodes : List ℕ) (c : Cursor) (n : ℕ) → c .left ≡ suc n → stepBack v nodes c ≡ withLeft c n
 unfolding stepBack
-step-in nodes c n e =
+step-in v nodes c n e =
     let p : c .left - 1 ≡ n = omega arith in
     rw (ne-eqb (c .left) 0 (λ z. omega arith)) (ap (withLeft c) p)
 
-pub step-up : (nodes : List ℕ) (c : Cursor) → c .left ≡ 0 → stepBack nodes c ≡ atEnd nodes (c .above)
+pub step-up : (v : ℕ) (nodes : List ℕ) (c : Cursor) → c .left ≡ 0 → stepBack v nodes c ≡ atEnd v nodes (c .above)
 unfolding stepBack
-step-up nodes c e = rw (eq-eqb (c .left) 0 e)
+step-up v nodes c e = rw (eq-eqb (c .left) 0 e)
 
 pub dot-up : (strings : List ℕ) (c : Cursor) → c .left ≡ 0 → lastByte strings c ≡ dot
 unfolding lastByte
@@ -41,9 +41,9 @@ byte-in strings c n e =
 
 -- ---- many
 
-module _ (nodes : List ℕ) where
+module _ (v : ℕ) (nodes : List ℕ) where
   -- as many bytes as are left of a piece at most
-  pub back-in : (n : ℕ) (c : Cursor) → n ≤ c .left → back n nodes c ≡ withLeft c (c .left - n)
+  pub back-in : (n : ℕ) (c : Cursor) → n ≤ c .left → back n v nodes c ≡ withLeft c (c .left - n)
   unfolding back
   back-in zero c h =
       let e : c .left ≡ c .left - 0 = omega arith in
@@ -51,74 +51,74 @@ module _ (nodes : List ℕ) where
   back-in (suc n) c h =
       let l : c .left ≡ suc (c .left - 1) = omega arith in
       let e : c .left - 1 - n ≡ c .left - suc n = omega arith in
-      ap (back n nodes) (step-in nodes c (c .left - 1) l)
+      ap (back n v nodes) (step-in v nodes c (c .left - 1) l)
       ∙ back-in n (withLeft c (c .left - 1)) (omega arith)
       ∙ ap (withLeft c) e
 
-  back-more : (m n k : ℕ) (c : Cursor) → k ≡ m + n → back k nodes c ≡ back n nodes (back m nodes c)
+  back-more : (m n k : ℕ) (c : Cursor) → k ≡ m + n → back k v nodes c ≡ back n v nodes (back m v nodes c)
   unfolding back
   back-more zero n k c e =
       let p : k ≡ n = omega arith in
-      ap (λ (j : ℕ). back j nodes c) p
+      ap (λ (j : ℕ). back j v nodes c) p
   back-more (suc m) n zero c e = absurd (omega arith)
-  back-more (suc m) n (suc k) c e = back-more m n k (stepBack nodes c) (omega arith)
+  back-more (suc m) n (suc k) c e = back-more m n k (stepBack v nodes c) (omega arith)
 
   -- a piece and the dot before it
-  pub back-up : (n rest : ℕ) (c : Cursor) → n ≡ rest + (c .left + 1) → back n nodes c ≡ back rest nodes (atEnd nodes (c .above))
+  pub back-up : (n rest : ℕ) (c : Cursor) → n ≡ rest + (c .left + 1) → back n v nodes c ≡ back rest v nodes (atEnd v nodes (c .above))
   unfolding back
   back-up n rest c e =
       let z : c .left - c .left ≡ 0 = omega arith in
       back-more (c .left) (suc rest) n c (omega arith)
-      ∙ ap (back (suc rest) nodes) (back-in (c .left) c (le-refl (c .left)))
-      ∙ ap (back rest nodes) (step-up nodes (withLeft c (c .left - c .left)) z)
+      ∙ ap (back (suc rest) v nodes) (back-in (c .left) c (le-refl (c .left)))
+      ∙ ap (back rest v nodes) (step-up v nodes (withLeft c (c .left - c .left)) z)
 
   module _ (strings : List ℕ) where
-    pub read-length : (n : ℕ) (c : Cursor) → length (readBack n nodes strings c) ≡ n
+    pub read-length : (n : ℕ) (c : Cursor) → length (readBack n v nodes strings c) ≡ n
     unfolding readBack
     read-length zero c = refl
-    read-length (suc n) c = length-append (readBack n nodes strings (stepBack nodes c)) (lastByte strings c ∷ []) ∙ omega (arith, read-length n (stepBack nodes c))
+    read-length (suc n) c = length-append (readBack n v nodes strings (stepBack v nodes c)) (lastByte strings c ∷ []) ∙ omega (arith, read-length n (stepBack v nodes c))
 
     -- what is left after the last bytes
-    pub read-front : (n m k : ℕ) (c : Cursor) → k ≡ n + m → take m (readBack k nodes strings c) ≡ readBack m nodes strings (back n nodes c)
+    pub read-front : (n m k : ℕ) (c : Cursor) → k ≡ n + m → take m (readBack k v nodes strings c) ≡ readBack m v nodes strings (back n v nodes c)
     unfolding readBack back
     read-front zero m k c e =
         let p : k ≡ m = omega arith in
-        rw p (take-all m (readBack m nodes strings c) (omega (arith, read-length m c)))
+        rw p (take-all m (readBack m v nodes strings c) (omega (arith, read-length m c)))
     read-front (suc n) m zero c e = absurd (omega arith)
     read-front (suc n) m (suc k) c e =
-        take-append-le m (readBack k nodes strings (stepBack nodes c)) (lastByte strings c ∷ []) (omega (arith, read-length k (stepBack nodes c)))
-        ∙ read-front n m k (stepBack nodes c) (omega arith)
+        take-append-le m (readBack k v nodes strings (stepBack v nodes c)) (lastByte strings c ∷ []) (omega (arith, read-length k (stepBack v nodes c)))
+        ∙ read-front n m k (stepBack v nodes c) (omega arith)
 
     -- one byte
-    pub read-one : (left n : ℕ) (c : Cursor) → n ≡ left + 1 → readBack n nodes strings c ≡ readBack left nodes strings (stepBack nodes c) ++ (lastByte strings c ∷ [])
+    pub read-one : (left n : ℕ) (c : Cursor) → n ≡ left + 1 → readBack n v nodes strings c ≡ readBack left v nodes strings (stepBack v nodes c) ++ (lastByte strings c ∷ [])
     unfolding readBack
     read-one left n c e = rw (e, add-one)
 
     -- below one node what is left is one text
-    pub read-alike : (n : ℕ) (c d : Cursor) → c .left ≡ 0 → d .left ≡ 0 → c .above ≡ d .above → readBack n nodes strings c ≡ readBack n nodes strings d
+    pub read-alike : (n : ℕ) (c d : Cursor) → c .left ≡ 0 → d .left ≡ 0 → c .above ≡ d .above → readBack n v nodes strings c ≡ readBack n v nodes strings d
     unfolding readBack lastByte
     read-alike zero c d p q r = refl
-    read-alike (suc n) c d p q r = rw (step-up nodes c p, step-up nodes d q, r, p, q)
+    read-alike (suc n) c d p q r = rw (step-up v nodes c p, step-up v nodes d q, r, p, q)
 
     -- a piece, with m bytes before it
     pub piece-read : (p : List ℕ) (n m k : ℕ) (c : Cursor) → c .left ≡ n → n ≤ length p → ((i : ℕ) → i < n → pieceByte strings c i ≡ getD p i 0) → k ≡ m + n
-        → readBack k nodes strings c ≡ readBack m nodes strings (withLeft c 0) ++ take n p
+        → readBack k v nodes strings c ≡ readBack m v nodes strings (withLeft c 0) ++ take n p
     piece-read p zero m k c l h bytes e =
         let q : k ≡ m = omega arith in
-        rw q (ap (λ (d : Cursor). readBack m nodes strings d) (ap (withLeft c) l) ∙ sym (append-nil (readBack m nodes strings (withLeft c 0))))
+        rw q (ap (λ (d : Cursor). readBack m v nodes strings d) (ap (withLeft c) l) ∙ sym (append-nil (readBack m v nodes strings (withLeft c 0))))
     piece-read p (suc n) m zero c l h bytes e = absurd (omega arith)
     piece-read p (suc n) m (suc k) c l h bytes e =
-        let front = readBack m nodes strings (withLeft c 0) in
+        let front = readBack m v nodes strings (withLeft c 0) in
         read-one k (suc k) c (omega arith)
-        ∙ rw (step-in nodes c n l, byte-in strings c n l ∙ bytes n (omega arith), piece-read p n m k (withLeft c n) refl (omega arith) (λ i g. bytes i (omega arith)) (omega arith))
+        ∙ rw (step-in v nodes c n l, byte-in strings c n l ∙ bytes n (omega arith), piece-read p n m k (withLeft c n) refl (omega arith) (λ i g. bytes i (omega arith)) (omega arith))
         (append-assoc front (take n p) (getD p n 0 ∷ []) ∙ ap (λ (t : List ℕ). front ++ t) (sym (take-suc p n 0 (omega arith))))
 
     -- the last of n bytes is written, the others are left
     pub read-put : (left n b : ℕ) (c : Cursor) (out : List ℕ) → n ≡ left + 1 → left < length out → b ≡ lastByte strings c
-        → readBack n nodes strings c ++ drop n out ≡ readBack left nodes strings (stepBack nodes c) ++ drop left (set out left b)
+        → readBack n v nodes strings c ++ drop n out ≡ readBack left v nodes strings (stepBack v nodes c) ++ drop left (set out left b)
     read-put left n b c out e h q =
         rw (read-one left n c e, e, add-one, append-assoc, ← q)
-        (ap (λ (l : List ℕ). readBack left nodes strings (stepBack nodes c) ++ l) (sym placed))
+        (ap (λ (l : List ℕ). readBack left v nodes strings (stepBack v nodes c) ++ l) (sym placed))
       where
         placed : drop left (set out left b) ≡ b ∷ drop (suc left) out
         placed =
@@ -126,6 +126,6 @@ module _ (nodes : List ℕ) where
             ∙ rw (getD-set-same out left b 0 h, drop-set-lt (suc left) out left b (le-refl (suc left)))
 
     -- all are written
-    pub read-none : (n : ℕ) (c : Cursor) (out : List ℕ) → n ≡ 0 → readBack n nodes strings c ++ drop n out ≡ out
+    pub read-none : (n : ℕ) (c : Cursor) (out : List ℕ) → n ≡ 0 → readBack n v nodes strings c ++ drop n out ≡ out
     unfolding readBack
     read-none n c out e = rw e

@@ -8,43 +8,44 @@ use borrow.Author.Tests.{lt-ltb, le-ltb}
 use Rattle.texts.specs.Decimal.{decimal}
 use Rattle.image.specs.Sections.{textOrEmpty}
 use Rattle.index.specs.Paths.{noName}
+use Rattle.draft.specs.Source.{wordOf}
 use Rattle.write_text_keys.specs.declared.Cursor.{Cursor}
-use Rattle.write_text_keys.specs.Keys.{wordOf, pieceLength, atEnd, nodeOf, longOf, keyLength, endOf}
+use Rattle.write_text_keys.specs.Keys.{pieceLength, atEnd, nodeOf, longOf, keyLength, endOf}
 
 -- ---- a node's piece, where b says whether it has no name
 
-module _ (nodes : List ℕ) (x offset len : ℕ) (b : Bool) (o : offset ≡ wordOf nodes x 3) (l : len ≡ wordOf nodes x 4) (p : b ≡ noName offset len) where
-  read : noName (wordOf nodes x 3) (wordOf nodes x 4) ≡ b
+module _ (v : ℕ) (nodes : List ℕ) (x offset len : ℕ) (b : Bool) (o : offset ≡ wordOf v nodes x 3) (l : len ≡ wordOf v nodes x 4) (p : b ≡ noName offset len) where
+  read : noName (wordOf v nodes x 3) (wordOf v nodes x 4) ≡ b
   read = rw (← o, ← l) (sym p)
 
-  pub piece-unnamed : (place r : ℕ) → place ≡ wordOf nodes x 1 → r ≡ length (decimal place) → b ≡ true → r ≡ pieceLength nodes x
+  pub piece-unnamed : (place r : ℕ) → place ≡ wordOf v nodes x 1 → r ≡ length (decimal place) → b ≡ true → r ≡ pieceLength v nodes x
   unfolding pieceLength
   piece-unnamed place r e q t = rw (read ∙ t) (q ∙ ap (λ (n : ℕ). length (decimal n)) e)
 
-  pub piece-named : b ≡ false → len ≡ pieceLength nodes x
+  pub piece-named : b ≡ false → len ≡ pieceLength v nodes x
   unfolding pieceLength
   piece-named t = rw (read ∙ t) l
 
-  module _ (left above : ℕ) (s : left ≡ pieceLength nodes x) (u : above ≡ wordOf nodes x 0) where
-    pub end-unnamed : (place : ℕ) → place ≡ wordOf nodes x 1 → b ≡ true → record { named = false; at = place; left = left; above = above } ≡ atEnd nodes x
+  module _ (left above : ℕ) (s : left ≡ pieceLength v nodes x) (u : above ≡ wordOf v nodes x 0) where
+    pub end-unnamed : (place : ℕ) → place ≡ wordOf v nodes x 1 → b ≡ true → record { named = false; at = place; left = left; above = above } ≡ atEnd v nodes x
     unfolding atEnd
     end-unnamed place e t = rw (read ∙ t) (cc)
 
-    pub end-named : b ≡ false → record { named = true; at = offset; left = left; above = above } ≡ atEnd nodes x
+    pub end-named : b ≡ false → record { named = true; at = offset; left = left; above = above } ≡ atEnd v nodes x
     unfolding atEnd
     end-named t = rw (read ∙ t) (cc)
 
 -- ---- a use
 
 module _ (texts a : ℕ) (tab : List ℕ) where
-  pub end-text : (nodes : List ℕ) (paths at left : ℕ) → a < texts → at ≡ getD tab (a + a) 0 → left ≡ getD tab (a + a + 1) 0
-      → record { named = true; at = at; left = left; above = 0 } ≡ endOf nodes texts paths tab a
+  pub end-text : (v : ℕ) (nodes : List ℕ) (paths at left : ℕ) → a < texts → at ≡ getD tab (a + a) 0 → left ≡ getD tab (a + a + 1) 0
+      → record { named = true; at = at; left = left; above = 0 } ≡ endOf v nodes texts paths tab a
   unfolding endOf
-  end-text nodes paths at left h e l = rw (lt-ltb a texts h) (cc)
+  end-text v nodes paths at left h e l = rw (lt-ltb a texts h) (cc)
 
-  pub end-path : (nodes : List ℕ) (paths x : ℕ) (c : Cursor) → texts ≤ a → x ≡ nodeOf texts paths tab a → c ≡ atEnd nodes x → c ≡ endOf nodes texts paths tab a
+  pub end-path : (v : ℕ) (nodes : List ℕ) (paths x : ℕ) (c : Cursor) → texts ≤ a → x ≡ nodeOf texts paths tab a → c ≡ atEnd v nodes x → c ≡ endOf v nodes texts paths tab a
   unfolding endOf
-  end-path nodes paths x c h e q = rw (le-ltb a texts h, ← e) q
+  end-path v nodes paths x c h e q = rw (le-ltb a texts h, ← e) q
 
   pub length-text : (strings text : List ℕ) (paths lengths : ℕ) → a < texts → text ≡ textOrEmpty strings (getD tab (a + a) 0) (getD tab (a + a + 1) 0)
       → length text ≡ keyLength strings texts paths lengths tab a

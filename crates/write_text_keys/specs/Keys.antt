@@ -7,35 +7,31 @@ use lib.ListN.{length, getD, drop}
 use lib.Dec.{eqb, ltb}
 use Rattle.texts.specs.Decimal.{decimal, decimals}
 use Rattle.texts.specs.Dots.{dot}
-use Rattle.image.specs.Header.{nodeWords}
 use Rattle.image.specs.Sections.{textOrEmpty, sections}
 use Rattle.index.specs.Paths.{noName}
+use Rattle.draft.specs.Source.{wordOf}
 use Rattle.write_text_keys.specs.declared.Cursor.{Cursor}
 use Rattle.write_text_keys.specs.declared.Tables.{Tables}
 
 -- ---- pieces of a path
 
--- word k of node x
-abbrev pub wordOf : List ℕ → ℕ → ℕ → ℕ
-wordOf nodes x k = getD nodes (x * nodeWords + k) 0
-
-abbrev pub unnamed : List ℕ → ℕ → Bool
-unnamed nodes x = noName (wordOf nodes x 3) (wordOf nodes x 4)
+abbrev pub unnamed : ℕ → List ℕ → ℕ → Bool
+unnamed version nodes x = noName (wordOf version nodes x 3) (wordOf version nodes x 4)
 
 -- how long node x's piece is: its non-empty name, else its place in decimal
-unfoldable pub pieceLength : List ℕ → ℕ → ℕ
-pieceLength nodes x = cond (unnamed nodes x) (length (decimal (wordOf nodes x 1))) (wordOf nodes x 4)
+unfoldable pub pieceLength : ℕ → List ℕ → ℕ → ℕ
+pieceLength version nodes x = cond (unnamed version nodes x) (length (decimal (wordOf version nodes x 1))) (wordOf version nodes x 4)
 
 -- ---- reading backward
 
 -- at the end of node x's piece: a name's offset, or a place, with the length, and the node above
-unfoldable pub atEnd : List ℕ → ℕ → Cursor
-atEnd nodes x =
+unfoldable pub atEnd : ℕ → List ℕ → ℕ → Cursor
+atEnd version nodes x =
     record {
-      named = not (unnamed nodes x);
-      at = cond (unnamed nodes x) (wordOf nodes x 1) (wordOf nodes x 3);
-      left = pieceLength nodes x;
-      above = wordOf nodes x 0;
+      named = not (unnamed version nodes x);
+      at = cond (unnamed version nodes x) (wordOf version nodes x 1) (wordOf version nodes x 3);
+      left = pieceLength version nodes x;
+      above = wordOf version nodes x 0;
     }
 
 -- byte i of a cursor's piece
@@ -47,20 +43,20 @@ unfoldable pub lastByte : List ℕ → Cursor → ℕ
 lastByte strings c = cond (eqb (c .left) 0) dot (pieceByte strings c (c .left - 1))
 
 -- the cursor before that byte; before a dot stands the whole piece of the node above
-unfoldable pub stepBack : List ℕ → Cursor → Cursor
-stepBack nodes c =
-    cond (eqb (c .left) 0) (atEnd nodes (c .above))
+unfoldable pub stepBack : ℕ → List ℕ → Cursor → Cursor
+stepBack version nodes c =
+    cond (eqb (c .left) 0) (atEnd version nodes (c .above))
     (record { named = c .named; at = c .at; left = c .left - 1; above = c .above })
 
 -- as many bytes as the first argument says, before a cursor
-unfoldable pub readBack : ℕ → List ℕ → List ℕ → Cursor → List ℕ
-readBack zero nodes strings c = []
-readBack (suc n) nodes strings c = readBack n nodes strings (stepBack nodes c) ++ (lastByte strings c ∷ [])
+unfoldable pub readBack : ℕ → ℕ → List ℕ → List ℕ → Cursor → List ℕ
+readBack zero version nodes strings c = []
+readBack (suc n) version nodes strings c = readBack n version nodes strings (stepBack version nodes c) ++ (lastByte strings c ∷ [])
 
 -- the cursor that many bytes back
-unfoldable pub back : ℕ → List ℕ → Cursor → Cursor
-back zero nodes c = c
-back (suc n) nodes c = back n nodes (stepBack nodes c)
+unfoldable pub back : ℕ → ℕ → List ℕ → Cursor → Cursor
+back zero version nodes c = c
+back (suc n) version nodes c = back n version nodes (stepBack version nodes c)
 
 -- ---- two texts of one length, the first difference of which decides, else what follows them
 
@@ -83,26 +79,30 @@ nodeOf texts paths tab a = getD tab (paths + (a - texts)) 0
 abbrev pub longOf : ℕ → List ℕ → ℕ → ℕ
 longOf lengths tab x = getD tab (lengths + x + x) 0 + 2 ^ 32 * getD tab (lengths + x + x + 1) 0
 
+-- the text of text use a
+abbrev pub textIn : List ℕ → List ℕ → ℕ → List ℕ
+textIn strings tab a = textOrEmpty strings (getD tab (a + a) 0) (getD tab (a + a + 1) 0)
+
 -- the text of use a, by the tables of uses
-unfoldable pub keyOf : List ℕ → List ℕ → ℕ → ℕ → ℕ → List ℕ → ℕ → List ℕ
-keyOf nodes strings texts paths lengths tab a =
-    cond (ltb a texts) (textOrEmpty strings (getD tab (a + a) 0) (getD tab (a + a + 1) 0))
-    (readBack (longOf lengths tab (nodeOf texts paths tab a)) nodes strings (atEnd nodes (nodeOf texts paths tab a)))
+unfoldable pub keyOf : ℕ → List ℕ → List ℕ → ℕ → ℕ → ℕ → List ℕ → ℕ → List ℕ
+keyOf version nodes strings texts paths lengths tab a =
+    cond (ltb a texts) (textIn strings tab a)
+    (readBack (longOf lengths tab (nodeOf texts paths tab a)) version nodes strings (atEnd version nodes (nodeOf texts paths tab a)))
 
 -- how long that text is
 unfoldable pub keyLength : List ℕ → ℕ → ℕ → ℕ → List ℕ → ℕ → ℕ
 keyLength strings texts paths lengths tab a =
-    cond (ltb a texts) (length (textOrEmpty strings (getD tab (a + a) 0) (getD tab (a + a + 1) 0))) (longOf lengths tab (nodeOf texts paths tab a))
+    cond (ltb a texts) (length (textIn strings tab a)) (longOf lengths tab (nodeOf texts paths tab a))
 
 -- the cursor at its end: a text is one name, with nothing above that is ever read
-unfoldable pub endOf : List ℕ → ℕ → ℕ → List ℕ → ℕ → Cursor
-endOf nodes texts paths tab a =
+unfoldable pub endOf : ℕ → List ℕ → ℕ → ℕ → List ℕ → ℕ → Cursor
+endOf version nodes texts paths tab a =
     cond (ltb a texts) (record { named = true; at = getD tab (a + a) 0; left = getD tab (a + a + 1) 0; above = 0 })
-    (atEnd nodes (nodeOf texts paths tab a))
+    (atEnd version nodes (nodeOf texts paths tab a))
 
 -- the text by the place of the tables in the work words
-abbrev pub keyIn : List ℕ → List ℕ → Tables → List ℕ → ℕ → List ℕ
-keyIn nodes strings t w a = keyOf nodes strings (t .texts) (t .paths) (t .lengths) (drop (t .at) w) a
+abbrev pub keyIn : ℕ → List ℕ → List ℕ → Tables → List ℕ → ℕ → List ℕ
+keyIn version nodes strings t w a = keyOf version nodes strings (t .texts) (t .paths) (t .lengths) (drop (t .at) w) a
 
 -- the tables begin within so many work words
 abbrev pub Placed : Tables → ℕ → Type 0
@@ -116,11 +116,11 @@ joinedLength zero front last = last
 joinedLength (suc parent) front last = front + (1 + last)
 
 -- the first argument bounds the steps up to the root
-unfoldable pub lengthFrom : ℕ → List ℕ → ℕ → ℕ
-lengthFrom zero nodes x = 0
-lengthFrom (suc n) nodes x =
-    let front = lengthFrom n nodes (wordOf nodes x 0) in
-    cond (eqb x 0) 0 (joinedLength (wordOf nodes x 0) front (pieceLength nodes x))
+unfoldable pub lengthFrom : ℕ → ℕ → List ℕ → ℕ → ℕ
+lengthFrom zero version nodes x = 0
+lengthFrom (suc n) version nodes x =
+    let front = lengthFrom n version nodes (wordOf version nodes x 0) in
+    cond (eqb x 0) 0 (joinedLength (wordOf version nodes x 0) front (pieceLength version nodes x))
 
 -- names on an `unfolding` line what a computation with this module needs
 unfoldable pub keyed : Unit {0}

@@ -8,10 +8,10 @@ ghost use lib.Dec.{ltb};
 ghost use lib.ListN.{length, getD, drop};
 ghost use Rattle.texts.specs.Text.{before};
 ghost use Rattle.texts.specs.Decimal.{decimal};
-ghost use Rattle.image.specs.Sections.{textOrEmpty};
 ghost use Rattle.index.specs.Paths.{noName};
-ghost use Rattle.write_text_keys.specs.Keys.{wordOf, pieceLength, atEnd, lastByte, stepBack, readBack, back, decided, alike, nodeOf, longOf, keyOf, keyLength, endOf, keyIn, Placed, lengthFrom};
+ghost use Rattle.write_text_keys.specs.Keys.{pieceLength, atEnd, lastByte, stepBack, readBack, back, decided, alike, nodeOf, longOf, keyOf, keyLength, endOf, keyIn, textIn, Placed, lengthFrom};
 use draft::source;
+use draft::source::Source;
 use texts::Order;
 
 // Where the tables of uses lie in the work words: all of them from word `at` on, and in them from their start on two words for each text
@@ -30,14 +30,6 @@ struct Cursor {
     at: u32,
     left: u32,
     above: u32,
-}
-
-// Word `k` of node `x`; past the last one its words are 0.
-fn node_word(nodes: &[u32], x: u32, k: usize) -> u32
-    requires { ⌜ k < 10 ⌝ }
-    ensures { λ r. ⌜ r ≡ wordOf (now (nodes .entry)) x k ⌝ }
-{
-    source::word(nodes, (x as usize) * 10 + k)
 }
 
 // Whether there is no name, or the empty one.
@@ -62,25 +54,25 @@ fn digit_count(place: u32) -> u32
 }
 
 // How long node `x`'s piece of a path is.
-fn piece_length(nodes: &[u32], x: u32) -> u32
-    ensures { λ r. ⌜ r ≡ pieceLength (now (nodes .entry)) x ⌝ }
+fn piece_length(nodes: &[u32], x: u32, source: Source) -> u32
+    ensures { λ r. ⌜ r ≡ pieceLength (source .version) (now (nodes .entry)) x ⌝ }
 {
-    let len = node_word(nodes, x, 4);
-    if no_name(node_word(nodes, x, 3), len) {
-        return digit_count(node_word(nodes, x, 1));
+    let len = source::word_of(nodes, x, 4, source);
+    if no_name(source::word_of(nodes, x, 3, source), len) {
+        return digit_count(source::word_of(nodes, x, 1, source));
     }
     len
 }
 
 // The cursor at the end of node `x`'s piece.
-fn at_end(nodes: &[u32], x: u32) -> Cursor
-    ensures { λ r. ⌜ r ≡ atEnd (now (nodes .entry)) x ⌝ }
+fn at_end(nodes: &[u32], x: u32, source: Source) -> Cursor
+    ensures { λ r. ⌜ r ≡ atEnd (source .version) (now (nodes .entry)) x ⌝ }
 {
-    let above = node_word(nodes, x, 0);
-    let offset = node_word(nodes, x, 3);
-    let left = piece_length(nodes, x);
-    if no_name(offset, node_word(nodes, x, 4)) {
-        let place = node_word(nodes, x, 1);
+    let above = source::word_of(nodes, x, 0, source);
+    let offset = source::word_of(nodes, x, 3, source);
+    let left = piece_length(nodes, x, source);
+    if no_name(offset, source::word_of(nodes, x, 4, source)) {
+        let place = source::word_of(nodes, x, 1, source);
         return Cursor {
             named: false,
             at: place,
@@ -134,11 +126,11 @@ fn last_byte(strings: &[u8], c: Cursor) -> u8
 }
 
 // The cursor before that byte.
-fn step_back(nodes: &[u32], c: Cursor) -> Cursor
-    ensures { λ r. ⌜ r ≡ stepBack (now (nodes .entry)) c ⌝ }
+fn step_back(nodes: &[u32], c: Cursor, source: Source) -> Cursor
+    ensures { λ r. ⌜ r ≡ stepBack (source .version) (now (nodes .entry)) c ⌝ }
 {
     if c.left == 0 {
-        return at_end(nodes, c.above);
+        return at_end(nodes, c.above, source);
     }
     Cursor {
         named: c.named,
@@ -149,14 +141,14 @@ fn step_back(nodes: &[u32], c: Cursor) -> Cursor
 }
 
 // The cursor `count` bytes before another. A whole piece is passed in one step.
-fn skip(nodes: &[u32], c: Cursor, count: usize) -> Cursor
-    ensures { λ r. ⌜ r ≡ back count (now (nodes .entry)) c ⌝ }
+fn skip(nodes: &[u32], c: Cursor, count: usize, source: Source) -> Cursor
+    ensures { λ r. ⌜ r ≡ back count (source .version) (now (nodes .entry)) c ⌝ }
 {
     let mut x = c;
     let mut rest = count;
     while (x.left as usize) < rest {
         rest -= x.left as usize + 1;
-        x = at_end(nodes, x.above);
+        x = at_end(nodes, x.above, source);
     }
     Cursor {
         named: x.named,
@@ -193,8 +185,17 @@ fn decide(x: u8, y: u8, later: bool) -> bool
 }
 
 // Whether the `n` bytes before `c` come before the `n` bytes before `d`; where they are alike, `later` says it of what is behind them.
-fn read_below(nodes: &[u32], strings: &[u8], c: Cursor, d: Cursor, n: usize, later: bool) -> bool
-    ensures { λ r. ⌜ r ≡ decided (readBack n (now (nodes .entry)) (now (strings .entry)) c) (readBack n (now (nodes .entry)) (now (strings .entry)) d) later ⌝ }
+fn read_below(
+    nodes: &[u32],
+    strings: &[u8],
+    c: Cursor,
+    d: Cursor,
+    n: usize,
+    later: bool,
+    source: Source,
+) -> bool
+    ensures { λ r. ⌜ (let read = readBack n (source .version) (now (nodes .entry)) (now (strings .entry)) in
+        r ≡ decided (read c) (read d) later) ⌝ }
 {
     let mut x = c;
     let mut y = d;
@@ -205,8 +206,8 @@ fn read_below(nodes: &[u32], strings: &[u8], c: Cursor, d: Cursor, n: usize, lat
             return less;
         }
         less = decide(last_byte(strings, x), last_byte(strings, y), less);
-        x = step_back(nodes, x);
-        y = step_back(nodes, y);
+        x = step_back(nodes, x, source);
+        y = step_back(nodes, y, source);
         left -= 1;
     }
     less
@@ -214,7 +215,7 @@ fn read_below(nodes: &[u32], strings: &[u8], c: Cursor, d: Cursor, n: usize, lat
 
 // The bytes of text use `a`.
 fn text_of<'s, 't>(strings: &'s [u8], tab: &'t [u32], a: u32) -> &'s [u8]
-    ensures { λ r. ⌜ now r ≡ textOrEmpty (now (strings .entry)) (getD (now (tab .entry)) (a + a) 0) (getD (now (tab .entry)) (a + a + 1) 0) ⌝ }
+    ensures { λ r. ⌜ now r ≡ textIn (now (strings .entry)) (now (tab .entry)) a ⌝ }
 {
     let i = a as usize + a as usize;
     image::text_part(strings, source::word(tab, i), source::word(tab, i + 1))
@@ -251,9 +252,9 @@ fn length_of(strings: &[u8], tab: &[u32], t: Tables, a: u32) -> usize
 }
 
 // The cursor at the end of the text of use `a`.
-fn end_of(nodes: &[u32], tab: &[u32], t: Tables, a: u32) -> Cursor
+fn end_of(nodes: &[u32], tab: &[u32], t: Tables, a: u32, source: Source) -> Cursor
     requires { ⌜ t .paths ≤ length (now tab) ⌝ }
-    ensures { λ r. ⌜ r ≡ endOf (now (nodes .entry)) (t .texts) (t .paths) (now (tab .entry)) a ⌝ }
+    ensures { λ r. ⌜ r ≡ endOf (source .version) (now (nodes .entry)) (t .texts) (t .paths) (now (tab .entry)) a ⌝ }
 {
     if (a as usize) < t.texts {
         let i = a as usize + a as usize;
@@ -264,12 +265,12 @@ fn end_of(nodes: &[u32], tab: &[u32], t: Tables, a: u32) -> Cursor
             above: 0,
         };
     }
-    at_end(nodes, node_of(tab, t, a))
+    at_end(nodes, node_of(tab, t, a), source)
 }
 
 // Whether the text of text use `a` comes before that of text use `b`.
 fn texts_below(strings: &[u8], tab: &[u32], a: u32, b: u32) -> bool
-    ensures { λ r. ⌜ r ≡ before (textOrEmpty (now (strings .entry)) (getD (now (tab .entry)) (a + a) 0) (getD (now (tab .entry)) (a + a + 1) 0)) (textOrEmpty (now (strings .entry)) (getD (now (tab .entry)) (b + b) 0) (getD (now (tab .entry)) (b + b + 1) 0)) ⌝ }
+    ensures { λ r. ⌜ (let text = textIn (now (strings .entry)) (now (tab .entry)) in r ≡ before (text a) (text b)) ⌝ }
 {
     let order = texts::compare(text_of(strings, tab, a), text_of(strings, tab, b));
     match order {
@@ -280,24 +281,58 @@ fn texts_below(strings: &[u8], tab: &[u32], a: u32, b: u32) -> bool
 }
 
 // Whether the text of use `a` comes before that of use `b`, by cursors: the longer one's surplus is passed, then both are read backward.
-fn ends_below(nodes: &[u32], strings: &[u8], tab: &[u32], t: Tables, a: u32, b: u32) -> bool
+fn ends_below(
+    nodes: &[u32],
+    strings: &[u8],
+    tab: &[u32],
+    t: Tables,
+    a: u32,
+    b: u32,
+    source: Source,
+) -> bool
     requires { ⌜ (t .paths ≤ length (now tab)) × (t .lengths ≤ length (now tab)) ⌝ }
-    ensures { λ r. ⌜ r ≡ before (keyOf (now (nodes .entry)) (now (strings .entry)) (t .texts) (t .paths) (t .lengths) (now (tab .entry)) a) (keyOf (now (nodes .entry)) (now (strings .entry)) (t .texts) (t .paths) (t .lengths) (now (tab .entry)) b) ⌝ }
+    ensures { λ r. ⌜ (let key = keyOf (source .version) (now (nodes .entry)) (now (strings .entry)) (t .texts) (t .paths) (t .lengths) (now (tab .entry)) in
+        r ≡ before (key a) (key b)) ⌝ }
 {
     let m = length_of(strings, tab, t, a);
     let n = length_of(strings, tab, t, b);
-    let c = end_of(nodes, tab, t, a);
-    let d = end_of(nodes, tab, t, b);
+    let c = end_of(nodes, tab, t, a, source);
+    let d = end_of(nodes, tab, t, b, source);
     if m < n {
-        return read_below(nodes, strings, c, skip(nodes, d, n - m), m, true);
+        return read_below(
+            nodes,
+            strings,
+            c,
+            skip(nodes, d, n - m, source),
+            m,
+            true,
+            source,
+        );
     }
-    read_below(nodes, strings, skip(nodes, c, m - n), d, n, false)
+    read_below(
+        nodes,
+        strings,
+        skip(nodes, c, m - n, source),
+        d,
+        n,
+        false,
+        source,
+    )
 }
 
 // Whether the text of use `a` comes before that of use `b`.
-pub fn below(nodes: &[u32], strings: &[u8], w: &[u32], t: Tables, a: u32, b: u32) -> bool
+pub fn below(
+    nodes: &[u32],
+    strings: &[u8],
+    w: &[u32],
+    t: Tables,
+    a: u32,
+    b: u32,
+    source: Source,
+) -> bool
     requires { ⌜ Placed t (length (now w)) ⌝ }
-    ensures { λ r. ⌜ r ≡ before (keyIn (now (nodes .entry)) (now (strings .entry)) t (now (w .entry)) a) (keyIn (now (nodes .entry)) (now (strings .entry)) t (now (w .entry)) b) ⌝ }
+    ensures { λ r. ⌜ (let key = keyIn (source .version) (now (nodes .entry)) (now (strings .entry)) t (now (w .entry)) in
+        r ≡ before (key a) (key b)) ⌝ }
 {
     let at = t.at;
     let tab = &w[at..];
@@ -306,13 +341,13 @@ pub fn below(nodes: &[u32], strings: &[u8], w: &[u32], t: Tables, a: u32, b: u32
             return texts_below(strings, tab, a, b);
         }
     }
-    ends_below(nodes, strings, tab, t, a, b)
+    ends_below(nodes, strings, tab, t, a, b, source)
 }
 
-// The length of the text of use `a`; the nodes' words do not bear on it.
+// The length of the text of use `a`: it does not go by the nodes' words.
 pub fn key_length(strings: &[u8], w: &[u32], t: Tables, a: u32) -> usize
     requires { ⌜ Placed t (length (now w)) ⌝ }
-    ensures { λ r. ⌜ ((nodes : List ℕ) → r ≡ length (keyIn nodes (now (strings .entry)) t (now (w .entry)) a)) ⌝ }
+    ensures { λ r. ⌜ ((version : ℕ) (nodes : List ℕ) → r ≡ length (keyIn version nodes (now (strings .entry)) t (now (w .entry)) a)) ⌝ }
 {
     let at = t.at;
     length_of(strings, &w[at..], t, a)
@@ -331,23 +366,34 @@ fn put_text(text: &[u8], out: &mut [u8])
 }
 
 // Writes the `n` bytes before a cursor at the front of the output, the last one first.
-fn put_read(nodes: &[u32], strings: &[u8], c: Cursor, n: usize, out: &mut [u8])
+fn put_read(nodes: &[u32], strings: &[u8], c: Cursor, n: usize, out: &mut [u8], source: Source)
     requires { ⌜ n ≤ length (now out) ⌝ }
-    ensures { λ r. ⌜ now (out .exit) ≡ readBack n (now (nodes .entry)) (now (strings .entry)) c ++ drop n (now (out .entry)) ⌝ }
+    ensures { λ r. ⌜ (let read = readBack n (source .version) (now (nodes .entry)) (now (strings .entry)) c in
+        now (out .exit) ≡ read ++ drop n (now (out .entry))) ⌝ }
 {
     let mut x = c;
     let mut left = n;
     while 0 < left {
         left -= 1;
         out[left] = last_byte(strings, x);
-        x = step_back(nodes, x);
+        x = step_back(nodes, x, source);
     }
 }
 
 // Writes the text of use `a` at the front of the output.
-pub fn put_key(nodes: &[u32], strings: &[u8], w: &[u32], t: Tables, a: u32, out: &mut [u8])
-    requires { ⌜ Placed t (length (now w)) × (length (keyIn (now nodes) (now strings) t (now w) a) ≤ length (now out)) ⌝ }
-    ensures { λ r. ⌜ now (out .exit) ≡ keyIn (now (nodes .entry)) (now (strings .entry)) t (now (w .entry)) a ++ drop (length (keyIn (now (nodes .entry)) (now (strings .entry)) t (now (w .entry)) a)) (now (out .entry)) ⌝ }
+pub fn put_key(
+    nodes: &[u32],
+    strings: &[u8],
+    w: &[u32],
+    t: Tables,
+    a: u32,
+    out: &mut [u8],
+    source: Source,
+)
+    requires { ⌜ Placed t (length (now w)) ⌝ }
+    requires { ⌜ length (keyIn (source .version) (now nodes) (now strings) t (now w) a) ≤ length (now out) ⌝ }
+    ensures { λ r. ⌜ (let key = keyIn (source .version) (now (nodes .entry)) (now (strings .entry)) t (now (w .entry)) a in
+        now (out .exit) ≡ key ++ drop (length key) (now (out .entry))) ⌝ }
 {
     let at = t.at;
     let tab = &w[at..];
@@ -359,16 +405,17 @@ pub fn put_key(nodes: &[u32], strings: &[u8], w: &[u32], t: Tables, a: u32, out:
     put_read(
         nodes,
         strings,
-        at_end(nodes, x),
+        at_end(nodes, x, source),
         long_of(tab, t.lengths, x),
         out,
+        source,
     );
 }
 
 // The length of the canonical path of node `x`, by at most so many steps up to the root.
-pub fn path_length(nodes: &[u32], x: u32, steps: usize) -> usize
+pub fn path_length(nodes: &[u32], x: u32, steps: usize, source: Source) -> usize
     requires { ⌜ steps ≤ 4294967295 ⌝ }
-    ensures { λ r. ⌜ r ≡ lengthFrom steps (now (nodes .entry)) x ⌝ }
+    ensures { λ r. ⌜ r ≡ lengthFrom steps (source .version) (now (nodes .entry)) x ⌝ }
 {
     let mut at = x;
     let mut left = steps;
@@ -377,8 +424,8 @@ pub fn path_length(nodes: &[u32], x: u32, steps: usize) -> usize
         if at == 0 {
             return sum;
         }
-        sum += piece_length(nodes, at) as usize;
-        at = node_word(nodes, at, 0);
+        sum += piece_length(nodes, at, source) as usize;
+        at = source::word_of(nodes, at, 0, source);
         if at == 0 {
             return sum;
         }

@@ -1,17 +1,10 @@
 -- `image::node_count` meets its contract.
 use Rattle.image.proofs.Widths.{count-bytes}
-use borrow.Author.Needs.{needs}
 use Rattle.image.proofs.node_count.Statement.{statement}
 use Rattle.image.proofs.node_count.Tie as tie
-
-cast-result : tie.Need-cast-result
-cast-result c = search needs
-
-div-result : tie.Need-div-result
-div-result c = search needs
 
 returns : tie.Need-returns
 returns c = count-bytes _ _
 
 pub node-count-spec : {M : Type 1} → statement M
-node-count-spec = tie.close (tie.spec cast-result div-result returns)
+node-count-spec = tie.close (tie.spec returns)

@@ -18,7 +18,7 @@ abbrev by : tie.After-number2 → List ℕ → ℕ → List ℕ
 by c d =
     let to = c .before .before .before .before .before .before .before .before .before .before .before .before .before in
     let t = to .args .t in
-    keyOf (to .args .nodes .now) (to .args .strings .now) (t .texts) (t .paths) (t .lengths) d
+    keyOf (to .args .source .version) (to .args .nodes .now) (to .args .strings .now) (t .texts) (t .paths) (t .lengths) d
 
 two : (c : tie.After-number2) → let to = c .before .before .before .before .before .before .before .before .before .before .before .before .before in Parts (by c) (to .args .w .now) (c .number2 .last .0) (to .args .t .texts) (to .args .n) (to .args .t .at)
 two c =

@@ -16,14 +16,14 @@ use Rattle.draft.proofs.source.word.Reads as word-reads
 use Rattle.write_text_keys.proofs.key_length.Reads as key-length-reads
 
 abbrev Inv-loop : tie.InvT-loop
-Inv-loop nodes strings w₀ t n total₀ k₀ w total k = Assigning (keyIn nodes strings t w₀) n w₀ w k total
+Inv-loop nodes strings w₀ t n source total₀ k₀ w total k = Assigning (keyIn (source .version) nodes strings t w₀) n w₀ w k total
 
 abbrev μ-loop : tie.MeasureT-loop
-μ-loop nodes strings w₀ t n total₀ k₀ w total k = n - k
+μ-loop nodes strings w₀ t n source total₀ k₀ w total k = n - k
 
 -- the texts by the tables where the pass began
 abbrev key : tie.At-loop Inv-loop μ-loop → ℕ → List ℕ
-key c = let to = c .before .before .before .before in keyIn (to .args .nodes .now) (to .args .strings .now) (to .args .t) (to .args .w .now)
+key c = let to = c .before .before .before .before in keyIn (to .args .source .version) (to .args .nodes .now) (to .args .strings .now) (to .args .t) (to .args .w .now)
 
 behind : (c : tie.At-loop Inv-loop μ-loop) → let to = c .before .before .before .before in drop (to .args .t .at) (c .loop .w) ≡ drop (to .args .t .at) (to .args .w .now)
 behind c =
@@ -50,15 +50,15 @@ own c =
     let e = sym (c .before .before .before .word .ensures) ∙ c .before .before .if1 .taken in
     record {
       self = e;
-      size = c .key-length .ensures (to .args .nodes .now)
-          ∙ ap (λ (d : List ℕ). length (keyOf (to .args .nodes .now) (to .args .strings .now) (t .texts) (t .paths) (t .lengths) d (c .before .before .before .word .result))) (behind at)
+      size = c .key-length .ensures (to .args .source .version) (to .args .nodes .now)
+          ∙ ap (λ (d : List ℕ). length (keyOf (to .args .source .version) (to .args .nodes .now) (to .args .strings .now) (t .texts) (t .paths) (t .lengths) d (c .before .before .before .word .result))) (behind at)
           ∙ ap (λ (a : ℕ). length (key at a)) (c .before .before .if1 .taken);
     }
 
 loop-holds : tie.Need-loop-holds Inv-loop μ-loop
 loop-holds c =
     let to = c .before .before .before in
-    assign-none (keyIn (to .args .nodes .now) (to .args .strings .now) (to .args .t) (to .args .w .now)) (to .args .n) (to .args .w .now)
+    assign-none (keyIn (to .args .source .version) (to .args .nodes .now) (to .args .strings .now) (to .args .t) (to .args .w .now)) (to .args .n) (to .args .w .now)
 
 add-word : tie.Need-add-word Inv-loop μ-loop
 add-word c = search needs

@@ -18,13 +18,13 @@ use Rattle.write_text_keys.proofs.key_length.Reads as key-length-reads
 use Rattle.write_text_keys.proofs.put_key.Reads as put-key-reads
 
 abbrev Inv-loop : tie.InvT-loop
-Inv-loop nodes strings w t n out₀ end₀ k₀ out end k = Emitting (keyIn nodes strings t w) n out₀ out k end
+Inv-loop nodes strings w t n out₀ source end₀ k₀ out end k = Emitting (keyIn (source .version) nodes strings t w) n out₀ out k end
 
 abbrev μ-loop : tie.MeasureT-loop
-μ-loop nodes strings w t n out₀ end₀ k₀ out end k = n - k
+μ-loop nodes strings w t n out₀ source end₀ k₀ out end k = n - k
 
 abbrev key : tie.At-loop Inv-loop μ-loop → ℕ → List ℕ
-key c = let to = c .before .before .before .before .before in keyIn (to .args .nodes .now) (to .args .strings .now) (to .args .t) (to .args .w .now)
+key c = let to = c .before .before .before .before .before in keyIn (to .args .source .version) (to .args .nodes .now) (to .args .strings .now) (to .args .t) (to .args .w .now)
 
 -- a text that is written: where it belongs, its length, and that it fits
 record Due (key : ℕ → List ℕ) (n : ℕ) (o x : List ℕ) (k end len : ℕ) : Type 0 where
@@ -39,14 +39,14 @@ due c =
     let e = sym (to .pre .1 .0 (at .loop .k) (c .before .before .before .loop-test .taken)) ∙ sym (c .before .before .word .ensures) ∙ c .before .if1 .taken in
     record {
       here = e;
-      size = c .key-length .ensures (to .args .nodes .now);
+      size = c .key-length .ensures (to .args .source .version) (to .args .nodes .now);
       fits = omega (arith, emit-fits (key at) (to .args .n) (to .args .out .now) (to .pre .1 .1) (at .loop .out) (at .loop .k) (at .loop .end) (at .loop .inv) (c .before .before .before .loop-test .taken) e);
     }
 
 loop-holds : tie.Need-loop-holds Inv-loop μ-loop
 loop-holds c =
     let to = c .before .before .before .before in
-    emit-none (keyIn (to .args .nodes .now) (to .args .strings .now) (to .args .t) (to .args .w .now)) (to .args .n) (to .args .out .now)
+    emit-none (keyIn (to .args .source .version) (to .args .nodes .now) (to .args .strings .now) (to .args .t) (to .args .w .now)) (to .args .n) (to .args .out .now)
 
 add-word : tie.Need-add-word Inv-loop μ-loop
 add-word c = search needs

@@ -20,7 +20,7 @@ abbrev by : tie.After-arrange → List ℕ → ℕ → List ℕ
 by c d =
     let to = c .before .before .before .before .before in
     let t = to .args .t in
-    keyOf (to .args .nodes .now) (to .args .strings .now) (t .texts) (t .paths) (t .lengths) d
+    keyOf (to .args .source .version) (to .args .nodes .now) (to .args .strings .now) (t .texts) (t .paths) (t .lengths) d
 
 arrange-requires : tie.Need-arrange-requires
 arrange-requires c κs = search needs

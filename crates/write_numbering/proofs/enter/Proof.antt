@@ -15,10 +15,10 @@ abbrev St : tie.After-node-at → tie.Start
 St c = c .before .before .before .before .before
 
 abbrev Tree : tie.Start → Sections
-Tree s = treeOf (s .args .nodes .now) (s .args .children .now) (s .args .named .now)
+Tree s = treeOf (s .args .source .version) (s .args .nodes .now) (s .args .children .now) (s .args .named .now)
 
 node-is : (c : tie.After-node-at) → IsNode (Tree (St c)) (St c .args .id) (c .node-at .result)
-node-is c = read-node _ _ _ _ refl refl (c .node-at .ensures)
+node-is c = read-node _ _ _ _ _ refl refl (c .node-at .ensures)
 
 room-of : (c : tie.After-node-at) (t : c .node-at .result .tag ≡ 1)
     → Room (Tree (St c)) (St c .args .id) (St c .args .base) (St c .args .depth) (St c .args .work .now) (c .node-at .result) (node-is c) t
@@ -29,7 +29,7 @@ fits : (c : tie.After-node-at) → c .node-at .result .tag ≡ 1 → St c .args 
 fits c t = omega (arith, room-of c t .words)
 
 node-at-requires : tie.Need-node-at-requires
-node-at-requires c κs = search needs
+node-at-requires c κs = c .before .before .before .before .pre .1
 
 returns : tie.Need-returns
 returns c = enter-leaf _ _ _ _ _ _ (node-is (c .before .before)) (c .if1 .taken)

@@ -3,7 +3,7 @@ use mathlib.Core.Path.{refl, _∙_}
 use Prim.Native.Nat.{ℕ, _+_, _*_, _-_, _<_}
 use native.Mathlib.Omega.{arith}
 use lib.ListN.{getD, length-set}
-use Rattle.image.specs.Sections.{Sections, childWord, namedWord}
+use Rattle.image.specs.Sections.{Sections, textEntryWords, childWord, namedWord}
 use Rattle.write_numbering.specs.Work.{treeOf}
 use Rattle.write_numbering.proofs.WalkMarks.{InWords}
 use Rattle.write_numbering.proofs.WorkWords.{ReadWalking, readTurns, read-start, read-end, read-below, read-skip, read-few, read-room, read-less, read-entered}
@@ -12,24 +12,26 @@ use Rattle.write_numbering.proofs.walk.Statement.{statement}
 use Rattle.write_numbering.proofs.walk.Tie as tie
 
 abbrev Inv-loop : tie.InvT-loop
-Inv-loop nodes children named work₀ count depth₀ taken₀ work depth taken = ReadWalking (treeOf nodes children named) count work₀ work depth taken
+Inv-loop nodes children named work₀ count source depth₀ taken₀ work depth taken =
+    ReadWalking (treeOf (source .version) nodes children named) count work₀ work depth taken
 
 abbrev μ-loop : tie.MeasureT-loop
-μ-loop nodes children named work₀ count depth₀ taken₀ work depth taken = readTurns (treeOf nodes children named) count work depth
+μ-loop nodes children named work₀ count source depth₀ taken₀ work depth taken =
+    readTurns (treeOf (source .version) nodes children named) count work depth
 
 -- the function's start, from the loop's head
 abbrev St : tie.At-loop Inv-loop μ-loop → tie.Start Inv-loop μ-loop
 St a = a .before .before .before .before .before
 
 abbrev Tree : tie.Start Inv-loop μ-loop → Sections
-Tree s = treeOf (s .args .nodes .now) (s .args .children .now) (s .args .named .now)
+Tree s = treeOf (s .args .source .version) (s .args .nodes .now) (s .args .children .now) (s .args .named .now)
 
 in-words : (a : tie.At-loop Inv-loop μ-loop) → InWords (Tree (St a))
 unfolding childWord namedWord
 in-words a =
     record {
       child = λ j. omega (arith, a .before .before .before .shared-slice-known2 .given j);
-      named = λ j. omega (arith, a .before .before .shared-slice-known3 .given (j * 3 + 2));
+      named = λ j. omega (arith, a .before .before .shared-slice-known3 .given (j * textEntryWords + 2));
     }
 
 abbrev top : tie.In-loop Inv-loop μ-loop → ℕ

@@ -44,7 +44,7 @@ claims t = (
 sort-returns : (t : ℕ) → sort-lts.Need-returns (claims t) (sort-at t) sort.Post
 sort-returns t c =
     let to = c .before .before .before .before in
-    let key = keyIn (to .args .nodes .now) (to .args .strings .now) (to .args .t) (to .args .w .now) in
+    let key = keyIn (to .args .source .version) (to .args .nodes .now) (to .args .strings .now) (to .args .t) (to .args .w .now) in
     (sym (isort-short (byKey key) (take (to .args .n) (to .args .w .now)) (omega (arith, length-take-le (to .args .n) (to .args .w .now) (omega arith)))), refl)
 
 sort-sub-sort : (t : ℕ) → sort-lts.Need-sub-sort (claims t) (sort-at t) sort.Post
@@ -94,13 +94,13 @@ abbrev by : (t : ℕ) → sort-lts.After-join-parts-arg (claims t) (sort-at t) s
 by t c d =
     let to = c .before .before .before .before .before .before .before .before .before .before .before .before .before .before .before .before .before .before .before in
     let u = to .args .t in
-    byKey (keyOf (to .args .nodes .now) (to .args .strings .now) (u .texts) (u .paths) (u .lengths) d)
+    byKey (keyOf (to .args .source .version) (to .args .nodes .now) (to .args .strings .now) (u .texts) (u .paths) (u .lengths) d)
 
 strict : (t : ℕ) (c : sort-lts.After-join-parts-arg (claims t) (sort-at t) sort.Post) (d : List ℕ) → Strict (by t c d)
 strict t c d =
     let to = c .before .before .before .before .before .before .before .before .before .before .before .before .before .before .before .before .before .before .before in
     let u = to .args .t in
-    key-strict (keyOf (to .args .nodes .now) (to .args .strings .now) (u .texts) (u .paths) (u .lengths) d)
+    key-strict (keyOf (to .args .source .version) (to .args .nodes .now) (to .args .strings .now) (u .texts) (u .paths) (u .lengths) d)
 
 -- the list before its halves are joined
 abbrev joined : (t : ℕ) → sort-lts.After-join-parts-arg (claims t) (sort-at t) sort.Post → List ℕ

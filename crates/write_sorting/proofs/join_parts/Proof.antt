@@ -53,7 +53,7 @@ same-length-2 c = search needs
 returns-2 : tie.Need-returns-2
 returns-2 c =
     let to = c .before .before .before .before .before .before .before .before .before .before .before .before in
-    let key = keyIn (to .args .nodes .now) (to .args .strings .now) (to .args .t) (to .args .w .now) in
+    let key = keyIn (to .args .source .version) (to .args .nodes .now) (to .args .strings .now) (to .args .t) (to .args .w .now) in
     let copied = c .before .before .copy-down in
     let f = sym (c .before .before .before .before .before .below .ensures) ∙ c .before .before .before .before .if1 .left in (
       down-joined (byKey key) (to .args .w .now) (copied .last .0) (to .args .m) (to .args .n) (key-strict key) (omega arith) (omega arith) (omega arith) (to .pre .1) f (copied .ensures),

@@ -17,13 +17,13 @@ use Rattle.write_sorting.proofs.join_parts.Reads as join-parts-reads
 returns : tie.Need-returns
 returns c =
     let to = c .before .before .before .before in
-    let key = keyIn (to .args .nodes .now) (to .args .strings .now) (to .args .t) (to .args .w .now) in
+    let key = keyIn (to .args .source .version) (to .args .nodes .now) (to .args .strings .now) (to .args .t) (to .args .w .now) in
     (merged-none (byKey key) (to .args .w .now) (to .args .m) (to .args .n) (c .if1 .taken), refl)
 
 returns-2 : tie.Need-returns-2
 returns-2 c =
     let to = c .before .before .before .before .before in
-    let key = keyIn (to .args .nodes .now) (to .args .strings .now) (to .args .t) (to .args .w .now) in
+    let key = keyIn (to .args .source .version) (to .args .nodes .now) (to .args .strings .now) (to .args .t) (to .args .w .now) in
     (merged-all (byKey key) (to .args .w .now) (to .args .m) (to .args .n) (c .if2 .taken), refl)
 
 -- the order by some tables
@@ -31,7 +31,7 @@ abbrev by : tie.After-copy-up → List ℕ → ℕ → ℕ → Bool
 by c d =
     let to = c .before .before .before .before .before .before .before in
     let t = to .args .t in
-    byKey (keyOf (to .args .nodes .now) (to .args .strings .now) (t .texts) (t .paths) (t .lengths) d)
+    byKey (keyOf (to .args .source .version) (to .args .nodes .now) (to .args .strings .now) (t .texts) (t .paths) (t .lengths) d)
 
 up : (c : tie.After-copy-up) → let to = c .before .before .before .before .before .before .before in
     Copied (to .args .w .now) (to .args .m) (to .args .n) (to .args .t .at) (c .copy-up .last .0)

@@ -26,7 +26,7 @@ returns c =
     let to = c .before .before .before .before .before .before .before .before .before .args in
     let tab = drop (to .t .at) (to .w .now) in
     c .texts-below .ensures
-    ∙ rw (tail-part (to .t .at) (to .w .now), text-key (to .nodes .now) (to .strings .now) (to .t .texts) (to .t .paths) (to .t .lengths) tab (to .a) (c .before .before .before .if1 .taken), text-key (to .nodes .now) (to .strings .now) (to .t .texts) (to .t .paths) (to .t .lengths) tab (to .b) (c .before .if2 .taken))
+    ∙ rw (tail-part (to .t .at) (to .w .now), text-key (to .source .version) (to .nodes .now) (to .strings .now) (to .t .texts) (to .t .paths) (to .t .lengths) tab (to .a) (c .before .before .before .if1 .taken), text-key (to .source .version) (to .nodes .now) (to .strings .now) (to .t .texts) (to .t .paths) (to .t .lengths) tab (to .b) (c .before .if2 .taken))
 
 ends-below-requires : tie.Need-ends-below-requires
 ends-below-requires c κs = search needs

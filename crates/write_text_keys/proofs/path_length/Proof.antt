@@ -9,10 +9,12 @@ use Rattle.write_text_keys.proofs.path_length.Statement.{statement}
 use Rattle.write_text_keys.proofs.path_length.Tie as tie
 
 abbrev Inv-loop : tie.InvT-loop
-Inv-loop nodes x steps at₀ left₀ sum₀ at left sum = (left ≤ steps) × (sum ≤ 4294967296 * (steps - left)) × (lengthFrom steps nodes x ≡ sum + lengthFrom left nodes at)
+Inv-loop nodes x steps source at₀ left₀ sum₀ at left sum =
+    (left ≤ steps) × (sum ≤ 4294967296 * (steps - left))
+    × (lengthFrom steps (source .version) nodes x ≡ sum + lengthFrom left (source .version) nodes at)
 
 abbrev μ-loop : tie.MeasureT-loop
-μ-loop nodes x steps at₀ left₀ sum₀ at left sum = left
+μ-loop nodes x steps source at₀ left₀ sum₀ at left sum = left
 
 loop-holds : tie.Need-loop-holds Inv-loop μ-loop
 loop-holds c = (omega arith, omega arith, omega arith)
@@ -21,7 +23,7 @@ returns : tie.Need-returns Inv-loop μ-loop
 returns c =
     let at = c .before .before in
     let to = at .before .before .args in
-    omega (arith, at .loop .inv .2, length-root (to .nodes .now) (at .loop .left) (at .loop .at) (c .if1 .taken))
+    omega (arith, at .loop .inv .2, length-root (to .source .version) (to .nodes .now) (at .loop .left) (at .loop .at) (c .if1 .taken))
 
 piece-length-requires : tie.Need-piece-length-requires Inv-loop μ-loop
 piece-length-requires c κs = search needs
@@ -32,14 +34,14 @@ cast-sum c = search needs
 add-sum : tie.Need-add-sum Inv-loop μ-loop
 add-sum c = search needs
 
-node-word-requires : tie.Need-node-word-requires Inv-loop μ-loop
-node-word-requires c κs = search needs
+word-of-requires : tie.Need-word-of-requires Inv-loop μ-loop
+word-of-requires c κs = search needs
 
 returns-2 : tie.Need-returns-2 Inv-loop μ-loop
 returns-2 c =
     let at = c .before .before .before .before .before in
     let to = at .before .before .args in
-    omega (arith, at .loop .inv .2, c .before .before .piece-length .ensures, length-top (to .nodes .now) (at .loop .left) (at .loop .at) (omega arith) (c .before .before .before .if1 .left) (sym (c .before .node-word .ensures) ∙ c .if2 .taken))
+    omega (arith, at .loop .inv .2, c .before .before .piece-length .ensures, length-top (to .source .version) (to .nodes .now) (at .loop .left) (at .loop .at) (omega arith) (c .before .before .before .if1 .left) (sym (c .before .word-of .ensures) ∙ c .if2 .taken))
 
 add-sum-2 : tie.Need-add-sum-2 Inv-loop μ-loop
 add-sum-2 c = search needs
@@ -54,14 +56,14 @@ loop-again : tie.Need-loop-again Inv-loop μ-loop
 loop-again c =
     let at = c .before .before .before .before .before in
     let to = at .before .before .args in
-    let e = length-below (to .nodes .now) (at .loop .left) (at .loop .at) (omega arith) (c .before .before .before .if1 .left) (λ z. c .if2 .left (c .before .node-word .ensures ∙ z)) in
-    (omega arith, omega arith, rw (c .before .node-word .ensures, c .before .before .piece-length .ensures) (omega (arith, at .loop .inv .2, e)))
+    let e = length-below (to .source .version) (to .nodes .now) (at .loop .left) (at .loop .at) (omega arith) (c .before .before .before .if1 .left) (λ z. c .if2 .left (c .before .word-of .ensures ∙ z)) in
+    (omega arith, omega arith, rw (c .before .word-of .ensures, c .before .before .piece-length .ensures) (omega (arith, at .loop .inv .2, e)))
 
 returns-3 : tie.Need-returns-3 Inv-loop μ-loop
 returns-3 c =
     let at = c .before in
     let to = at .before .before .args in
-    omega (arith, at .loop .inv .2, length-none (to .nodes .now) (at .loop .left) (at .loop .at) (omega arith))
+    omega (arith, at .loop .inv .2, length-none (to .source .version) (to .nodes .now) (at .loop .left) (at .loop .at) (omega arith))
 
 pub path-length-spec : {M : Type 1} → statement M
 path-length-spec =
@@ -74,7 +76,7 @@ path-length-spec =
     piece-length-requires
     cast-sum
     add-sum
-    node-word-requires
+    word-of-requires
     returns-2
     add-sum-2
     sub-left

@@ -11,10 +11,12 @@ use Rattle.write_text_keys.proofs.put_read.Statement.{statement}
 use Rattle.write_text_keys.proofs.put_read.Tie as tie
 
 abbrev Inv-loop : tie.InvT-loop
-Inv-loop nodes strings n out₀ x₀ left₀ out x left = (left ≤ n) × (length out ≡ length out₀) × (readBack n nodes strings x₀ ++ drop n out₀ ≡ readBack left nodes strings x ++ drop left out)
+Inv-loop nodes strings n out₀ source x₀ left₀ out x left =
+    let v = source .version in
+    (left ≤ n) × (length out ≡ length out₀) × (readBack n v nodes strings x₀ ++ drop n out₀ ≡ readBack left v nodes strings x ++ drop left out)
 
 abbrev μ-loop : tie.MeasureT-loop
-μ-loop nodes strings n out₀ x₀ left₀ out x left = left
+μ-loop nodes strings n out₀ source x₀ left₀ out x left = left
 
 loop-holds : tie.Need-loop-holds Inv-loop μ-loop
 loop-holds c = (omega arith, refl, refl)
@@ -41,7 +43,7 @@ loop-again c =
     let left = at .loop .left - 1 in (
       omega arith,
       simp length-set (at .loop .inv .1),
-      at .loop .inv .2 ∙ read-put (to .nodes .now) (to .strings .now) left (at .loop .left) (c .before .last-byte .result) (at .loop .x) (at .loop .out) (omega arith) (omega arith) (c .before .last-byte .ensures) ∙ rw (c .step-back .ensures),
+      at .loop .inv .2 ∙ read-put (to .source .version) (to .nodes .now) (to .strings .now) left (at .loop .left) (c .before .last-byte .result) (at .loop .x) (at .loop .out) (omega arith) (omega arith) (c .before .last-byte .ensures) ∙ rw (c .step-back .ensures),
     )
 
 same-length : tie.Need-same-length Inv-loop μ-loop
@@ -52,7 +54,7 @@ returns c =
     let at = c .before in
     let to = at .before .before .before .before .args in
     let z : at .loop .left ≡ 0 = omega arith in
-    sym (at .loop .inv .2 ∙ read-none (to .nodes .now) (to .strings .now) (at .loop .left) (at .loop .x) (at .loop .out) z)
+    sym (at .loop .inv .2 ∙ read-none (to .source .version) (to .nodes .now) (to .strings .now) (at .loop .left) (at .loop .x) (at .loop .out) z)
 
 pub put-read-spec : {M : Type 1} → statement M
 put-read-spec =

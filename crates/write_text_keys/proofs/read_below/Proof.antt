@@ -9,10 +9,12 @@ use Rattle.write_text_keys.proofs.read_below.Statement.{statement}
 use Rattle.write_text_keys.proofs.read_below.Tie as tie
 
 abbrev Inv-loop : tie.InvT-loop
-Inv-loop nodes strings n later x₀ y₀ left₀ less₀ x y left less = decided (readBack n nodes strings x₀) (readBack n nodes strings y₀) later ≡ decided (readBack left nodes strings x) (readBack left nodes strings y) less
+Inv-loop nodes strings n later source x₀ y₀ left₀ less₀ x y left less =
+    let v = source .version in
+    decided (readBack n v nodes strings x₀) (readBack n v nodes strings y₀) later ≡ decided (readBack left v nodes strings x) (readBack left v nodes strings y) less
 
 abbrev μ-loop : tie.MeasureT-loop
-μ-loop nodes strings n later x₀ y₀ left₀ less₀ x y left less = left
+μ-loop nodes strings n later source x₀ y₀ left₀ less₀ x y left less = left
 
 loop-holds : tie.Need-loop-holds Inv-loop μ-loop
 loop-holds c = refl
@@ -24,7 +26,7 @@ returns : tie.Need-returns Inv-loop μ-loop
 returns c =
     let at = c .before .before .before in
     let to = at .before .before .before .args in
-    sym (at .loop .inv ∙ rest-decided (to .nodes .now) (to .strings .now) (at .loop .left) (at .loop .x) (at .loop .y) (at .loop .less) (sym (c .before .rest-alike .ensures) ∙ c .if1 .taken))
+    sym (at .loop .inv ∙ rest-decided (to .source .version) (to .nodes .now) (to .strings .now) (at .loop .left) (at .loop .x) (at .loop .y) (at .loop .less) (sym (c .before .rest-alike .ensures) ∙ c .if1 .taken))
 
 last-byte-requires : tie.Need-last-byte-requires Inv-loop μ-loop
 last-byte-requires c κs = search needs
@@ -53,7 +55,7 @@ loop-again c =
     let to = at .before .before .before .args in
     let left = at .loop .left - 1 in
     at .loop .inv
-    ∙ byte-decided (to .nodes .now) (to .strings .now) left (at .loop .left) (at .loop .x) (at .loop .y) (at .loop .less) (omega arith)
+    ∙ byte-decided (to .source .version) (to .nodes .now) (to .strings .now) left (at .loop .left) (at .loop .x) (at .loop .y) (at .loop .less) (omega arith)
     ∙ rw (c .before .step-back .ensures, c .step-back2 .ensures, c .before .before .decide .ensures, c .before .before .before .before .last-byte .ensures, c .before .before .before .last-byte2 .ensures)
 
 returns-2 : tie.Need-returns-2 Inv-loop μ-loop
@@ -61,7 +63,7 @@ returns-2 c =
     let at = c .before in
     let to = at .before .before .before .args in
     let z : at .loop .left ≡ 0 = omega arith in
-    sym (at .loop .inv ∙ none-decided (to .nodes .now) (to .strings .now) (at .loop .left) (at .loop .x) (at .loop .y) (at .loop .less) z)
+    sym (at .loop .inv ∙ none-decided (to .source .version) (to .nodes .now) (to .strings .now) (at .loop .left) (at .loop .x) (at .loop .y) (at .loop .less) z)
 
 pub read-below-spec : {M : Type 1} → statement M
 read-below-spec =

@@ -9,10 +9,10 @@ use Rattle.write_text_keys.proofs.skip.Statement.{statement}
 use Rattle.write_text_keys.proofs.skip.Tie as tie
 
 abbrev Inv-loop : tie.InvT-loop
-Inv-loop nodes count x₀ rest₀ x rest = back count nodes x₀ ≡ back rest nodes x
+Inv-loop nodes count source x₀ rest₀ x rest = back count (source .version) nodes x₀ ≡ back rest (source .version) nodes x
 
 abbrev μ-loop : tie.MeasureT-loop
-μ-loop nodes count x₀ rest₀ x rest = rest
+μ-loop nodes count source x₀ rest₀ x rest = rest
 
 loop-holds : tie.Need-loop-holds Inv-loop μ-loop
 loop-holds c = refl
@@ -39,7 +39,7 @@ loop-again : tie.Need-loop-again Inv-loop μ-loop
 loop-again c =
     let at = c .before .before .before .before in
     let to = at .before .before .args in
-    at .loop .inv ∙ back-up (to .nodes .now) (at .loop .rest) (at .loop .rest - (at .loop .x .left + 1)) (at .loop .x) (omega arith) ∙ ap (back (at .loop .rest - (at .loop .x .left + 1)) (to .nodes .now)) (sym (c .at-end .ensures))
+    at .loop .inv ∙ back-up (to .source .version) (to .nodes .now) (at .loop .rest) (at .loop .rest - (at .loop .x .left + 1)) (at .loop .x) (omega arith) ∙ ap (back (at .loop .rest - (at .loop .x .left + 1)) (to .source .version) (to .nodes .now)) (sym (c .at-end .ensures))
 
 cast-t9 : tie.Need-cast-t9 Inv-loop μ-loop
 cast-t9 c = search needs
@@ -51,7 +51,7 @@ returns : tie.Need-returns Inv-loop μ-loop
 returns c =
     let at = c .before .before .before in
     let to = at .before .before .args in
-    sym (at .loop .inv ∙ back-in (to .nodes .now) (at .loop .rest) (at .loop .x) (omega arith))
+    sym (at .loop .inv ∙ back-in (to .source .version) (to .nodes .now) (at .loop .rest) (at .loop .x) (omega arith))
 
 pub skip-spec : {M : Type 1} → statement M
 skip-spec =

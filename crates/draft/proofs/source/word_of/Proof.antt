@@ -17,7 +17,7 @@ first-word-requires : tie.Need-first-word-requires
 first-word-requires c κs = let to = c .before .args in omega (arith, few (to .n) (to .source .version))
 
 add-word : tie.Need-add-word
-add-word c = let to = c .before .before .args in omega (arith, few (to .n) (to .source .version), width (to .source .version) .most)
+add-word c = let to = c .before .before .args in omega (arith, few (to .n) (to .source .version))
 
 word-requires : tie.Need-word-requires
 word-requires c κs = search needs
