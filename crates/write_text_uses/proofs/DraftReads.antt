@@ -105,7 +105,7 @@ module _ (version : ℕ) (nodes entries : List ℕ) (i : ℕ) (r : NodeRecord) (
   s = namedOnly version nodes entries
 
   node : IsNode s i r
-  node = read-node s nodes i r refl refl e
+  node = read-node s version nodes i r refl refl e
 
   pub container-is : r .tag ≡ 1 → namedPairs s i ≡ joinOf (r .f6) (entryPairs entries (r .f5))
   unfolding namedPairs numberOfNamed namedWord entryPairs

@@ -85,7 +85,7 @@ module _ (version : ℕ) (nodes bytes : List ℕ) (i : ℕ) (r : NodeRecord) (e 
   s = nodesOnly version nodes bytes
 
   node : IsNode s i r
-  node = read-node s nodes i r refl refl e
+  node = read-node s version nodes i r refl refl e
 
   by-tag : (t : ℕ) → r .tag ≡ t → nodePairs s i ≡ own s i t
   by-tag t h = ap (own s i) (sym (node .tag) ∙ h)

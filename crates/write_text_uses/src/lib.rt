@@ -1,7 +1,7 @@
 // The texts of a draft in the order of use, as words: two a use, its offset and its length.
 ghost use mathlib.Core.Path.{_≡_};
 ghost use mathlib.Core.List.{List, [], _∷_, _++_};
-ghost use Prim.Native.Nat.{ℕ, _+_, _*_, _/_, _≤_};
+ghost use Prim.Native.Nat.{ℕ, _+_, _*_, _/_, _≤_, _<_};
 ghost use lib.ListN.{length};
 ghost use Rattle.laws.specs.Counted.{joinOf};
 ghost use Rattle.image.specs.Sections.{nodeWords, definitionWords, nodeCount, absent, tagOf, f};
