@@ -220,7 +220,7 @@ module _ (version : ℕ) (nodes children named definitions items payload strings
     one-count : (i : ℕ) → i < nodeCount s → textsAt version nodes payload i ≡ length (nodeTexts s i)
     unfolding textsAt
     one-count i h =
-        ap (λ (r : NodeRecord). textsBy payload r (kindOf (r .tag))) (node-record s nodes i refl refl)
+        ap (λ (r : NodeRecord). textsBy payload r (kindOf (r .tag))) (node-record s version nodes i refl refl)
         ∙ texts-count s i (kindOf (tagOf s i)) (tables s (t .tables) .fields i h)
 
     pub texts-sum : usedBy version nodes w (n .order) payload (length nodes / nodeWords version) ≡ length (nodeUses s (numbering s))

@@ -99,7 +99,7 @@ module _ (s : Sections) (version : ℕ) (nodes payload w : List ℕ) (order offs
   texts-at : tablesRule r ≡ 0 → (i : ℕ) → i < nodeCount r → textsAt version nodes payload i ≡ length (nodeTexts r i)
   unfolding textsAt
   texts-at p i h =
-      ap (λ (x : NodeRecord). textsBy payload x (kindOf (x .tag))) (node-record r nodes i refl refl)
+      ap (λ (x : NodeRecord). textsBy payload x (kindOf (x .tag))) (node-record r version nodes i refl refl)
       ∙ texts-count r i (kindOf (tagOf r i)) (tables r p .fields i h)
 
   module _ (fits : PayloadFits version nodes payload w order offsets) (p : tablesRule r ≡ 0) (q : OldsAt olds w (nodeCount r) order)
@@ -117,7 +117,7 @@ module _ (s : Sections) (version : ℕ) (nodes payload w : List ℕ) (order offs
     part-is j h =
         let i = oldOf olds j in
         let text = offsets + usedBy version nodes w order payload j in
-        let same : recordOf version nodes (getD w (order + j) 0) ≡ nodeIn r i = node-record r nodes (getD w (order + j) 0) refl refl ∙ ap (nodeIn r) (q j h) in
+        let same : recordOf version nodes (getD w (order + j) 0) ≡ nodeIn r i = node-record r version nodes (getD w (order + j) 0) refl refl ∙ ap (nodeIn r) (q j h) in
         let own : OffsetsAt kept (nodeTexts r i) w text =
         subst (λ (m : ℕ). OffsetsAt kept (nodeTexts r i) w (offsets + m)) (used-is j (omega arith))
         (offsets-part kept w offsets (nodeCount r) (λ m. nodeTexts r (oldOf olds m)) o j h) in

@@ -103,7 +103,11 @@ module _ (version : ℕ) (nodes payload w : List ℕ) (n : Numbers) (fit : Nodes
     -- the record's words fit
     pub step-room : at + nodeSize version ≤ length out
     step-room =
-        rw (record-length version (recordAt version nodes payload w n j)) at (run-room 0 (length nodes / nodeWords version) (entry version nodes payload w n) out₀ out j at (g .running) h)
+        omega (
+          arith,
+          record-length version (recordAt version nodes payload w n j),
+          run-room 0 (length nodes / nodeWords version) (entry version nodes payload w n) out₀ out j at (g .running) h,
+        )
 
     -- so does the offset of its first text
     pub step-text : text ≤ length w
@@ -204,7 +208,7 @@ module _ (s : Sections) (version : ℕ) (nodes payload w : List ℕ) (n : Number
     texts-at : (i : ℕ) → i < nodeCount r → textsAt version nodes payload i ≡ length (nodeTexts r i)
     unfolding textsAt
     texts-at i h =
-        ap (λ (x : NodeRecord). textsBy payload x (kindOf (x .tag))) (node-record r nodes i refl refl)
+        ap (λ (x : NodeRecord). textsBy payload x (kindOf (x .tag))) (node-record r version nodes i refl refl)
         ∙ texts-count r i (kindOf (tagOf r i)) (tables r p .fields i h)
 
     used-is : (j : ℕ) → j ≤ nodeCount r → usedBy version nodes w (n .order) payload j ≡ sumOf j (λ m. length (nodeTexts r (oldOf order m)))
@@ -227,7 +231,7 @@ module _ (s : Sections) (version : ℕ) (nodes payload w : List ℕ) (n : Number
           let i = oldOf order j in
           let text = n .offsets + usedBy version nodes w (n .order) payload j in
           let st = startsBy version nodes w (n .order) j in
-          let same : recordOf version nodes (getD w (n .order + j) 0) ≡ nodeIn r i = node-record r nodes (getD w (n .order + j) 0) refl refl ∙ ap (nodeIn r) (olds j h) in
+          let same : recordOf version nodes (getD w (n .order + j) 0) ≡ nodeIn r i = node-record r version nodes (getD w (n .order + j) 0) refl refl ∙ ap (nodeIn r) (olds j h) in
           let own : OffsetsAt kept (nodeTexts r i) w text =
           subst (λ (m : ℕ). OffsetsAt kept (nodeTexts r i) w (n .offsets + m)) (sym (used-is j (omega arith)))
           (offsets-part kept w (n .offsets) (nodeCount r) (λ m. nodeTexts r (oldOf order m)) offs j h) in

@@ -24,13 +24,13 @@ node-words-requires : tie.Need-node-words-requires Inv-loop μ-loop
 node-words-requires c κs = search needs
 
 mul-size : tie.Need-mul-size Inv-loop μ-loop
-mul-size c = omega (arith, c .node-words .ensures, width (c .before .args .source .version) .most)
+mul-size c = omega (arith, c .node-words .ensures, width (c .before .before .before .before .before .before .args .source .version) .most)
 
 loop-holds : tie.Need-loop-holds Inv-loop μ-loop
-loop-holds c = begin _ _ _ _ _ (c .before .before .before .before .pre .0) _ (c .before .before .before .before .pre .1)
+loop-holds c = begin _ _ _ _ _ (c .before .before .before .before .before .before .pre .0) _ (c .before .before .before .before .before .before .pre .1)
 
 add-word : tie.Need-add-word Inv-loop μ-loop
-add-word c = omega (arith, c .before .before .before .before .before .before .pre .0 .order .order-end)
+add-word c = omega (arith, c .before .before .before .before .before .before .before .before .pre .0 .order .order-end)
 
 word-requires : tie.Need-word-requires Inv-loop μ-loop
 word-requires c κs = search needs
@@ -39,20 +39,20 @@ cast-node-at : tie.Need-cast-node-at Inv-loop μ-loop
 cast-node-at c = search needs
 
 node-at-requires : tie.Need-node-at-requires Inv-loop μ-loop
-node-at-requires c κs = omega (arith, c .word .ensures, c .before .before .before .before .before .before .before .pre .0 .order .olds _ (rw (c .before .node-count .ensures) at (c .before .loop-test .taken)))
+node-at-requires c κs = omega (arith, c .word .ensures, c .before .before .before .before .before .before .before .before .before .pre .0 .order .olds _ (rw (c .before .before .before .before .node-count .ensures) at (c .before .loop-test .taken)))
 
 encode-kind-requires : tie.Need-encode-kind-requires Inv-loop μ-loop
 encode-kind-requires c κs =
-    let asked = c .before .before .before .before .before .before .before .before .pre in
+    let asked = c .before .before .before .before .before .before .before .before .before .before .pre in
     let loop = c .before .before .before .loop in
-    (asked .0 .order .new-start, step-text _ _ _ _ _ (asked .0) _ _ _ _ _ _ (loop .inv) (rw (c .before .node-count .ensures) at (c .before .before .loop-test .taken)))
+    (asked .0 .order .new-start, step-text _ _ _ _ _ (asked .0) _ _ _ _ _ _ (loop .inv) (rw (c .before .before .before .before .before .node-count .ensures) at (c .before .before .loop-test .taken)))
 
 put-record-requires : tie.Need-put-record-requires Inv-loop μ-loop
 put-record-requires c κs =
-    let asked = c .before .before .before .before .before .before .before .before .before .before .pre in
+    let asked = c .before .before .before .before .before .before .before .before .before .before .before .before .pre in
     let loop = c .before .before .before .before .before .loop in
     let test = c .before .before .before .before .loop-test in
-    let node-count = c .before .node-count in
+    let node-count = c .before .before .before .before .before .before .before .node-count in
     let below = rw (node-count .ensures) at (test .taken) in
     step-room _ _ _ _ _ (asked .0) _ _ _ _ _ _ (loop .inv) below
 
@@ -61,11 +61,11 @@ texts-of-requires c κs = search needs
 
 add-next-text : tie.Need-add-next-text Inv-loop μ-loop
 add-next-text c =
-    let asked = c .before .before .before .before .before .before .before .before .before .before .before .before .before .before .pre in
-    let good = c .before .before .before .before .before .before .before .before .before .before .before .before .before .before .good in
+    let asked = c .before .before .before .before .before .before .before .before .before .before .before .before .before .before .before .before .pre in
+    let good = c .before .before .before .before .before .before .before .before .before .before .before .before .before .before .before .before .good in
     let loop = c .before .before .before .before .before .before .before .before .before .loop in
     let test = c .before .before .before .before .before .before .before .before .loop-test in
-    let node-count = c .before .node-count in
+    let node-count = c .before .before .before .before .before .before .before .before .before .before .before .node-count in
     let below = rw (node-count .ensures) at (test .taken) in
     let word = c .before .before .before .before .before .before .before .word in
     let node-at = c .before .before .before .before .before .before .node-at in
@@ -74,10 +74,10 @@ add-next-text c =
 
 after-requires : tie.Need-after-requires Inv-loop μ-loop
 after-requires c κs =
-    let asked = c .before .before .before .before .before .before .before .before .before .before .before .before .before .before .pre in
+    let asked = c .before .before .before .before .before .before .before .before .before .before .before .before .before .before .before .before .pre in
     let loop = c .before .before .before .before .before .before .before .before .before .loop in
     let test = c .before .before .before .before .before .before .before .before .loop-test in
-    let node-count = c .before .node-count in
+    let node-count = c .before .before .before .before .before .before .before .before .before .before .before .node-count in
     let below = rw (node-count .ensures) at (test .taken) in
     let word = c .before .before .before .before .before .before .before .word in
     let node-at = c .before .before .before .before .before .before .node-at in
@@ -85,35 +85,37 @@ after-requires c κs =
 
 add-at : tie.Need-add-at Inv-loop μ-loop
 add-at c =
-    let asked = c .before .before .before .before .before .before .before .before .before .before .before .before .before .before .before .pre in
-    let good = c .before .before .before .before .before .before .before .before .before .before .before .before .before .before .before .good in
+    let asked = c .before .before .before .before .before .before .before .before .before .before .before .before .before .before .before .before .before .pre in
+    let good = c .before .before .before .before .before .before .before .before .before .before .before .before .before .before .before .before .before .good in
     let loop = c .before .before .before .before .before .before .before .before .before .before .loop in
     let test = c .before .before .before .before .before .before .before .before .before .loop-test in
-    let node-count = c .before .node-count in
+    let node-count = c .before .before .before .before .before .before .before .before .before .before .before .before .node-count in
     let below = rw (node-count .ensures) at (test .taken) in
-    let node-words = c .before .node-words in
+    let node-words = c .before .before .before .before .before .before .before .before .before .before .before .node-words in
     let h = step-room _ _ _ _ _ (asked .0) _ _ _ _ _ _ (loop .inv) below in
     omega (arith, loop .inv .running .long, good .1 .1 .1 .1 .0, node-words .ensures)
 
 add-j : tie.Need-add-j Inv-loop μ-loop
 add-j c =
-    let good = c .before .before .before .before .before .before .before .before .before .before .before .before .before .before .before .good in
+    let asked = c .before .before .before .before .before .before .before .before .before .before .before .before .before .before .before .before .before .pre in
+    let good = c .before .before .before .before .before .before .before .before .before .before .before .before .before .before .before .before .before .good in
     let test = c .before .before .before .before .before .before .before .before .before .loop-test in
-    omega (arith, test .taken, good .0)
+    let node-count = c .before .before .before .before .before .before .before .before .before .before .before .before .node-count in
+    omega (arith, test .taken, node-count .ensures, asked .0 .order .order-end, good .1 .1 .0)
 
 loop-less : tie.Need-loop-less Inv-loop μ-loop
 loop-less c = search needs
 
 loop-again : tie.Need-loop-again Inv-loop μ-loop
 loop-again c =
-    let asked = c .before .before .before .before .before .before .before .before .before .before .before .before .before .before .before .pre in
+    let asked = c .before .before .before .before .before .before .before .before .before .before .before .before .before .before .before .before .before .pre in
     let loop = c .before .before .before .before .before .before .before .before .before .before .loop in
     let test = c .before .before .before .before .before .before .before .before .before .loop-test in
-    let node-count = c .before .node-count in
+    let node-count = c .before .before .before .before .before .before .before .before .before .before .before .before .node-count in
     let below = rw (node-count .ensures) at (test .taken) in
     let word = c .before .before .before .before .before .before .before .before .word in
     let node-at = c .before .before .before .before .before .before .before .node-at in
-    let node-words = c .before .node-words in
+    let node-words = c .before .before .before .before .before .before .before .before .before .before .before .node-words in
     let encode-kind = c .before .before .before .before .before .before .encode-kind in
     let put-record = c .before .before .before .before .put-record in
     step-next _ _ _ _ _ (asked .0) _ _ _ _ _ _ (loop .inv) below _ (word .ensures) _ (node-at .ensures) _ (encode-kind .ensures) _
@@ -123,7 +125,7 @@ same-length : tie.Need-same-length Inv-loop μ-loop
 same-length c = search needs
 
 returns : tie.Need-returns Inv-loop μ-loop
-returns c = λ s order kept e d b. finish s _ _ _ _ _ order kept (c .before .before .before .before .before .before .pre .0) _ _ _ _ _ _ (c .before .loop .inv) (rw (c .before .node-count .ensures) at (c .loop-test .left)) e d b
+returns c = λ s order kept e d b. finish s _ _ _ _ _ order kept (c .before .before .before .before .before .before .before .before .pre .0) _ _ _ _ _ _ (c .before .loop .inv) (rw (c .before .before .before .node-count .ensures) at (c .loop-test .left)) e d b
 
 pub put-nodes-spec : {M : Type 1} → statement M
 put-nodes-spec =
