@@ -16,12 +16,7 @@ ghost use Rattle.words.specs.Output.{over};
 ghost use Rattle.write_image.specs.Length.{lengthBy, Small, countsBy, placesBy, imageLength};
 ghost use Rattle.write_image.specs.Given.{Ready, Sectioned, pathsOf};
 use crate::list_part::put_lists;
-use crate::size::CHILD_SIZE;
-use crate::size::DEFINITION_SIZE;
 use crate::size::Entries;
-use crate::size::INDEX_SIZE;
-use crate::size::ITEM_SIZE;
-use crate::size::NAMED_SIZE;
 use crate::text_part::put_texts;
 use crate::tree_part::put_tree;
 use draft::source::Source;
@@ -62,12 +57,14 @@ fn places_of(entries: Entries, source: Source) -> Places
     requires { ⌜ lengthBy (source .version) entries ≤ NONE ⌝ }
     ensures { λ r. ⌜ r ≡ placesBy (source .version) entries ⌝ }
 {
-    let size = 4 * node_words(source);
-    let lists = entries.nodes * size + entries.children * CHILD_SIZE + entries.named * NAMED_SIZE;
+    let size = ImageView::WORD_BYTES * node_words(source);
+    let lists = entries.nodes * size
+        + entries.children * ImageView::WORD_BYTES
+        + entries.named * ImageView::TEXT_ENTRY_BYTES;
     let texts = lists
-        + entries.definitions * DEFINITION_SIZE
-        + entries.items * ITEM_SIZE
-        + entries.index * INDEX_SIZE;
+        + entries.definitions * ImageView::DEFINITION_BYTES
+        + entries.items * ImageView::TEXT_ENTRY_BYTES
+        + entries.index * ImageView::TEXT_ENTRY_BYTES;
     Places {
         lists,
         texts,

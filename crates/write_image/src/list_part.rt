@@ -6,8 +6,6 @@ ghost use lib.ListN.{length};
 ghost use Rattle.draft.specs.Source.{draftOf};
 ghost use Rattle.words.specs.Output.{over};
 ghost use Rattle.write_image.specs.Given.{Told, Indexed, ListsAt, ListsReady, listsOut};
-use crate::size::DEFINITION_SIZE;
-use crate::size::ITEM_SIZE;
 use image::ImageView;
 use write_list_sections::definitions::put_definitions;
 use write_list_sections::definitions::put_items;
@@ -33,9 +31,10 @@ pub fn put_lists(
         (listsOut s) (now (out .entry))) ⌝ }
 {
     put_definitions(definitions, work, text, out);
-    let at_items = definitions.len() / ImageView::DEFINITION_WORDS * DEFINITION_SIZE;
+    let at_items = definitions.len() / ImageView::DEFINITION_WORDS * ImageView::DEFINITION_BYTES;
     put_items(definitions, items, work, text, &mut out[at_items..]);
-    let at_index = at_items + items.len() / ImageView::TEXT_ENTRY_WORDS * ITEM_SIZE;
+    let at_index = at_items
+        + items.len() / ImageView::TEXT_ENTRY_WORDS * ImageView::TEXT_ENTRY_BYTES;
     let path_numbers = Numbers {
         order: numbers.order,
         new: numbers.new,

@@ -27,17 +27,7 @@ pub enum Size {
 // One more than a word can say, which stands for every larger number of bytes.
 const MORE: usize = 4294967296;
 
-// Bytes an entry, by section; a node's go by the source.
-pub const CHILD_SIZE: usize = ImageView::CHILD_SIZE as usize;
-
-pub const NAMED_SIZE: usize = ImageView::NAMED_SIZE as usize;
-
-pub const DEFINITION_SIZE: usize = ImageView::DEFINITION_SIZE as usize;
-
-pub const ITEM_SIZE: usize = ImageView::ITEM_SIZE as usize;
-
-pub const INDEX_SIZE: usize = ImageView::INDEX_SIZE as usize;
-
+// Bytes an entry of payload and strings.
 const PAYLOAD_SIZE: usize = ImageView::PAYLOAD_SIZE as usize;
 
 const STRINGS_SIZE: usize = ImageView::STRINGS_SIZE as usize;
@@ -61,11 +51,11 @@ fn front_length(entries: Entries, source: Source) -> usize
     let nodes = add(
         ImageView::HEADER_LENGTH,
         entries.nodes,
-        4 * node_words(source),
+        ImageView::WORD_BYTES * node_words(source),
     );
-    let children = add(nodes, entries.children, CHILD_SIZE);
-    let named = add(children, entries.named, NAMED_SIZE);
-    add(named, entries.definitions, DEFINITION_SIZE)
+    let children = add(nodes, entries.children, ImageView::WORD_BYTES);
+    let named = add(children, entries.named, ImageView::TEXT_ENTRY_BYTES);
+    add(named, entries.definitions, ImageView::DEFINITION_BYTES)
 }
 
 // The length of an image.
@@ -73,8 +63,8 @@ pub fn image_length(entries: Entries, source: Source) -> Size
     ensures { λ r. ⌜ r ≡ sizeOf (lengthBy (source .version) entries) ⌝ }
 {
     let front = front_length(entries, source);
-    let items = add(front, entries.items, ITEM_SIZE);
-    let index = add(items, entries.index, INDEX_SIZE);
+    let items = add(front, entries.items, ImageView::TEXT_ENTRY_BYTES);
+    let index = add(items, entries.index, ImageView::TEXT_ENTRY_BYTES);
     let payload = add(index, entries.payload, PAYLOAD_SIZE);
     let total = add(payload, entries.strings, STRINGS_SIZE);
     if total < MORE {

@@ -6,7 +6,6 @@ ghost use lib.ListN.{length};
 ghost use Rattle.draft.specs.Source.{draftOf};
 ghost use Rattle.words.specs.Output.{over};
 ghost use Rattle.write_image.specs.Given.{Told, TreeReady, treeOut, definitionsAt};
-use crate::size::CHILD_SIZE;
 use draft::source::Source;
 use draft::source::node_count;
 use draft::source::node_words;
@@ -33,7 +32,7 @@ pub fn put_tree(
         Told s (now (work .entry)) numbers → (now (out .exit) ≡ over (treeOut s) (now (out .entry))) × (r ≡ definitionsAt s numbers)) ⌝ }
 {
     let text = put_nodes(nodes, payload, work, numbers, out, source);
-    let at_children = node_count(nodes, source) * (4 * node_words(source));
+    let at_children = node_count(nodes, source) * (ImageView::WORD_BYTES * node_words(source));
     put_children(
         nodes,
         children,
@@ -42,7 +41,7 @@ pub fn put_tree(
         &mut out[at_children..],
         source,
     );
-    let at_named = at_children + children.len() * CHILD_SIZE;
+    let at_named = at_children + children.len() * ImageView::WORD_BYTES;
     let named_numbers = Numbers {
         order: numbers.order,
         new: numbers.new,

@@ -10,7 +10,7 @@ use Rattle.laws.specs.Counted.{sumOf, joinOf}
 use Rattle.words.specs.Words.{wordIn}
 use Rattle.image.specs.declared.NodeRecord.{NodeRecord}
 use Rattle.image.specs.Entries.{recordOf}
-use Rattle.image.specs.Sections.{nodeWords}
+use Rattle.image.specs.Sections.{textEntryWords, definitionWords, nodeWords}
 use Rattle.words.specs.Output.{putAt}
 use Rattle.write_tree_sections.specs.Encoded.{textCount, optionalOffset}
 use Rattle.write_tree_sections.specs.Summed.{usedBy}
@@ -19,25 +19,25 @@ use Rattle.write_tree_sections.specs.Summed.{usedBy}
 
 -- how many texts the definitions before d have, with those of their items
 unfoldable pub textsBefore : List ℕ → ℕ → ℕ
-textsBefore definitions d = sumOf d (λ e. 1 + getD definitions (e * 4 + 3) 0)
+textsBefore definitions d = sumOf d (λ e. 1 + getD definitions (e * definitionWords + 3) 0)
 
 -- how many items they have
 unfoldable pub itemsBefore : List ℕ → ℕ → ℕ
-itemsBefore definitions d = sumOf d (λ e. getD definitions (e * 4 + 3) 0)
+itemsBefore definitions d = sumOf d (λ e. getD definitions (e * definitionWords + 3) 0)
 
 -- definition d
-unfoldable pub definitionWords : List ℕ → List ℕ → ℕ → ℕ → List ℕ
-definitionWords definitions w at d =
-    getD w (at + textsBefore definitions d) 0 ∷ getD definitions (d * 4 + 1) 0 ∷ getD definitions (d * 4 + 2) 0 ∷ getD definitions (d * 4 + 3) 0 ∷ []
+unfoldable pub definitionEntry : List ℕ → List ℕ → ℕ → ℕ → List ℕ
+definitionEntry definitions w at d =
+    getD w (at + textsBefore definitions d) 0 ∷ getD definitions (d * definitionWords + 1) 0 ∷ getD definitions (d * definitionWords + 2) 0 ∷ getD definitions (d * definitionWords + 3) 0 ∷ []
 
 -- item i, counted from the first one of a definition
 unfoldable pub itemWords : List ℕ → List ℕ → ℕ → ℕ → ℕ → List ℕ
-itemWords items w at first i = getD w (at + i) 0 ∷ getD items ((first + i) * 3 + 1) 0 ∷ getD items ((first + i) * 3 + 2) 0 ∷ []
+itemWords items w at first i = getD w (at + i) 0 ∷ getD items ((first + i) * textEntryWords + 1) 0 ∷ getD items ((first + i) * textEntryWords + 2) 0 ∷ []
 
 -- the items of definition d
 unfoldable pub itemsWords : List ℕ → List ℕ → List ℕ → ℕ → ℕ → List ℕ
 itemsWords definitions items w at d =
-    joinOf (getD definitions (d * 4 + 3) 0) (itemWords items w (at + textsBefore definitions d + 1) (getD definitions (d * 4 + 2) 0))
+    joinOf (getD definitions (d * definitionWords + 3) 0) (itemWords items w (at + textsBefore definitions d + 1) (getD definitions (d * definitionWords + 2) 0))
 
 -- ---- payload: the offset of a list's first text is word `text`
 

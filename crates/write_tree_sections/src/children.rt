@@ -12,6 +12,7 @@ use draft::source::Source;
 use draft::source::node_at;
 use draft::source::node_count;
 use draft::source::word;
+use image::ImageView;
 use image::NodeRecord;
 use words::put_word;
 use write_numbering::numbers::Numbers;
@@ -45,7 +46,7 @@ fn put_children_of(
         let old = word(children, start + j);
         let child = new_number(work, new, old);
         put_word(out, place, child);
-        place += 4;
+        place += ImageView::WORD_BYTES;
         j += 1;
     }
 }
@@ -72,7 +73,7 @@ pub fn put_children(
         let node = node_at(nodes, word(work, order + j) as usize, source);
         let own = child_count(node);
         put_children_of(children, work, numbers.new, node.f3, own, out, at);
-        at += 4 * own as usize;
+        at += ImageView::WORD_BYTES * own as usize;
         j += 1;
     }
 }

@@ -49,7 +49,7 @@ fn put_named_of(
         let node = new_number(work, new, word(named, entry + 2));
         let words = [word(work, text + j), word(named, entry + 1), node];
         put_words(out, place, &words);
-        place += 12;
+        place += ImageView::TEXT_ENTRY_BYTES;
         j += 1;
     }
 }
@@ -78,7 +78,7 @@ pub fn put_named(
         let own = named_count(node);
         put_named_of(named, work, numbers.new, text, node.f5, own, out, at);
         text += own as usize;
-        at += 12 * own as usize;
+        at += ImageView::TEXT_ENTRY_BYTES * own as usize;
         j += 1;
     }
 }

@@ -15,6 +15,7 @@ use draft::source::node_at;
 use draft::source::node_count;
 use draft::source::node_words;
 use draft::source::word;
+use image::ImageView;
 use image::NodeRecord;
 use words::output::put_words;
 use write_numbering::numbers::Numbers;
@@ -75,7 +76,7 @@ pub fn put_nodes(
 {
     let order = numbers.order;
     let count = node_count(nodes, source);
-    let size = 4 * node_words(source);
+    let size = ImageView::WORD_BYTES * node_words(source);
     let mut next_text = numbers.offsets;
     let mut starts = Starts {
         children: 0,

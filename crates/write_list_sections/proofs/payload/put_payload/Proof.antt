@@ -18,10 +18,10 @@ node-count-requires : tie.Need-node-count-requires Inv-loop μ-loop
 node-count-requires c κs = search needs
 
 loop-holds : tie.Need-loop-holds Inv-loop μ-loop
-loop-holds c = pay-start _ _ _ _ _ _ _ (c .before .before .before .before .pre .0) (c .before .before .before .before .pre .1)
+loop-holds c = pay-start _ _ _ _ _ _ _ (c .before .before .before .before .before .pre .0) (c .before .before .before .before .before .pre .1)
 
 add-word : tie.Need-add-word Inv-loop μ-loop
-add-word c = omega (arith, pay-order _ _ _ _ _ _ _ _ _ _ _ (c .before .loop .inv) (rw (c .before .node-count .ensures) at (c .loop-test .taken)))
+add-word c = omega (arith, pay-order _ _ _ _ _ _ _ _ _ _ _ (c .before .loop .inv) (rw (c .before .before .node-count .ensures) at (c .loop-test .taken)))
 
 word-requires : tie.Need-word-requires Inv-loop μ-loop
 word-requires c κs = search needs
@@ -30,13 +30,13 @@ cast-node-at : tie.Need-cast-node-at Inv-loop μ-loop
 cast-node-at c = search needs
 
 node-at-requires : tie.Need-node-at-requires Inv-loop μ-loop
-node-at-requires c κs = pay-node _ _ _ _ _ _ _ _ _ _ _ (c .before .before .loop .inv) (rw (c .before .node-count .ensures) at (c .before .loop-test .taken)) _ (c .word .ensures)
+node-at-requires c κs = pay-node _ _ _ _ _ _ _ _ _ _ _ (c .before .before .loop .inv) (rw (c .before .before .before .node-count .ensures) at (c .before .loop-test .taken)) _ (c .word .ensures)
 
 put-node-requires : tie.Need-put-node-requires Inv-loop μ-loop
 put-node-requires c κs =
     let loop = c .before .before .before .before .loop in
     let test = c .before .before .before .loop-test in
-    let node-count = c .before .node-count in
+    let node-count = c .before .before .before .before .before .node-count in
     let below = rw (node-count .ensures) at (test .taken) in
     pay-asked _ _ _ _ _ _ _ _ _ _ _ (loop .inv) below _ (c .before .before .word .ensures) _ (c .before .node-at .ensures)
 
@@ -48,7 +48,7 @@ add-text c =
     let room =
     let loop = c .before .before .before .before .before .before .before .before .loop in
     let test = c .before .before .before .before .before .before .before .loop-test in
-    let node-count = c .before .node-count in
+    let node-count = c .before .before .before .before .before .before .before .before .before .node-count in
     let below = rw (node-count .ensures) at (test .taken) in
     let word = c .before .before .before .before .before .before .word in
     let node-at = c .before .before .before .before .before .node-at in
@@ -65,7 +65,7 @@ loop-again : tie.Need-loop-again Inv-loop μ-loop
 loop-again c =
     let loop = c .before .before .before .before .before .before .before .before .loop in
     let test = c .before .before .before .before .before .before .before .loop-test in
-    let node-count = c .before .node-count in
+    let node-count = c .before .before .before .before .before .before .before .before .before .node-count in
     let below = rw (node-count .ensures) at (test .taken) in
     let word = c .before .before .before .before .before .before .word in
     let node-at = c .before .before .before .before .before .node-at in
@@ -76,7 +76,7 @@ same-length : tie.Need-same-length Inv-loop μ-loop
 same-length c = search needs
 
 returns : tie.Need-returns Inv-loop μ-loop
-returns c = λ s olds kept e d p t q o. pay-end s _ _ _ _ _ _ olds kept _ _ _ _ _ (c .before .loop .inv) (rw (c .before .node-count .ensures) at (c .loop-test .left)) e d p t q o
+returns c = λ s olds kept e d p t q o. pay-end s _ _ _ _ _ _ olds kept _ _ _ _ _ (c .before .loop .inv) (rw (c .before .before .node-count .ensures) at (c .loop-test .left)) e d p t q o
 
 pub put-payload-spec : {M : Type 1} → statement M
 put-payload-spec =
