@@ -10,8 +10,7 @@ use borrow.Author.Tests.{not-true, not-false, eq-eqb, ne-eqb}
 use Rattle.laws.specs.Refusal.{unless, passes, _▸_, firstOf}
 use Rattle.laws.specs.Counted.{allOf}
 use Rattle.laws.proofs.First.{pass, fail}
-use Rattle.texts.specs.declared.Order.{Order}
-use Rattle.texts.specs.Text.{before, rising, orderOf, isLess}
+use Rattle.texts.specs.Text.{before, rising}
 use Rattle.image.specs.declared.NodeRecord.{NodeRecord}
 use Rattle.image.specs.declared.TextEntry.{TextEntry}
 use Rattle.image.specs.declared.Definition.{Definition}
@@ -34,20 +33,18 @@ use Rattle.draft.proofs.Runs.{as-passes, passes-unless, passes-both, pa
 
 -- ---- the order of two texts
 
-pub order-told : (a b s t : List ℕ) (o : Order) → a ≡ s → b ≡ t → o ≡ orderOf a b → isLess o ≡ before s t
-unfolding before
-order-told a b s t o p q e = rw (e, p, q)
-
 pub entry-rises : (ws ts : List ℕ) (first place : ℕ) (last entry : TextEntry) (b : Bool) → (place ≡ 0 → ⊥)
     → last ≡ textEntryOf ws (first + (place - 1)) → entry ≡ textEntryOf ws (first + place)
-    → b ≡ before (textOrEmpty ts (last .offset) (last .len)) (textOrEmpty ts (entry .offset) (entry .len)) → b ≡ rising (shownEntry ws ts first) place
+    → (s t : List ℕ) → s ≡ textOrEmpty ts (last .offset) (last .len) → t ≡ textOrEmpty ts (entry .offset) (entry .len)
+    → b ≡ before s t → b ≡ rising (shownEntry ws ts first) place
 unfolding shownEntry
-entry-rises ws ts first place last entry b d p q e = rw (rising-next (shownEntry ws ts first) place d, ← p, ← q) e
+entry-rises ws ts first place last entry b d p q s t u v e = rw (rising-next (shownEntry ws ts first) place d, ← p, ← q, ← u, ← v) e
 
 pub definition-rises : (ws ts : List ℕ) (d : ℕ) (last entry : Definition) (b : Bool) → (d ≡ 0 → ⊥) → last ≡ definitionOf ws (d - 1) → entry ≡ definitionOf ws d
-    → b ≡ before (textOrEmpty ts (last .offset) (last .len)) (textOrEmpty ts (entry .offset) (entry .len)) → b ≡ rising (shownDefinition ws ts) d
+    → (s t : List ℕ) → s ≡ textOrEmpty ts (last .offset) (last .len) → t ≡ textOrEmpty ts (entry .offset) (entry .len)
+    → b ≡ before s t → b ≡ rising (shownDefinition ws ts) d
 unfolding shownDefinition
-definition-rises ws ts d last entry b h p q e = rw (rising-next (shownDefinition ws ts) d h, ← p, ← q) e
+definition-rises ws ts d last entry b h p q s t u v e = rw (rising-next (shownDefinition ws ts) d h, ← p, ← q, ← u, ← v) e
 
 -- ---- a node by its words
 

@@ -5,8 +5,8 @@ ghost use Prim.Native.Nat.{_+_, _*_, _≤_, _<_};
 ghost use lib.ListN.{length, getD};
 ghost use Rattle.laws.specs.Refusal.{firstOf};
 ghost use Rattle.laws.specs.Counted.{allOf};
-ghost use Rattle.texts.specs.Text.{before, rising};
-ghost use Rattle.image.specs.Sections.{textEntryWords, definitionWords, nodeCount, definitionCount, textOrEmpty};
+ghost use Rattle.texts.specs.Text.{rising};
+ghost use Rattle.image.specs.Sections.{textEntryWords, definitionWords, nodeCount, definitionCount};
 ghost use Rattle.tree.specs.Tree.{rightChild};
 ghost use Rattle.draft.specs.Source.{draftOf};
 ghost use Rattle.draft.specs.Draft.{relationRule, orderRule, shapeRule};
@@ -14,25 +14,10 @@ ghost use Rattle.draft.specs.Shown.{shownEntry, shownDefinition, rightCo
 use crate::source;
 use crate::source::Source;
 use image::ImageView;
+use image::order::comes_before;
 use image::refusal::DRAFT_SHAPE;
 use image::tag::CONTAINER;
 use records::Counts;
-use texts::Order;
-
-// Whether the first of two texts of the strings comes before the second.
-fn comes_before(strings: &[u8], offset: u32, len: u32, next_offset: u32, next_len: u32) -> bool
-    ensures { λ r. ⌜ r ≡ before (textOrEmpty (now (strings .entry)) offset len) (textOrEmpty (now (strings .entry)) «next_offset» «next_len») ⌝ }
-{
-    let order = texts::compare(
-        image::text_part(strings, offset, len),
-        image::text_part(strings, next_offset, next_len),
-    );
-    match order {
-        Order::Less => true,
-        Order::Equal => false,
-        Order::Greater => false,
-    }
-}
 
 // Whether the text of an entry, the `place`-th from entry `first` on, comes after that of the entry before it.
 fn entry_rises(entries: &[u32], strings: &[u8], first: usize, place: usize) -> bool
@@ -44,7 +29,10 @@ fn entry_rises(entries: &[u32], strings: &[u8], first: usize, place: usize) -> b
     }
     let last = source::entry_at(entries, first + (place - 1));
     let entry = source::entry_at(entries, first + place);
-    comes_before(strings, last.offset, last.len, entry.offset, entry.len)
+    comes_before(
+        image::text_part(strings, last.offset, last.len),
+        image::text_part(strings, entry.offset, entry.len),
+    )
 }
 
 // Whether the text of definition `d` comes after that of the definition before it.
@@ -58,11 +46,8 @@ fn definition_rises(definitions: &[u32], strings: &[u8], d: usize) -> bool
     let last = source::definition_at(definitions, d - 1);
     let definition = source::definition_at(definitions, d);
     comes_before(
-        strings,
-        last.offset,
-        last.len,
-        definition.offset,
-        definition.len,
+        image::text_part(strings, last.offset, last.len),
+        image::text_part(strings, definition.offset, definition.len),
     )
 }
 

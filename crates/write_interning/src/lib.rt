@@ -20,7 +20,8 @@ pub enum Stored {
 // Writes the numbers from `from` up to `to` into the words that they number.
 fn number(w: &mut [u32], from: usize, to: usize)
     requires { ⌜ (from ≤ to) × (to ≤ length (now w)) × (to < 2 ^ 32) ⌝ }
-    ensures { λ _. ⌜ (take from (now (w .exit)) ≡ take from (now (w .entry))) × (part from to (now (w .exit)) ≡ upFrom from (to - from)) × (drop to (now (w .exit)) ≡ drop to (now (w .entry))) ⌝ }
+    ensures { λ _. ⌜ (take from (now (w .exit)) ≡ take from (now (w .entry))) × (part from to (now (w .exit)) ≡ upFrom from (to - from))
+        × (drop to (now (w .exit)) ≡ drop to (now (w .entry))) ⌝ }
 {
     let mut i = from;
     while i < to {

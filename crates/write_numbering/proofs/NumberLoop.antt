@@ -1,6 +1,6 @@
 -- From marks to numbers: the loop that writes them, and what they come to after the walk.
 use Prim.Native.Nat.{ℕ, suc, _+_, _*_, _-_, _≤_, _<_}
-use mathlib.Core.Path.{_≡_, refl, sym, ap, _∙_}
+use mathlib.Core.Path.{_≡_, subst, refl, sym, ap, _∙_}
 use mathlib.Core.List.{List, _++_}
 use mathlib.Core.Bool.{true}
 use native.Mathlib.Omega.{arith}
@@ -98,6 +98,10 @@ module _ (n base : ℕ) (w₀ : List ℕ) where
 
 -- ---- after the walk
 
+-- words behind the numbers, where the code has the count of nodes as a number
+pub numbers-rest : (n count : ℕ) → count ≡ n → (base : ℕ) (w w₁ : List ℕ) → Ordered count base w w₁ → drop (base + 2 * n) w₁ ≡ drop (base + 2 * n) w
+numbers-rest n count c base w w₁ o = subst (λ (k : ℕ). drop (base + 2 * k) w₁ ≡ drop (base + 2 * k) w) c (o .rest)
+
 module _ (s : Sections) (w₀ w : List ℕ) (r : Read s w₀ w) where
   -- the words that the walk does not use
   pub rest-kept : (count : ℕ) → count ≡ nodeCount s → (base : ℕ) (w′ : List ℕ) → treeWords s ≤ base → w₀ ≡ replicate count 0 ++ drop count w′
@@ -127,9 +131,6 @@ module _ (s : Sections) (w₀ w : List ℕ) (r : Read s w₀ w) where
     pub marks-right : (count : ℕ) → count ≡ nodeCount s → Marks count w
     marks-right count c = subst (λ (n : ℕ). Marks n w) (sym c) marks-all
 
-    pub numbers-right : (count : ℕ) → count ≡ nodeCount s → (base : ℕ) (w₁ : List ℕ) → Ordered count base w w₁ → Numbered s base w₁
-    numbers-right count c base w₁ o = numbers-all base w₁ (subst (λ (n : ℕ). Ordered n base w w₁) c o)
-
     numbers-all : (base : ℕ) (w₁ : List ℕ) → Ordered (nodeCount s) base w w₁ → Numbered s base w₁
     numbers-all base w₁ o = record { few = few-nodes s g l all words; olds = old; news = new }
       where
@@ -142,3 +143,6 @@ module _ (s : Sections) (w₀ w : List ℕ) (r : Read s w₀ w) where
 
         new : (i : ℕ) → i < nodeCount s → getD w₁ (base + nodeCount s + i) 0 ≡ placeIn (numbering s) i
         new i h = o .news i h ∙ omega (arith, mark-is i h)
+
+    pub numbers-right : (count : ℕ) → count ≡ nodeCount s → (base : ℕ) (w₁ : List ℕ) → Ordered count base w w₁ → Numbered s base w₁
+    numbers-right count c base w₁ o = numbers-all base w₁ (subst (λ (n : ℕ). Ordered n base w w₁) c o)

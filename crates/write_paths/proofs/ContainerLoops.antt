@@ -10,7 +10,7 @@ use lib.Seq.{sets}
 use lib.Dec.{eqb}
 use borrow.Author.Tests.{eq-eqb, ne-eqb}
 use Rattle.words.specs.Words.{isNone}
-use Rattle.image.specs.Header.{nodeWords}
+use Rattle.draft.specs.Source.{wordOf}
 use Rattle.image.specs.Sections.{Sections, nodeWord}
 use Rattle.image.specs.declared.NodeRecord.{NodeRecord}
 use Rattle.image.specs.Entries.{recordOf}
@@ -39,61 +39,61 @@ placed-tests true false true false true false = refl
 placed-tests true false true false false true = refl
 placed-tests true false true false false false = refl
 
-pub placed-record : (s : Sections) (nodes : List ℕ) (i : ℕ) → s .nodes ≡ nodes → s .stride ≡ nodeWords → placedIn (recordOf nodes i) i ≡ placed s i
+pub placed-record : (s : Sections) (v : ℕ) (nodes : List ℕ) (i : ℕ) → s .nodes ≡ nodes → s .version ≡ v → placedIn (recordOf v nodes i) i ≡ placed s i
 unfolding placedIn recordOf placed nameless nodeWord
-placed-record s nodes i e z =
+placed-record s v nodes i e z =
     rw (e, z)
-    (placed-tests (eqb (getD nodes (i * nodeWords + 2) 0) 1) (eqb i 0) (isNone (getD nodes (i * nodeWords + 1) 0)) (eqb (getD nodes (i * nodeWords + 4) 0) 0)
-    (isNone (getD nodes (i * nodeWords + 4) 0)) (isNone (getD nodes (i * nodeWords + 3) 0)))
+    (placed-tests (eqb (wordOf v nodes i 2) 1) (eqb i 0) (isNone (wordOf v nodes i 1)) (eqb (wordOf v nodes i 4) 0) (isNone (wordOf v nodes i 4))
+    (isNone (wordOf v nodes i 3)))
 
-pub placed-here : (s : Sections) (nodes : List ℕ) (i : ℕ) (r : NodeRecord) (b : Bool) → s .nodes ≡ nodes → s .stride ≡ nodeWords
-    → r ≡ recordOf nodes i → b ≡ placedIn r i → placed s i ≡ b
-placed-here s nodes i r b e z k p = sym (p ∙ ap (λ (q : NodeRecord). placedIn q i) k ∙ placed-record s nodes i e z)
+pub placed-here : (s : Sections) (v : ℕ) (nodes : List ℕ) (i : ℕ) (r : NodeRecord) (b : Bool) → s .nodes ≡ nodes → s .version ≡ v
+    → r ≡ recordOf v nodes i → b ≡ placedIn r i → placed s i ≡ b
+placed-here s v nodes i r b e z k p = sym (p ∙ ap (λ (q : NodeRecord). placedIn q i) k ∙ placed-record s v nodes i e z)
 
 -- ---- the list so far
 
-pub record Listing (nodes w₀ w : List ℕ) (order count paths found j : ℕ) : Type 0 where
+pub record Listing (v : ℕ) (nodes w₀ w : List ℕ) (order count paths found j : ℕ) : Type 0 where
   pub within : j ≤ count
-  pub size : found ≡ length (containersIn nodes w₀ order j)
+  pub size : found ≡ length (containersIn v nodes w₀ order j)
   pub few : found ≤ j
-  pub words : w ≡ sets w₀ paths (containersIn nodes w₀ order j)
+  pub words : w ≡ sets w₀ paths (containersIn v nodes w₀ order j)
   pub long : length w ≡ length w₀
 
-module _ (nodes w₀ : List ℕ) (order count paths : ℕ) where
-  pub list-start : Listing nodes w₀ w₀ order count paths 0 0
+module _ (v : ℕ) (nodes w₀ : List ℕ) (order count paths : ℕ) where
+  pub list-start : Listing v nodes w₀ w₀ order count paths 0 0
   unfolding containersIn
   list-start = record { within = omega arith; size = refl; few = omega arith; words = refl; long = refl }
 
-  module _ (w : List ℕ) (found j x : ℕ) (l : Listing nodes w₀ w order count paths found j) (room : paths + count ≤ order) (h : j < count)
+  module _ (w : List ℕ) (found j x : ℕ) (l : Listing v nodes w₀ w order count paths found j) (room : paths + count ≤ order) (h : j < count)
       (e : x ≡ getD w (order + j) 0) where
     word : x ≡ getD w₀ (order + j) 0
-    word = e ∙ ap (λ (v : List ℕ). getD v (order + j) 0) (l .words) ∙ sets-past (containersIn nodes w₀ order j) w₀ paths (order + j) (omega (arith, l .size, l .few))
+    word = e ∙ ap (λ (u : List ℕ). getD u (order + j) 0) (l .words) ∙ sets-past (containersIn v nodes w₀ order j) w₀ paths (order + j) (omega (arith, l .size, l .few))
 
-    pub list-take : tagAt nodes x ≡ 1 → Listing nodes w₀ (set w (paths + found) x) order count paths (found + 1) (j + 1)
+    pub list-take : tagAt v nodes x ≡ 1 → Listing v nodes w₀ (set w (paths + found) x) order count paths (found + 1) (j + 1)
     unfolding containersIn
     list-take t =
-        let test : eqb (tagAt nodes (getD w₀ (order + j) 0)) 1 ≡ true = rw (← word) (eq-eqb _ _ t) in
-        let more : containersIn nodes w₀ order (j + 1) ≡ containersIn nodes w₀ order j ++ (x ∷ []) = rw (add-one j, test, word) refl in
+        let test : eqb (tagAt v nodes (getD w₀ (order + j) 0)) 1 ≡ true = rw (← word) (eq-eqb _ _ t) in
+        let more : containersIn v nodes w₀ order (j + 1) ≡ containersIn v nodes w₀ order j ++ (x ∷ []) = rw (add-one j, test, word) refl in
         record {
           within = omega arith;
-          size = rw more (omega (arith, l .size, length-append (containersIn nodes w₀ order j) (x ∷ [])));
+          size = rw more (omega (arith, l .size, length-append (containersIn v nodes w₀ order j) (x ∷ [])));
           few = omega (arith, l .few);
           words =
               rw more
-              (ap (λ (v : List ℕ). set v (paths + found) x) (l .words) ∙ ap (λ (n : ℕ). set (sets w₀ paths (containersIn nodes w₀ order j)) (paths + n) x) (l .size)
-              ∙ sets-last (containersIn nodes w₀ order j) w₀ paths x);
+              (ap (λ (u : List ℕ). set u (paths + found) x) (l .words) ∙ ap (λ (n : ℕ). set (sets w₀ paths (containersIn v nodes w₀ order j)) (paths + n) x) (l .size)
+              ∙ sets-last (containersIn v nodes w₀ order j) w₀ paths x);
           long = length-set w (paths + found) x ∙ l .long;
         }
 
-    pub list-skip : (tagAt nodes x ≡ 1 → ⊥) → Listing nodes w₀ w order count paths found (j + 1)
+    pub list-skip : (tagAt v nodes x ≡ 1 → ⊥) → Listing v nodes w₀ w order count paths found (j + 1)
     unfolding containersIn
     list-skip t =
-        let test : eqb (tagAt nodes (getD w₀ (order + j) 0)) 1 ≡ false = rw (← word) (ne-eqb _ _ t) in
-        let more : containersIn nodes w₀ order (j + 1) ≡ containersIn nodes w₀ order j = rw (add-one j, test) (append-nil (containersIn nodes w₀ order j)) in
+        let test : eqb (tagAt v nodes (getD w₀ (order + j) 0)) 1 ≡ false = rw (← word) (ne-eqb _ _ t) in
+        let more : containersIn v nodes w₀ order (j + 1) ≡ containersIn v nodes w₀ order j = rw (add-one j, test) (append-nil (containersIn v nodes w₀ order j)) in
         record { within = omega arith; size = rw more (l .size); few = omega (arith, l .few); words = rw more (l .words); long = l .long }
 
-  pub list-end : (w : List ℕ) (found j : ℕ) → Listing nodes w₀ w order count paths found j → count ≤ j
-      → (found ≡ length (containersIn nodes w₀ order count)) × (w ≡ sets w₀ paths (containersIn nodes w₀ order count))
+  pub list-end : (w : List ℕ) (found j : ℕ) → Listing v nodes w₀ w order count paths found j → count ≤ j
+      → (found ≡ length (containersIn v nodes w₀ order count)) × (w ≡ sets w₀ paths (containersIn v nodes w₀ order count))
   list-end w found j l h =
       let e : j ≡ count = omega (arith, l .within) in
       (rw (← e) (l .size), rw (← e) (l .words))

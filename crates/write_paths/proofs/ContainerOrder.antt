@@ -10,7 +10,6 @@ use lib.Seq.{getD-append-seam, ext-getD}
 use lib.Dec.{eqb}
 use Rattle.laws.specs.Counted.{allOf, joinOf, those}
 use Rattle.texts.specs.Text.{before}
-use Rattle.image.specs.Header.{nodeWords}
 use Rattle.image.specs.Sections.{Sections, nodeCount, nodeWord, isContainer}
 use Rattle.draft.specs.Numbering.{oldOf}
 use Rattle.draft_image.specs.Strings.{pathOf, byPath, sortBy}
@@ -30,20 +29,20 @@ map-append g [] ys = refl
 map-append g (x ∷ xs) ys = ap (λ (l : List ℕ). g x ∷ l) (map-append g xs ys)
 
 -- the containers among words that say the order
-pub listed : (s : Sections) (order w : List ℕ) (at n : ℕ) → s .stride ≡ nodeWords → n ≤ nodeCount s → OldsAt order w (nodeCount s) at
-    → containersIn (s .nodes) w at n ≡ map (oldOf order) (those n (λ j. isContainer s (oldOf order j)))
+pub listed : (s : Sections) (order w : List ℕ) (at n : ℕ) → n ≤ nodeCount s → OldsAt order w (nodeCount s) at
+    → containersIn (s .version) (s .nodes) w at n ≡ map (oldOf order) (those n (λ j. isContainer s (oldOf order j)))
 unfolding containersIn those
-listed s order w at zero z h o = refl
-listed s order w at (suc n) z h o =
-    rw (o n (omega arith), listed s order w at n z (omega arith) o)
+listed s order w at zero h o = refl
+listed s order w at (suc n) h o =
+    rw (o n (omega arith), listed s order w at n (omega arith) o)
     (ap (λ (l : List ℕ). map (oldOf order) (those n (λ j. isContainer s (oldOf order j))) ++ l) (go (isContainer s (oldOf order n)) same-test)
     ∙ sym (map-append (oldOf order) (those n (λ j. isContainer s (oldOf order j))) (cond (isContainer s (oldOf order n)) (n ∷ []) [])))
   where
-    same-test : isContainer s (oldOf order n) ≡ eqb (tagAt (s .nodes) (oldOf order n)) 1
-    same-test = unfold nodeWord in rw z refl
+    same-test : isContainer s (oldOf order n) ≡ eqb (tagAt (s .version) (s .nodes) (oldOf order n)) 1
+    same-test = unfold nodeWord in refl
 
-    go : (b : Bool) → b ≡ eqb (tagAt (s .nodes) (oldOf order n)) 1
-        → cond (eqb (tagAt (s .nodes) (oldOf order n)) 1) (oldOf order n ∷ []) [] ≡ map (oldOf order) (cond b (n ∷ []) [])
+    go : (b : Bool) → b ≡ eqb (tagAt (s .version) (s .nodes) (oldOf order n)) 1
+        → cond (eqb (tagAt (s .version) (s .nodes) (oldOf order n)) 1) (oldOf order n ∷ []) [] ≡ map (oldOf order) (cond b (n ∷ []) [])
     go true e = rw (← e) refl
     go false e = rw (← e) refl
 

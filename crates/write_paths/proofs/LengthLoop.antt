@@ -5,7 +5,8 @@ use mathlib.Core.List.{List, [], _∷_}
 use native.Mathlib.Omega.{arith}
 use native.Mathlib.Decide.{ℕ-discrete, decLt}
 use lib.ListN.{length, getD, set, take, drop, length-set}
-use Rattle.write_paths.specs.Arranged.{twoWords, Measured}
+use Rattle.write_text_keys.specs.Keys.{longOf}
+use Rattle.write_paths.specs.Arranged.{Measured}
 use lib.Seq.{getD-set-same, getD-set-other, take-set-le, drop-set-lt, getD-take}
 
 -- the first `found` words of the list at `list` name nodes below count; `size` is what is measured
@@ -50,10 +51,10 @@ module _ (w₀ : List ℕ) (list found table count : ℕ) (size : ℕ → ℕ) w
         unfolding w′
         at-high = getD-set-same (set w (table + x + x) lo) (table + x + x + 1) hi 0 (omega (arith, measure-room, length-set w (table + x + x) lo))
 
-        here : twoWords w′ table x ≡ size x
+        here : longOf table w′ x ≡ size x
         here = rw (at-low, at-high) (omega (arith, v, l, u))
 
-        other : (y : ℕ) → (y ≡ x → ⊥) → twoWords w′ table y ≡ twoWords w table y
+        other : (y : ℕ) → (y ≡ x → ⊥) → longOf table w′ y ≡ longOf table w y
         unfolding w′
         other y d =
             rw (
@@ -63,8 +64,8 @@ module _ (w₀ : List ℕ) (list found table count : ℕ) (size : ℕ → ℕ) w
               getD-set-other w (table + x + x) (table + y + y + 1) lo 0 (λ q. omega (arith, d)),
             ) refl
 
-        size-at : (k : ℕ) → k < i + 1 → Dec (getD w₀ (list + k) 0 ≡ x) → twoWords w′ table (getD w₀ (list + k) 0) ≡ size (getD w₀ (list + k) 0)
-        size-at k q (yes d) = ap (twoWords w′ table) d ∙ here ∙ ap size (sym d)
+        size-at : (k : ℕ) → k < i + 1 → Dec (getD w₀ (list + k) 0 ≡ x) → longOf table w′ (getD w₀ (list + k) 0) ≡ size (getD w₀ (list + k) 0)
+        size-at k q (yes d) = ap (longOf table w′) d ∙ here ∙ ap size (sym d)
         size-at k q (no d) = other (getD w₀ (list + k) 0) d ∙ m .sizes k (earlier (ℕ-discrete k i))
           where
             earlier : Dec (k ≡ i) → k < i

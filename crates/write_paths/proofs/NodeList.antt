@@ -93,12 +93,12 @@ module _ (w₀ : List ℕ) (found at list : ℕ) (room : found + found ≤ at) (
 
 -- ---- the whole sort
 
-module _ (nodes strings : List ℕ) (t : Tables) (w₀ w₁ w₂ : List ℕ) (found : ℕ) (room : found + found ≤ t .at)
+module _ (v : ℕ) (nodes strings : List ℕ) (t : Tables) (w₀ w₁ w₂ : List ℕ) (found : ℕ) (room : found + found ≤ t .at)
     (fits : t .at + t .paths + found ≤ length w₀) (numbered : w₁ ≡ sets w₀ 0 (joinOf found (λ i. i ∷ [])))
-    (front : take found w₂ ≡ isort (byKey (keyIn nodes strings t w₁)) (take found w₁)) (behind : drop (t .at) w₂ ≡ drop (t .at) w₁)
+    (front : take found w₂ ≡ isort (byKey (keyIn v nodes strings t w₁)) (take found w₁)) (behind : drop (t .at) w₂ ≡ drop (t .at) w₁)
     (long : length w₂ ≡ length w₀) where
   abbrev key : ℕ → List ℕ
-  key = keyIn nodes strings t w₀
+  key = keyIn v nodes strings t w₀
 
   abbrev list : ℕ
   list = t .at + t .paths
@@ -108,10 +108,10 @@ module _ (nodes strings : List ℕ) (t : Tables) (w₀ w₁ w₂ : List ℕ) (fo
 
   front₂ : take found w₂ ≡ sortedNames key found
   front₂ =
-      front ∙ ap (λ (tab : List ℕ). isort (byKey (keyOf nodes strings (t .texts) (t .paths) (t .lengths) tab)) (take found w₁)) behind₁
+      front ∙ ap (λ (tab : List ℕ). isort (byKey (keyOf v nodes strings (t .texts) (t .paths) (t .lengths) tab)) (take found w₁)) behind₁
       ∙ ap (isort (byKey key)) (numbered-front w₀ found (t .at) list room (omega arith) fits w₁ numbered)
 
-  rising₂ : (i : ℕ) → i < found → rising (λ j. keyIn nodes strings t w₂ (getD w₂ j 0)) i ≡ rising (λ j. key (getD (sortedNames key found) j 0)) i
+  rising₂ : (i : ℕ) → i < found → rising (λ j. keyIn v nodes strings t w₂ (getD w₂ j 0)) i ≡ rising (λ j. key (getD (sortedNames key found) j 0)) i
   rising₂ zero h = refl
   rising₂ (suc i) h =
       rw (
@@ -120,7 +120,7 @@ module _ (nodes strings : List ℕ) (t : Tables) (w₀ w₁ w₂ : List ℕ) (fo
         sorted-at w₀ found (t .at) list room (omega arith) fits w₂ (sortedNames key found) front₂ (behind ∙ behind₁) long (suc i) h,
       ) refl
 
-  module _ (r : Bool) (tested : r ≡ allOf found (rising (λ i. keyIn nodes strings t w₂ (getD w₂ i 0)))) where
+  module _ (r : Bool) (tested : r ≡ allOf found (rising (λ i. keyIn v nodes strings t w₂ (getD w₂ i 0)))) where
     answer : r ≡ allOf found (rising (λ i. key (getD (sortedNames key found) i 0)))
     answer = tested ∙ all-ext found _ _ rising₂
 

@@ -9,7 +9,6 @@ use lib.Seq.{sets, getD-take, getD-drop, length-sets}
 use lib.Dec.{eqb}
 use Rattle.laws.specs.Counted.{allOf, those}
 use Rattle.texts.specs.Text.{before, rising}
-use Rattle.image.specs.Header.{nodeWords}
 use Rattle.image.specs.Sections.{Sections, nodeCount, f, isContainer, goodOptional}
 use Rattle.index.specs.Paths.{canonicalPath}
 use Rattle.draft.specs.Draft.{placed, pathsRule}
@@ -25,7 +24,7 @@ use Rattle.write_text_keys.proofs.CanonicalPaths.{path-long, key-path, every-co
 use Rattle.write_paths.specs.declared.Indexed.{Indexed}
 use Rattle.write_paths.specs.declared.Indexed.the-variants.{Paths, Refused}
 use Rattle.write_paths.specs.Listed.{tagAt, containersIn, containers, Renumbers}
-use Rattle.write_paths.specs.Arranged.{names, twoWords, Measured, sortedNames, Arranged, Rooted, indexedOf, Indexes}
+use Rattle.write_paths.specs.Arranged.{names, Measured, sortedNames, Arranged, Rooted, indexedOf, Indexes}
 use Rattle.write_paths.proofs.Rule.{all-not, those-at, unplaced}
 use Rattle.write_paths.proofs.WordLoop.{sets-at, sets-drop}
 use Rattle.write_paths.proofs.ContainerOrder.{listed, names-length, sorted-below, paths-pass, paths-order, paths-refuse}
@@ -33,23 +32,23 @@ use Rattle.write_paths.proofs.NodeList.{same-later, drop-later}
 
 -- ---- what the loops need
 
-pub containers-few : (nodes w : List ℕ) (at n : ℕ) → length (containersIn nodes w at n) ≤ n
+pub containers-few : (v : ℕ) (nodes w : List ℕ) (at n : ℕ) → length (containersIn v nodes w at n) ≤ n
 unfolding containersIn
-containers-few nodes w at zero = omega arith
-containers-few nodes w at (suc n) = go (eqb (tagAt nodes (getD w (at + n) 0)) 1) (containers-few nodes w at n)
+containers-few v nodes w at zero = omega arith
+containers-few v nodes w at (suc n) = go (eqb (tagAt v nodes (getD w (at + n) 0)) 1) (containers-few v nodes w at n)
   where
-    go : (b : Bool) → length (containersIn nodes w at n) ≤ n → length (containersIn nodes w at n ++ cond b (getD w (at + n) 0 ∷ []) []) ≤ suc n
-    go true h = omega (arith, length-append (containersIn nodes w at n) (getD w (at + n) 0 ∷ []))
-    go false h = omega (arith, length-append (containersIn nodes w at n) [])
+    go : (b : Bool) → length (containersIn v nodes w at n) ≤ n → length (containersIn v nodes w at n ++ cond b (getD w (at + n) 0 ∷ []) []) ≤ suc n
+    go true h = omega (arith, length-append (containersIn v nodes w at n) (getD w (at + n) 0 ∷ []))
+    go false h = omega (arith, length-append (containersIn v nodes w at n) [])
 
-containers-below : (nodes w : List ℕ) (at n count : ℕ) → ((j : ℕ) → j < n → getD w (at + j) 0 < count) → All (λ x. x < count) (containersIn nodes w at n)
+containers-below : (v : ℕ) (nodes w : List ℕ) (at n count : ℕ) → ((j : ℕ) → j < n → getD w (at + j) 0 < count) → All (λ x. x < count) (containersIn v nodes w at n)
 unfolding containersIn
-containers-below nodes w at zero count h = tt
-containers-below nodes w at (suc n) count h = go (eqb (tagAt nodes (getD w (at + n) 0)) 1) (containers-below nodes w at n count (λ j k. h j (omega arith)))
+containers-below v nodes w at zero count h = tt
+containers-below v nodes w at (suc n) count h = go (eqb (tagAt v nodes (getD w (at + n) 0)) 1) (containers-below v nodes w at n count (λ j k. h j (omega arith)))
   where
-    go : (b : Bool) → All (λ x. x < count) (containersIn nodes w at n) → All (λ x. x < count) (containersIn nodes w at n ++ cond b (getD w (at + n) 0 ∷ []) [])
-    go true a = all-append (λ x. x < count) (containersIn nodes w at n) (getD w (at + n) 0 ∷ []) a (h n (omega arith), tt)
-    go false a = all-append (λ x. x < count) (containersIn nodes w at n) [] a tt
+    go : (b : Bool) → All (λ x. x < count) (containersIn v nodes w at n) → All (λ x. x < count) (containersIn v nodes w at n ++ cond b (getD w (at + n) 0 ∷ []) [])
+    go true a = all-append (λ x. x < count) (containersIn v nodes w at n) (getD w (at + n) 0 ∷ []) a (h n (omega arith), tt)
+    go false a = all-append (λ x. x < count) (containersIn v nodes w at n) [] a tt
 
 all-place : (P : ℕ → Type 0) (xs : List ℕ) (i : ℕ) → All P xs → i < length xs → P (getD xs i 0)
 all-place P [] i a h = absurd (omega arith)
@@ -62,18 +61,18 @@ map-at g (x ∷ xs) zero h = refl
 map-at g (x ∷ xs) (suc i) h = map-at g xs i (omega arith)
 
 -- the listed words name nodes
-pub listed-below : (nodes w₀ w₁ : List ℕ) (order count list found : ℕ) → list + count ≤ order → order + count ≤ length w₀
-    → ((j : ℕ) → j < count → getD w₀ (order + j) 0 < count) → found ≡ length (containersIn nodes w₀ order count)
-    → w₁ ≡ sets w₀ list (containersIn nodes w₀ order count) → (k : ℕ) → k < found → getD w₁ (list + k) 0 < count
-listed-below nodes w₀ w₁ order count list found a b inside size words k h =
-    let c = containersIn nodes w₀ order count in
-    rw (words, sets-at c w₀ list k (omega arith) (omega (arith, containers-few nodes w₀ order count)))
-    (all-place (λ x. x < count) c k (containers-below nodes w₀ order count count inside) (omega arith))
+pub listed-below : (v : ℕ) (nodes w₀ w₁ : List ℕ) (order count list found : ℕ) → list + count ≤ order → order + count ≤ length w₀
+    → ((j : ℕ) → j < count → getD w₀ (order + j) 0 < count) → found ≡ length (containersIn v nodes w₀ order count)
+    → w₁ ≡ sets w₀ list (containersIn v nodes w₀ order count) → (k : ℕ) → k < found → getD w₁ (list + k) 0 < count
+listed-below v nodes w₀ w₁ order count list found a b inside size words k h =
+    let c = containersIn v nodes w₀ order count in
+    rw (words, sets-at c w₀ list k (omega arith) (omega (arith, containers-few v nodes w₀ order count)))
+    (all-place (λ x. x < count) c k (containers-below v nodes w₀ order count count inside) (omega arith))
 
 -- ---- the whole
 
-module _ (s : Sections) (olds nodes strings : List ℕ) (t : Tables) (w₀ : List ℕ) (order count : ℕ) (en : s .nodes ≡ nodes) (es : s .strings ≡ strings)
-    (z : s .stride ≡ nodeWords) (ec : nodeCount s ≡ count) (rooted : Rooted s olds) (known : OldsAt olds w₀ count order) where
+module _ (s : Sections) (olds : List ℕ) (v : ℕ) (nodes strings : List ℕ) (t : Tables) (w₀ : List ℕ) (order count : ℕ) (en : s .nodes ≡ nodes) (es : s .strings ≡ strings)
+    (z : s .version ≡ v) (ec : nodeCount s ≡ count) (rooted : Rooted s olds) (known : OldsAt olds w₀ count order) where
   -- some container has no piece of a path
   pub indexed-unplaced : (p : Bool) → p ≡ allOf count (placed s) → p ≡ false → Indexes s olds t w₀ w₀ (Refused 22)
   unfolding indexedOf
@@ -96,7 +95,7 @@ module _ (s : Sections) (olds nodes strings : List ℕ) (t : Tables) (w₀ : Lis
   boxes = containers s olds
 
   names-good : (y : ℕ) → isContainer s y ≡ true → goodOptional s (f s y 0) (f s y 1) ≡ true
-  names-good y p = every-container s z (rooted .whole) (λ x. goodOptional s (f s x 0) (f s x 1) ≡ true) (λ x h q. rooted .named x h q) y p
+  names-good y p = every-container s (rooted .whole) (λ x. goodOptional s (f s x 0) (f s x 1) ≡ true) (λ x h q. rooted .named x h q) y p
 
   -- the node of place a
   abbrev box : ℕ → ℕ
@@ -107,25 +106,26 @@ module _ (s : Sections) (olds nodes strings : List ℕ) (t : Tables) (w₀ : Lis
       let p = those-at (λ j. isContainer s (oldOf olds j)) (nodeCount s) a h in
       (rooted .numbers .old-inside (getD boxes a 0) (p .0), p .1)
 
-  all-listed : containersIn nodes w₀ order count ≡ map (oldOf olds) boxes
+  all-listed : containersIn v nodes w₀ order count ≡ map (oldOf olds) boxes
   all-listed =
-      ap (λ (n : ℕ). containersIn nodes w₀ order n) (sym ec) ∙ ap (λ (ns : List ℕ). containersIn ns w₀ order (nodeCount s)) (sym en)
-      ∙ listed s olds w₀ order (nodeCount s) z (omega arith) (λ j h. known j (omega (arith, ec)))
+      ap (λ (n : ℕ). containersIn v nodes w₀ order n) (sym ec) ∙ ap (λ (ns : List ℕ). containersIn v ns w₀ order (nodeCount s)) (sym en)
+      ∙ ap (λ (u : ℕ). containersIn u (s .nodes) w₀ order (nodeCount s)) (sym z)
+      ∙ listed s olds w₀ order (nodeCount s) (omega arith) (λ j h. known j (omega (arith, ec)))
 
   -- listed in w₁, measured in w₂
   module _ (first : t .texts ≡ 0) (gap : t .paths + count ≤ t .lengths) (behind : table + count + count ≤ order) (fits : order + count ≤ length w₀)
-      (w₁ w₂ : List ℕ) (found : ℕ) (size : found ≡ length (containersIn nodes w₀ order count))
-      (words : w₁ ≡ sets w₀ list (containersIn nodes w₀ order count))
-      (measured : Measured w₁ list found table count (lengthFrom count nodes) w₂ found) where
+      (w₁ w₂ : List ℕ) (found : ℕ) (size : found ≡ length (containersIn v nodes w₀ order count))
+      (words : w₁ ≡ sets w₀ list (containersIn v nodes w₀ order count))
+      (measured : Measured w₁ list found table count (lengthFrom count v nodes) w₂ found) where
     found-all : found ≡ length boxes
     found-all = size ∙ ap {B = ℕ} length all-listed ∙ length-map boxes (oldOf olds)
 
     few : found ≤ count
-    few = omega (arith, size, containers-few nodes w₀ order count)
+    few = omega (arith, size, containers-few v nodes w₀ order count)
 
     in-list : (a : ℕ) → a < found → getD w₂ (list + a) 0 ≡ box a
     in-list a h =
-        let c = containersIn nodes w₀ order count in
+        let c = containersIn v nodes w₀ order count in
         sym (getD-take table w₂ (list + a) 0 (omega (arith, few))) ∙ ap (λ (l : List ℕ). getD l (list + a) 0) (measured .low)
         ∙ getD-take table w₁ (list + a) 0 (omega (arith, few)) ∙ ap (λ (l : List ℕ). getD l (list + a) 0) words
         ∙ sets-at c w₀ list a (omega (arith, size)) (omega (arith, few, size)) ∙ ap (λ (l : List ℕ). getD l a 0) all-listed
@@ -136,25 +136,25 @@ module _ (s : Sections) (olds nodes strings : List ℕ) (t : Tables) (w₀ : Lis
         sym (getD-take table w₁ (list + a) 0 (omega (arith, few))) ∙ ap (λ (l : List ℕ). getD l (list + a) 0) (sym (measured .low))
         ∙ getD-take table w₂ (list + a) 0 (omega (arith, few)) ∙ in-list a h
 
-    long-box : (a : ℕ) → a < found → twoWords w₂ table (box a) ≡ length (canonicalPath s (box a))
+    long-box : (a : ℕ) → a < found → longOf table w₂ (box a) ≡ length (canonicalPath s (box a))
     long-box a h =
         let k : a < length boxes = omega (arith, found-all) in
-        ap (twoWords w₂ table) (sym (in-list₁ a h)) ∙ measured .sizes a h ∙ ap (lengthFrom count nodes) (in-list₁ a h)
-        ∙ ap (λ (n : ℕ). lengthFrom n nodes (box a)) (sym ec)
-        ∙ path-long s nodes strings en es z names-good (box a) (rooted .climbs (box a) (box-in a k .0)) (box-in a k .1)
+        ap (longOf table w₂) (sym (in-list₁ a h)) ∙ measured .sizes a h ∙ ap (lengthFrom count v nodes) (in-list₁ a h)
+        ∙ ap (λ (n : ℕ). lengthFrom n v nodes (box a)) (sym ec)
+        ∙ path-long s v nodes strings en es z names-good (box a) (rooted .climbs (box a) (box-in a k .0)) (box-in a k .1)
 
     -- the words of the tables, counted from where they begin
     tab-word : (w : List ℕ) (k : ℕ) → getD (drop (t .at) w) k 0 ≡ getD w (t .at + k) 0
     tab-word w k = getD-drop (t .at) w k 0
 
-    long-in : (w : List ℕ) (x : ℕ) → longOf (t .lengths) (drop (t .at) w) x ≡ twoWords w table x
+    long-in : (w : List ℕ) (x : ℕ) → longOf (t .lengths) (drop (t .at) w) x ≡ longOf table w x
     long-in w x =
         let a : t .at + (t .lengths + x + x) ≡ table + x + x = omega arith in
         let b : t .at + (t .lengths + x + x + 1) ≡ table + x + x + 1 = omega arith in
         rw (tab-word w (t .lengths + x + x), tab-word w (t .lengths + x + x + 1), a, b) refl
 
     abbrev key : ℕ → List ℕ
-    key = keyIn nodes strings t w₂
+    key = keyIn v nodes strings t w₂
 
     node-of : (a : ℕ) → a < found → box a ≡ nodeOf (t .texts) (t .paths) (drop (t .at) w₂) a
     node-of a h =
@@ -164,7 +164,7 @@ module _ (s : Sections) (olds nodes strings : List ℕ) (t : Tables) (w₀ : Lis
     key-at : (a : ℕ) → a < length boxes → key a ≡ pathOf s olds (getD boxes a 0)
     key-at a h =
         let k : a < found = omega (arith, found-all) in
-        key-path s nodes strings en es z names-good (box a) (rooted .climbs (box a) (box-in a h .0)) (box-in a h .1) (t .texts) (t .paths) (t .lengths)
+        key-path s v nodes strings en es z names-good (box a) (rooted .climbs (box a) (box-in a h .0)) (box-in a h .1) (t .texts) (t .paths) (t .lengths)
         (drop (t .at) w₂) a (omega (arith, first)) (node-of a k) (long-in w₂ (box a) ∙ long-box a k)
 
     module _ (p : Bool) (tested : p ≡ allOf count (placed s)) (passed : p ≡ true) (w₃ : List ℕ) (r : Bool) (arranged : Arranged key w₂ list found w₃ r) where
@@ -176,7 +176,7 @@ module _ (s : Sections) (olds nodes strings : List ℕ) (t : Tables) (w₀ : Lis
           drop-later (list + found) (table + nodeCount s + nodeCount s) w₃ w₂ (omega (arith, few)) (arranged .behind)
           ∙ drop-later (table + count + count) (table + nodeCount s + nodeCount s) w₂ w₁ (omega (arith, ec)) (measured .high)
           ∙ ap (drop (table + nodeCount s + nodeCount s)) words
-          ∙ sets-drop (containersIn nodes w₀ order count) w₀ list (table + nodeCount s + nodeCount s) (omega (arith, few, size))
+          ∙ sets-drop (containersIn v nodes w₀ order count) w₀ list (table + nodeCount s + nodeCount s) (omega (arith, few, size))
 
       tests : r ≡ allOf found (rising (λ i. key (getD (sortedNames key found) i 0)))
       tests = arranged .answer
@@ -219,7 +219,7 @@ module _ (s : Sections) (olds nodes strings : List ℕ) (t : Tables) (w₀ : Lis
             arranged .nodes yes′ k h ∙ ap (λ (l : List ℕ). getD w₂ (list + getD l k 0) 0) sorted-same
             ∙ in-list (getD (sortedNames key (length boxes)) k 0) (omega (arith, place-below k h, found-all)) ∙ box-order k h
 
-        kept-long : (x : ℕ) → twoWords w₃ table x ≡ twoWords w₂ table x
+        kept-long : (x : ℕ) → longOf table w₃ x ≡ longOf table w₂ x
         kept-long x =
             rw (
               same-later (list + found) (table + x + x) w₃ w₂ (omega (arith, few)) (arranged .behind),
@@ -239,7 +239,7 @@ module _ (s : Sections) (olds nodes strings : List ℕ) (t : Tables) (w₀ : Lis
                   λ _ k h.
                   let q : k < found = omega (arith, as-many) in
                   long-in w₃ (oldOf olds (getD (byPath s olds) k 0)) ∙ kept-long (oldOf olds (getD (byPath s olds) k 0))
-                  ∙ ap (twoWords w₂ table) (sym (box-order k q))
+                  ∙ ap (longOf table w₂) (sym (box-order k q))
                   ∙ long-box (getD (sortedNames key (length boxes)) k 0) (omega (arith, place-below k q, found-all))
                   ∙ ap (λ (x : ℕ). length (canonicalPath s x)) (box-order k q);
               behind = behind-tables;

@@ -8,8 +8,7 @@ use lib.Dec.{eqb}
 use Rattle.laws.specs.Counted.{joinOf, allOf}
 use Rattle.words.specs.Words.{NONE}
 use Rattle.texts.specs.Text.{rising}
-use Rattle.image.specs.Header.{nodeWords}
-use Rattle.image.specs.Sections.{Sections, nodeCount, f, isContainer, goodOptional}
+use Rattle.image.specs.Sections.{Sections, nodeWords, nodeCount, f, isContainer, goodOptional}
 use Rattle.tree.specs.Reach.{Climbs}
 use Rattle.index.specs.Paths.{canonicalPath}
 use Rattle.draft.specs.Draft.{pathsRule}
@@ -29,17 +28,13 @@ names n = joinOf n (λ i. i ∷ [])
 
 -- ---- measuring
 
--- the two words at node x's place of a table
-abbrev pub twoWords : List ℕ → ℕ → ℕ → ℕ
-twoWords w table x = getD w (table + x + x) 0 + 2 ^ 32 * getD w (table + x + x + 1) 0
-
 -- i of the nodes that a list names are measured; the table has room for nodes below count
 pub record Measured (w₀ : List ℕ) (list found table count : ℕ) (size : ℕ → ℕ) (w : List ℕ) (i : ℕ) : Type 0 where
   pub within : i ≤ found
   pub long : length w ≡ length w₀
   pub low : take table w ≡ take table w₀
   pub high : drop (table + count + count) w ≡ drop (table + count + count) w₀
-  pub sizes : (k : ℕ) → k < i → twoWords w table (getD w₀ (list + k) 0) ≡ size (getD w₀ (list + k) 0)
+  pub sizes : (k : ℕ) → k < i → longOf table w (getD w₀ (list + k) 0) ≡ size (getD w₀ (list + k) 0)
 
 -- ---- sorting
 
@@ -57,7 +52,7 @@ pub record Arranged (key : ℕ → List ℕ) (w₀ : List ℕ) (list found : ℕ
 
 -- what rules 19 to 21 have shown: entries are whole, each node is numbered once, parent steps lead to the root, names are good
 pub record Rooted (s : Sections) (order : List ℕ) : Type 0 where
-  pub whole : length (s .nodes) % nodeWords ≡ 0
+  pub whole : length (s .nodes) ≡ nodeCount s * nodeWords (s .version)
   pub numbers : Renumbers (nodeCount s) order
   pub climbs : (x : ℕ) → x < nodeCount s → Climbs s (nodeCount s) x
   pub named : (x : ℕ) → x < nodeCount s → isContainer s x ≡ true → goodOptional s (f s x 0) (f s x 1) ≡ true

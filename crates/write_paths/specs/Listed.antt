@@ -10,6 +10,7 @@ use Rattle.laws.specs.Lists.{placeIn}
 use Rattle.words.specs.Words.{isNone}
 use Rattle.image.specs.declared.NodeRecord.{NodeRecord}
 use Rattle.image.specs.Sections.{Sections, nodeCount, isContainer}
+use Rattle.draft.specs.Source.{wordOf}
 use Rattle.draft.specs.Numbering.{oldOf}
 
 -- node i is the root, no container, or a container that has a name or a place, by its record
@@ -20,14 +21,14 @@ placedIn r i =
     true
 
 -- the tag of a node, in the nodes' words
-abbrev pub tagAt : List ℕ → ℕ → ℕ
-tagAt nodes x = getD nodes (x * 10 + 2) 0
+abbrev pub tagAt : ℕ → List ℕ → ℕ → ℕ
+tagAt version nodes x = wordOf version nodes x 2
 
 -- the containers among the n words from `at` on
-unfoldable pub containersIn : List ℕ → List ℕ → ℕ → ℕ → List ℕ
-containersIn nodes w at zero = []
-containersIn nodes w at (suc n) =
-    containersIn nodes w at n ++ cond (eqb (tagAt nodes (getD w (at + n) 0)) 1) (getD w (at + n) 0 ∷ []) []
+unfoldable pub containersIn : ℕ → List ℕ → List ℕ → ℕ → ℕ → List ℕ
+containersIn version nodes w at zero = []
+containersIn version nodes w at (suc n) =
+    containersIn version nodes w at n ++ cond (eqb (tagAt version nodes (getD w (at + n) 0)) 1) (getD w (at + n) 0 ∷ []) []
 
 -- the image's containers, by their numbers
 abbrev pub containers : Sections → List ℕ → List ℕ

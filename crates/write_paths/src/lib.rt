@@ -3,12 +3,11 @@ pub mod path_index; // path_index.rt: section 5
 
 ghost use mathlib.Core.Path.{_≡_};
 ghost use mathlib.Core.List.{List, _∷_, []};
-ghost use Prim.Native.Nat.{ℕ, _+_, _*_, _≤_, _<_};
+ghost use Prim.Native.Nat.{ℕ, _+_, _/_, _≤_, _<_};
 ghost use lib.ListN.{length, getD};
 ghost use lib.Seq.{sets};
 ghost use Rattle.laws.specs.Counted.{allOf, joinOf};
-ghost use Rattle.image.specs.Header.{nodeWords};
-ghost use Rattle.image.specs.Sections.{Sections, nodeCount};
+ghost use Rattle.image.specs.Sections.{Sections, nodeWords, nodeCount};
 ghost use Rattle.draft.specs.Draft.{placed};
 ghost use Rattle.texts.specs.Text.{rising};
 ghost use Rattle.write_text_keys.specs.Keys.{keyIn, lengthFrom, Placed};
@@ -16,16 +15,18 @@ ghost use Rattle.write_paths.specs.Listed.{containersIn, placedIn};
 ghost use Rattle.write_paths.specs.Arranged.{Measured, Arranged, Rooted, Indexes};
 ghost use Rattle.draft_image.specs.Ready.{OldsAt};
 use draft::source;
+use draft::source::Source;
 use image::NONE;
 use image::NodeRecord;
 use image::refusal::DRAFT_PATHS;
+use image::tag::CONTAINER;
 use write_text_keys::Tables;
 
 // Whether node `i` is the root, no container, or a container that has a name or a place.
 fn is_placed(node: NodeRecord, i: usize) -> bool
     ensures { λ r. ⌜ r ≡ placedIn node i ⌝ }
 {
-    if node.tag != 1 {
+    if node.tag != CONTAINER {
         return true;
     }
     if i == 0 {
@@ -44,13 +45,13 @@ fn is_placed(node: NodeRecord, i: usize) -> bool
 }
 
 // Whether each of the nodes is so.
-fn all_placed(nodes: &[u32], count: usize) -> bool
-    requires { ⌜ count * 10 ≤ length (now nodes) ⌝ }
-    ensures { λ r. ⌜ ((s : Sections) → s .nodes ≡ now (nodes .entry) → s .stride ≡ nodeWords → r ≡ allOf count (placed s)) ⌝ }
+fn all_placed(nodes: &[u32], count: usize, source: Source) -> bool
+    requires { ⌜ count ≤ length (now nodes) / nodeWords (source .version) ⌝ }
+    ensures { λ r. ⌜ ((s : Sections) → s .nodes ≡ now (nodes .entry) → s .version ≡ source .version → r ≡ allOf count (placed s)) ⌝ }
 {
     let mut i = 0;
     while i < count {
-        if !is_placed(source::node_at(nodes, i), i) {
+        if !is_placed(source::node_at(nodes, i, source), i) {
             return false;
         }
         i += 1;
@@ -59,16 +60,24 @@ fn all_placed(nodes: &[u32], count: usize) -> bool
 }
 
 // Lists the containers among the `count` nodes whose numbers stand from `order` on; the list begins at `paths`. How many they are.
-fn list_containers(nodes: &[u32], w: &mut [u32], order: usize, count: usize, paths: usize) -> usize
+fn list_containers(
+    nodes: &[u32],
+    w: &mut [u32],
+    order: usize,
+    count: usize,
+    paths: usize,
+    source: Source,
+) -> usize
     requires { ⌜ (paths + count ≤ order) × (order + count ≤ length (now w)) ⌝ }
-    ensures answer { λ r. ⌜ r ≡ length (containersIn (now (nodes .entry)) (now (w .entry)) order count) ⌝ }
-    ensures words { λ r. ⌜ now (w .exit) ≡ sets (now (w .entry)) paths (containersIn (now (nodes .entry)) (now (w .entry)) order count) ⌝ }
+    ensures answer { λ r. ⌜ r ≡ length (containersIn (source .version) (now (nodes .entry)) (now (w .entry)) order count) ⌝ }
+    ensures words { λ r. ⌜ (let found = containersIn (source .version) (now (nodes .entry)) (now (w .entry)) order count in
+        now (w .exit) ≡ sets (now (w .entry)) paths found) ⌝ }
 {
     let mut found = 0;
     let mut j = 0;
     while j < count {
         let node = source::word(w, order + j);
-        if source::word(nodes, node as usize * 10 + 2) == 1 {
+        if source::word_of(nodes, node, 2, source) == CONTAINER {
             w[paths + found] = node;
             found += 1;
         }
@@ -94,7 +103,7 @@ fn count_up(w: &mut [u32], count: usize)
 // Puts behind the first `count` words, for each, the word of the list at `list` that it names.
 fn gather(w: &mut [u32], count: usize, list: usize)
     requires { ⌜ (count + count ≤ list) × (list ≤ length (now w)) ⌝ }
-    ensures { λ _. ⌜ now (w .exit) ≡ sets (now (w .entry)) count (joinOf count (λ i. getD (now (w .entry)) (list + getD (now (w .entry)) i 0) 0 ∷ [])) ⌝ }
+    ensures { λ _. ⌜ (let w₀ = now (w .entry) in now (w .exit) ≡ sets w₀ count (joinOf count (λ i. getD w₀ (list + getD w₀ i 0) 0 ∷ []))) ⌝ }
 {
     let mut i = 0;
     while i < count {
@@ -107,7 +116,7 @@ fn gather(w: &mut [u32], count: usize, list: usize)
 // Copies as many words from behind the first `count` to the list.
 fn settle(w: &mut [u32], count: usize, list: usize)
     requires { ⌜ (count + count ≤ list) × (list + count ≤ length (now w)) ⌝ }
-    ensures { λ _. ⌜ now (w .exit) ≡ sets (now (w .entry)) list (joinOf count (λ i. getD (now (w .entry)) (count + i) 0 ∷ [])) ⌝ }
+    ensures { λ _. ⌜ (let w₀ = now (w .entry) in now (w .exit) ≡ sets w₀ list (joinOf count (λ i. getD w₀ (count + i) 0 ∷ []))) ⌝ }
 {
     let mut i = 0;
     while i < count {
@@ -117,15 +126,24 @@ fn settle(w: &mut [u32], count: usize, list: usize)
 }
 
 // Measures the paths of the nodes that a list has: each length goes into two words at the node's place of a table.
-fn measure(nodes: &[u32], w: &mut [u32], list: usize, found: usize, table: usize, count: usize)
+fn measure(
+    nodes: &[u32],
+    w: &mut [u32],
+    list: usize,
+    found: usize,
+    table: usize,
+    count: usize,
+    source: Source,
+)
     requires { ⌜ (list + found ≤ table) × (table + count + count ≤ length (now w)) × (count ≤ 4294967295) ⌝ }
     requires { ⌜ ((k : ℕ) → k < found → getD (now w) (list + k) 0 < count) ⌝ }
-    ensures { λ _. ⌜ Measured (now (w .entry)) list found table count (lengthFrom count (now (nodes .entry))) (now (w .exit)) found ⌝ }
+    ensures { λ _. ⌜ (let size = lengthFrom count (source .version) (now (nodes .entry)) in
+        Measured (now (w .entry)) list found table count size (now (w .exit)) found) ⌝ }
 {
     let mut i = 0;
     while i < found {
         let node = source::word(w, list + i);
-        let len = write_text_keys::path_length(nodes, node, count);
+        let len = write_text_keys::path_length(nodes, node, count, source);
         let at = table + node as usize + node as usize;
         w[at] = (len % 4294967296) as u32;
         w[at + 1] = (len / 4294967296) as u32;
@@ -134,14 +152,16 @@ fn measure(nodes: &[u32], w: &mut [u32], list: usize, found: usize, table: usize
 }
 
 // Whether the texts of the first n words rise.
-fn rises(nodes: &[u32], strings: &[u8], w: &[u32], t: Tables, n: usize) -> bool
+fn rises(nodes: &[u32], strings: &[u8], w: &[u32], t: Tables, n: usize, source: Source) -> bool
     requires { ⌜ (n ≤ length (now w)) × Placed t (length (now w)) ⌝ }
-    ensures { λ r. ⌜ r ≡ allOf n (rising (λ i. keyIn (now (nodes .entry)) (now (strings .entry)) t (now (w .entry)) (getD (now (w .entry)) i 0))) ⌝ }
+    ensures { λ r. ⌜ (let key = keyIn (source .version) (now (nodes .entry)) (now (strings .entry)) t (now (w .entry)) in
+        r ≡ allOf n (rising (λ i. key (getD (now (w .entry)) i 0)))) ⌝ }
 {
     let mut i = 1;
     while i < n {
         let last = source::word(w, i - 1);
-        if !write_text_keys::below(nodes, strings, w, t, last, source::word(w, i)) {
+        let here = source::word(w, i);
+        if !write_text_keys::below(nodes, strings, w, t, last, here, source) {
             return false;
         }
         i += 1;
@@ -150,13 +170,22 @@ fn rises(nodes: &[u32], strings: &[u8], w: &[u32], t: Tables, n: usize) -> bool
 }
 
 // Sorts the list of `found` nodes by their paths, which are measured; or says that two have one path.
-fn sort_list(nodes: &[u32], strings: &[u8], w: &mut [u32], t: Tables, found: usize) -> bool
-    requires { ⌜ (found + found ≤ t .at) × (t .at + t .paths + found ≤ length (now w)) × (t .at + t .lengths ≤ length (now w)) × (found ≤ 4294967295) ⌝ }
-    ensures { λ r. ⌜ Arranged (keyIn (now (nodes .entry)) (now (strings .entry)) t (now (w .entry))) (now (w .entry)) (t .at + t .paths) found (now (w .exit)) r ⌝ }
+fn sort_list(
+    nodes: &[u32],
+    strings: &[u8],
+    w: &mut [u32],
+    t: Tables,
+    found: usize,
+    source: Source,
+) -> bool
+    requires { ⌜ (found + found ≤ t .at) × (t .at + t .paths + found ≤ length (now w)) × (t .at + t .lengths ≤ length (now w))
+        × (found ≤ 4294967295) ⌝ }
+    ensures { λ r. ⌜ (let key = keyIn (source .version) (now (nodes .entry)) (now (strings .entry)) t (now (w .entry)) in
+        Arranged key (now (w .entry)) (t .at + t .paths) found (now (w .exit)) r) ⌝ }
 {
     count_up(w, found);
-    write_sorting::sort(nodes, strings, w, t, found);
-    if !rises(nodes, strings, w, t, found) {
+    write_sorting::sort(nodes, strings, w, t, found, source);
+    if !rises(nodes, strings, w, t, found, source) {
         return false;
     }
     let list = t.at + t.paths;
@@ -179,19 +208,23 @@ pub fn sort_paths(
     t: Tables,
     order: usize,
     count: usize,
+    source: Source,
 ) -> Indexed
-    requires { ⌜ (count + count ≤ t .at) × (t .paths + count ≤ t .lengths) × (t .at + t .lengths + count + count ≤ order) × (order + count ≤ length (now w)) ⌝ }
-    requires { ⌜ (t .texts ≡ 0) × (count * 10 ≤ length (now nodes)) × (count ≤ 4294967295) ⌝ }
+    requires { ⌜ (count + count ≤ t .at) × (t .paths + count ≤ t .lengths) × (t .at + t .lengths + count + count ≤ order)
+        × (order + count ≤ length (now w)) ⌝ }
+    requires { ⌜ (t .texts ≡ 0) × (count ≤ length (now nodes) / nodeWords (source .version)) × (count ≤ 4294967295) ⌝ }
     requires { ⌜ ((j : ℕ) → j < count → getD (now w) (order + j) 0 < count) ⌝ }
-    ensures { λ r. ⌜ ((s : Sections) (olds : List ℕ) → s .nodes ≡ now (nodes .entry) → s .strings ≡ now (strings .entry) → s .stride ≡ nodeWords → nodeCount s ≡ count → Rooted s olds → OldsAt olds (now (w .entry)) count order → Indexes s olds t (now (w .entry)) (now (w .exit)) r) ⌝ }
+    ensures { λ r. ⌜ ((s : Sections) (olds : List ℕ) → s .nodes ≡ now (nodes .entry) → s .strings ≡ now (strings .entry)
+        → s .version ≡ source .version → nodeCount s ≡ count → Rooted s olds → OldsAt olds (now (w .entry)) count order
+        → Indexes s olds t (now (w .entry)) (now (w .exit)) r) ⌝ }
 {
-    if !all_placed(nodes, count) {
+    if !all_placed(nodes, count, source) {
         return Indexed::Refused(DRAFT_PATHS);
     }
     let list = t.at + t.paths;
-    let found = list_containers(nodes, w, order, count, list);
-    measure(nodes, w, list, found, t.at + t.lengths, count);
-    if sort_list(nodes, strings, w, t, found) {
+    let found = list_containers(nodes, w, order, count, list, source);
+    measure(nodes, w, list, found, t.at + t.lengths, count, source);
+    if sort_list(nodes, strings, w, t, found, source) {
         Indexed::Paths(found)
     } else {
         Indexed::Refused(DRAFT_PATHS)

@@ -6,7 +6,7 @@ ghost use lib.ListN.{length, getD};
 ghost use Rattle.laws.specs.Counted.{joinOf};
 ghost use Rattle.laws.specs.Lists.{placeIn};
 ghost use Rattle.words.specs.Words.{bytesOf};
-ghost use Rattle.image.specs.Sections.{Sections, nodeCount};
+ghost use Rattle.image.specs.Sections.{Sections, textEntrySize, nodeCount};
 ghost use Rattle.draft.specs.Numbering.{oldOf};
 ghost use Rattle.draft_image.specs.Strings.{byPath, pathOf};
 ghost use Rattle.draft_image.specs.Written.{indexOut};
@@ -28,8 +28,14 @@ pub struct Paths {
 // Writes the section at the start of the output.
 pub fn put_index(work: &[u32], numbers: Numbers, paths: Paths, out: &mut [u8])
     requires { ⌜ IndexFit (now work) numbers paths ⌝ }
-    requires { ⌜ 12 * paths .count ≤ length (now out) ⌝ }
-    ensures { λ r. ⌜ ((s : Sections) (order : List ℕ) (kept : List (List ℕ)) → paths .count ≡ length (byPath s order) → ((j : ℕ) → j < nodeCount s → oldOf order j < nodeCount s) → ((j : ℕ) → j < nodeCount s → placeIn order (oldOf order j) ≡ j) → NewsAt order (now (work .entry)) (nodeCount s) (numbers .new) → PathsAt s order (now (work .entry)) (paths .nodes) → LengthsAt s order (now (work .entry)) (paths .lengths) → OffsetsAt kept (map (pathOf s order) (byPath s order)) (now (work .entry)) (numbers .offsets) → now (out .exit) ≡ over (bytesOf (joinOf (length (byPath s order)) (λ k. indexOut s order kept (getD (byPath s order) k 0)))) (now (out .entry))) ⌝ }
+    requires { ⌜ textEntrySize * paths .count ≤ length (now out) ⌝ }
+    ensures { λ r. ⌜ ((s : Sections) (order : List ℕ) (kept : List (List ℕ)) → paths .count ≡ length (byPath s order)
+        → ((j : ℕ) → j < nodeCount s → oldOf order j < nodeCount s) → ((j : ℕ) → j < nodeCount s → placeIn order (oldOf order j) ≡ j)
+        → NewsAt order (now (work .entry)) (nodeCount s) (numbers .new) → PathsAt s order (now (work .entry)) (paths .nodes)
+        → LengthsAt s order (now (work .entry)) (paths .lengths)
+        → OffsetsAt kept (map (pathOf s order) (byPath s order)) (now (work .entry)) (numbers .offsets)
+        → (let entries = joinOf (length (byPath s order)) (λ k. indexOut s order kept (getD (byPath s order) k 0)) in
+        now (out .exit) ≡ over (bytesOf entries) (now (out .entry)))) ⌝ }
 {
     let mut at = 0;
     let mut k = 0;

@@ -8,11 +8,11 @@ ghost use lib.Dec.{ltb};
 ghost use lib.ListN.{length, getD, drop};
 ghost use Rattle.texts.specs.Text.{before};
 ghost use Rattle.texts.specs.Decimal.{decimal};
-ghost use Rattle.index.specs.Paths.{noName};
-ghost use Rattle.write_text_keys.specs.Keys.{pieceLength, atEnd, lastByte, stepBack, readBack, back, decided, alike, nodeOf, longOf, keyOf, keyLength, endOf, keyIn, textIn, Placed, lengthFrom};
+ghost use Rattle.write_text_keys.specs.Keys.{pieceLength, atEnd, lastByte, stepBack, readBack, back, decided, alike, nodeOf};
+ghost use Rattle.write_text_keys.specs.Keys.{longOf, keyOf, keyLength, endOf, keyIn, textIn, Placed, lengthFrom};
 use draft::source;
 use draft::source::Source;
-use texts::Order;
+use image::order::comes_before;
 
 // Where the tables of uses lie in the work words: all of them from word `at` on, and in them from their start on two words for each text
 // (offset and length), from `paths` on a node for each path, and from `lengths` on two words for each node (length of its path, low first).
@@ -32,20 +32,6 @@ struct Cursor {
     above: u32,
 }
 
-// Whether there is no name, or the empty one.
-fn no_name(offset: u32, len: u32) -> bool
-    ensures { λ r. ⌜ r ≡ noName offset len ⌝ }
-{
-    if len == 0 {
-        return true;
-    }
-    if len == image::NONE {
-        offset == image::NONE
-    } else {
-        false
-    }
-}
-
 // The number of digits of a place.
 fn digit_count(place: u32) -> u32
     ensures { λ r. ⌜ r ≡ length (decimal place) ⌝ }
@@ -58,7 +44,7 @@ fn piece_length(nodes: &[u32], x: u32, source: Source) -> u32
     ensures { λ r. ⌜ r ≡ pieceLength (source .version) (now (nodes .entry)) x ⌝ }
 {
     let len = source::word_of(nodes, x, 4, source);
-    if no_name(source::word_of(nodes, x, 3, source), len) {
+    if index::no_name(source::word_of(nodes, x, 3, source), len) {
         return digit_count(source::word_of(nodes, x, 1, source));
     }
     len
@@ -71,7 +57,7 @@ fn at_end(nodes: &[u32], x: u32, source: Source) -> Cursor
     let above = source::word_of(nodes, x, 0, source);
     let offset = source::word_of(nodes, x, 3, source);
     let left = piece_length(nodes, x, source);
-    if no_name(offset, source::word_of(nodes, x, 4, source)) {
+    if index::no_name(offset, source::word_of(nodes, x, 4, source)) {
         let place = source::word_of(nodes, x, 1, source);
         return Cursor {
             named: false,
@@ -272,12 +258,7 @@ fn end_of(nodes: &[u32], tab: &[u32], t: Tables, a: u32, source: Source) -> Curs
 fn texts_below(strings: &[u8], tab: &[u32], a: u32, b: u32) -> bool
     ensures { λ r. ⌜ (let text = textIn (now (strings .entry)) (now (tab .entry)) in r ≡ before (text a) (text b)) ⌝ }
 {
-    let order = texts::compare(text_of(strings, tab, a), text_of(strings, tab, b));
-    match order {
-        Order::Less => true,
-        Order::Equal => false,
-        Order::Greater => false,
-    }
+    comes_before(text_of(strings, tab, a), text_of(strings, tab, b))
 }
 
 // Whether the text of use `a` comes before that of use `b`, by cursors: the longer one's surplus is passed, then both are read backward.

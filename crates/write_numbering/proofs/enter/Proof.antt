@@ -22,7 +22,7 @@ node-is c = read-node _ _ _ _ _ refl refl (c .node-at .ensures)
 
 room-of : (c : tie.After-node-at) (t : c .node-at .result .tag ≡ 1)
     → Room (Tree (St c)) (St c .args .id) (St c .args .base) (St c .args .depth) (St c .args .work .now) (c .node-at .result) (node-is c) t
-room-of c t = room _ _ _ _ _ _ (node-is c) t (St c .pre .0) (St c .pre .1 .0) (St c .pre .1 .1)
+room-of c t = room _ _ _ _ _ _ (node-is c) t (St c .pre .0) (St c .pre .1) (St c .pre .2)
 
 -- the new depth fits
 fits : (c : tie.After-node-at) → c .node-at .result .tag ≡ 1 → St c .args .depth + c .node-at .result .f6 + c .node-at .result .f4 < 2 ^ 63

@@ -39,7 +39,9 @@ top c = getD (c .before .loop .work) (St (c .before) .args .count + (c .before .
 
 top-below : (c : tie.In-loop Inv-loop μ-loop) → top c < St (c .before) .args .count
 top-below c =
-    read-below _ _ (St (c .before) .pre .1 .1 .0) (St (c .before) .pre .0) (St (c .before) .pre .1 .0) (St (c .before) .args .work .now) _ _ _ (c .before .loop .inv) _ (c .loop-test .taken) refl
+    let loop = c .before in
+    let to = St loop in
+    read-below _ _ (to .pre .0 .2) (to .pre .0 .0) (to .pre .0 .1) (to .args .work .now) _ _ _ (loop .loop .inv) _ (c .loop-test .taken) refl
 
 mul-work : tie.Need-mul-work Inv-loop μ-loop
 mul-work c = search needs
@@ -49,7 +51,8 @@ slice-write-work c = search needs
 
 loop-holds : tie.Need-loop-holds Inv-loop μ-loop
 loop-holds c =
-    read-start _ _ (c .before .before .before .before .pre .1 .1 .0) (c .before .before .before .before .pre .0) (c .before .before .before .before .pre .1 .0) (c .before .before .before .before .args .work .now) (c .before .before .before .before .pre .1 .1 .1 .0) (c .before .before .before .before .pre .1 .1 .1 .1)
+    let to = c .before .before .before .before in
+    read-start _ _ (to .pre .0 .2) (to .pre .0 .0) (to .pre .0 .1) (to .args .work .now) (to .pre .0 .3) (to .pre .1)
 
 sub-depth : tie.Need-sub-depth Inv-loop μ-loop
 sub-depth c = search needs
@@ -74,7 +77,9 @@ slice-read-if1 c = omega (arith, top-below (c .before .before))
 
 add-taken : tie.Need-add-taken Inv-loop μ-loop
 add-taken c =
-    omega (arith, read-few _ _ (St (c .before .before .before .before) .pre .1 .1 .0) (St (c .before .before .before .before) .pre .0) (St (c .before .before .before .before) .pre .1 .0) (St (c .before .before .before .before) .args .work .now) _ _ _ (c .before .before .before .before .loop .inv) _ (c .before .before .before .loop-test .taken) refl (c .if1 .taken) (in-words (c .before .before .before .before)))
+    let loop = c .before .before .before .before in
+    let to = St loop in
+    omega (arith, read-few _ _ (to .pre .0 .2) (to .pre .0 .0) (to .pre .0 .1) (to .args .work .now) _ _ _ (loop .loop .inv) _ (c .before .before .before .loop-test .taken) refl (c .if1 .taken) (in-words loop))
 
 mul-work-2 : tie.Need-mul-work-2 Inv-loop μ-loop
 mul-work-2 c = omega (arith, top-below (c .before .before .before))
@@ -84,28 +89,44 @@ slice-write-work-2 c = omega (arith, top-below (c .before .before .before))
 
 enter-requires : tie.Need-enter-requires Inv-loop μ-loop
 enter-requires c κs =
-    (St (c .before .before .before .before .before) .pre .0, (omega (arith, top-below (c .before .before .before .before), St (c .before .before .before .before .before) .pre .1 .1 .0), read-room _ _ (St (c .before .before .before .before .before) .pre .1 .1 .0) (St (c .before .before .before .before .before) .pre .0) (St (c .before .before .before .before .before) .pre .1 .0) (St (c .before .before .before .before .before) .args .work .now) _ _ _ (c .before .before .before .before .before .loop .inv) _ (c .before .before .before .before .loop-test .taken) refl (c .before .if1 .taken)))
+    let loop = c .before .before .before .before .before in
+    let to = St loop in
+    let room = read-room _ _ (to .pre .0 .2) (to .pre .0 .0) (to .pre .0 .1) (to .args .work .now) _ _ _ (loop .loop .inv) _ (c .before .before .before .before .loop-test .taken) refl (c .before .if1 .taken) in
+    (to .pre .0 .0, omega (arith, top-below (c .before .before .before .before), to .pre .0 .2), room)
 
 loop-less : tie.Need-loop-less Inv-loop μ-loop
 loop-less c =
-    read-less _ _ (St (c .before .before .before .before .before .before .before .before) .pre .1 .1 .0) (St (c .before .before .before .before .before .before .before .before) .pre .0) (St (c .before .before .before .before .before .before .before .before) .pre .1 .0) (St (c .before .before .before .before .before .before .before .before) .args .work .now) _ _ _ (c .before .before .before .before .before .before .before .before .loop .inv) _ (c .before .before .before .before .before .before .before .loop-test .taken) refl (c .before .before .before .before .if1 .taken) _ _ (c .before .before .enter .ensures) (c .before .before .enter .kept .1 .1 .1 .1 .0)
+    let loop = c .before .before .before .before .before .before .before .before in
+    let to = St loop in
+    let enter = c .before .before .enter in
+    read-less _ _ (to .pre .0 .2) (to .pre .0 .0) (to .pre .0 .1) (to .args .work .now) _ _ _ (loop .loop .inv) _ (c .before .before .before .before .before .before .before .loop-test .taken) refl (c .before .before .before .before .if1 .taken) _ _
+    (enter .ensures) (enter .kept .1 .1 .1 .1 .0)
 
 loop-again : tie.Need-loop-again Inv-loop μ-loop
 loop-again c =
-    read-entered _ _ (St (c .before .before .before .before .before .before .before .before) .pre .1 .1 .0) (St (c .before .before .before .before .before .before .before .before) .pre .0) (St (c .before .before .before .before .before .before .before .before) .pre .1 .0) (St (c .before .before .before .before .before .before .before .before) .args .work .now) _ _ _ (c .before .before .before .before .before .before .before .before .loop .inv) _ (c .before .before .before .before .before .before .before .loop-test .taken) refl (c .before .before .before .before .if1 .taken) _ _ (c .before .before .enter .ensures) (c .before .before .enter .kept .1 .1 .1 .1 .0)
+    let loop = c .before .before .before .before .before .before .before .before in
+    let to = St loop in
+    let enter = c .before .before .enter in
+    read-entered _ _ (to .pre .0 .2) (to .pre .0 .0) (to .pre .0 .1) (to .args .work .now) _ _ _ (loop .loop .inv) _ (c .before .before .before .before .before .before .before .loop-test .taken) refl (c .before .before .before .before .if1 .taken) _ _
+    (enter .ensures) (enter .kept .1 .1 .1 .1 .0)
 
 loop-less-2 : tie.Need-loop-less-2 Inv-loop μ-loop
 loop-less-2 c = search needs
 
 loop-again-2 : tie.Need-loop-again-2 Inv-loop μ-loop
 loop-again-2 c =
-    read-skip _ _ (St (c .before .before .before .before) .pre .1 .1 .0) (St (c .before .before .before .before) .pre .0) (St (c .before .before .before .before) .pre .1 .0) (St (c .before .before .before .before) .args .work .now) _ _ _ (c .before .before .before .before .loop .inv) _ (c .before .before .before .loop-test .taken) refl (c .if1 .left)
+    let loop = c .before .before .before .before in
+    let to = St loop in
+    read-skip _ _ (to .pre .0 .2) (to .pre .0 .0) (to .pre .0 .1) (to .args .work .now) _ _ _ (loop .loop .inv) _ (c .before .before .before .loop-test .taken) refl (c .if1 .left)
 
 same-length : tie.Need-same-length Inv-loop μ-loop
 same-length c = c .before .loop .inv .walking .long ∙ simp length-set
 
 returns : tie.Need-returns Inv-loop μ-loop
-returns c = read-end _ _ (St (c .before) .pre .1 .1 .0) (St (c .before) .pre .0) (St (c .before) .pre .1 .0) (St (c .before) .args .work .now) _ _ _ (c .before .loop .inv) (c .loop-test .left)
+returns c =
+    let loop = c .before in
+    let to = St loop in
+    read-end _ _ (to .pre .0 .2) (to .pre .0 .0) (to .pre .0 .1) (to .args .work .now) _ _ _ (loop .loop .inv) (c .loop-test .left)
 
 pub walk-spec : {M : Type 1} → statement M
 walk-spec =

@@ -9,13 +9,13 @@ use Rattle.write_paths.proofs.list_containers.Statement.{statement}
 use Rattle.write_paths.proofs.list_containers.Tie as tie
 
 abbrev Inv-loop : tie.InvT-loop
-Inv-loop nodes w₀ order count paths found₀ j₀ w found j = Listing nodes w₀ w order count paths found j
+Inv-loop nodes w₀ order count paths source found₀ j₀ w found j = Listing (source .version) nodes w₀ w order count paths found j
 
 abbrev μ-loop : tie.MeasureT-loop
-μ-loop nodes w₀ order count paths found₀ j₀ w found j = count - j
+μ-loop nodes w₀ order count paths source found₀ j₀ w found j = count - j
 
 loop-holds : tie.Need-loop-holds Inv-loop μ-loop
-loop-holds c = list-start _ _ _ _ _
+loop-holds c = list-start _ _ _ _ _ _
 
 add-word : tie.Need-add-word Inv-loop μ-loop
 add-word c = search needs
@@ -23,17 +23,8 @@ add-word c = search needs
 word-requires : tie.Need-word-requires Inv-loop μ-loop
 word-requires c κs = search needs
 
-cast-word : tie.Need-cast-word Inv-loop μ-loop
-cast-word c = search needs
-
-mul-word : tie.Need-mul-word Inv-loop μ-loop
-mul-word c = search needs
-
-add-word-2 : tie.Need-add-word-2 Inv-loop μ-loop
-add-word-2 c = search needs
-
-word-requires-2 : tie.Need-word-requires-2 Inv-loop μ-loop
-word-requires-2 c κs = search needs
+word-of-requires : tie.Need-word-of-requires Inv-loop μ-loop
+word-of-requires c κs = search needs
 
 add-w : tie.Need-add-w Inv-loop μ-loop
 add-w c = search needs
@@ -56,15 +47,15 @@ loop-less c = search needs
 loop-again : tie.Need-loop-again Inv-loop μ-loop
 loop-again c =
     ⊎-elim
-    (λ w. rw (w .1, w .2) (list-take _ _ _ _ _ _ _ _ _ (c .before .before .before .before .before .loop .inv) (c .before .before .before .before .before .before .before .before .pre .0) (c .before .before .before .before .loop-test .taken) (c .before .before .word .ensures) (search needs)))
-    (λ w. rw (w .1, w .2) (list-skip _ _ _ _ _ _ _ _ _ (c .before .before .before .before .before .loop .inv) (c .before .before .before .before .before .before .before .before .pre .0) (c .before .before .before .before .loop-test .taken) (c .before .before .word .ensures) (search needs)))
+    (λ w. rw (w .1, w .2) (list-take _ _ _ _ _ _ _ _ _ _ (c .before .before .before .before .before .loop .inv) (c .before .before .before .before .before .before .before .before .pre .0) (c .before .before .before .before .loop-test .taken) (c .before .before .word .ensures) (search needs)))
+    (λ w. rw (w .1, w .2) (list-skip _ _ _ _ _ _ _ _ _ _ (c .before .before .before .before .before .loop .inv) (c .before .before .before .before .before .before .before .before .pre .0) (c .before .before .before .before .loop-test .taken) (c .before .before .word .ensures) (search needs)))
     (c .if1 .came)
 
 same-length : tie.Need-same-length Inv-loop μ-loop
 same-length c = search needs
 
 returns : tie.Need-returns Inv-loop μ-loop
-returns c = list-end _ _ _ _ _ _ _ _ (c .before .loop .inv) (search needs)
+returns c = list-end _ _ _ _ _ _ _ _ _ (c .before .loop .inv) (search needs)
 
 pub list-containers-spec : {M : Type 1} → statement M
 list-containers-spec =
@@ -75,10 +66,7 @@ list-containers-spec =
     loop-holds
     add-word
     word-requires
-    cast-word
-    mul-word
-    add-word-2
-    word-requires-2
+    word-of-requires
     add-w
     mul-w
     slice-write-w

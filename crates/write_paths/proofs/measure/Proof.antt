@@ -9,10 +9,10 @@ use Rattle.write_paths.proofs.measure.Statement.{statement}
 use Rattle.write_paths.proofs.measure.Tie as tie
 
 abbrev Inv-loop : tie.InvT-loop
-Inv-loop nodes w₀ list found table count i₀ w i = Measured w₀ list found table count (lengthFrom count nodes) w i
+Inv-loop nodes w₀ list found table count source i₀ w i = Measured w₀ list found table count (lengthFrom count (source .version) nodes) w i
 
 abbrev μ-loop : tie.MeasureT-loop
-μ-loop nodes w₀ list found table count i₀ w i = found - i
+μ-loop nodes w₀ list found table count source i₀ w i = found - i
 
 loop-holds : tie.Need-loop-holds Inv-loop μ-loop
 loop-holds c = measure-start _ _ _ _ _ _

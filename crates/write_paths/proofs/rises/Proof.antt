@@ -15,10 +15,10 @@ use Rattle.write_paths.proofs.rises.Statement.{statement}
 use Rattle.write_paths.proofs.rises.Tie as tie
 
 abbrev Inv-loop : tie.InvT-loop
-Inv-loop nodes strings w t n i₀ i = (1 ≤ i) × (allOf i (rising (λ j. keyIn nodes strings t w (getD w j 0))) ≡ true)
+Inv-loop nodes strings w t n source i₀ i = (1 ≤ i) × (allOf i (rising (λ j. keyIn (source .version) nodes strings t w (getD w j 0))) ≡ true)
 
 abbrev μ-loop : tie.MeasureT-loop
-μ-loop nodes strings w t n i₀ i = n - i
+μ-loop nodes strings w t n source i₀ i = n - i
 
 loop-holds : tie.Need-loop-holds Inv-loop μ-loop
 unfolding allOf
@@ -38,10 +38,11 @@ below-requires c κs = search needs
 
 returns : tie.Need-returns Inv-loop μ-loop
 returns c =
-    sym
-    (all-fails _ _ _ (c .before .before .before .before .loop-test .taken)
-    (rises-at (keyIn (c .before .before .before .before .before .before .before .before .before .args .nodes .now) (c .before .before .before .before .before .before .before .before .before .args .strings .now) (c .before .before .before .before .before .before .before .before .before .args .t) (c .before .before .before .before .before .before .before .before .before .args .w .now)) (c .before .before .before .before .before .before .before .before .before .args .w .now) _ _ _ _ (c .before .before .before .before .before .loop .inv .0) (c .before .before .before .word .ensures) (c .before .before .word2 .ensures) (c .before .below .ensures)
-    ∙ not-true _ (c .if1 .taken)))
+    let loop = c .before .before .before .before .before in
+    let to = loop .before .before .before .before .args in
+    let key = keyIn (to .source .version) (to .nodes .now) (to .strings .now) (to .t) (to .w .now) in
+    let here = rises-at key (to .w .now) _ _ _ _ (loop .loop .inv .0) (c .before .before .before .word .ensures) (c .before .before .word2 .ensures) (c .before .below .ensures) in
+    sym (all-fails _ _ _ (c .before .before .before .before .loop-test .taken) (here ∙ not-true _ (c .if1 .taken)))
 
 add-i : tie.Need-add-i Inv-loop μ-loop
 add-i c = search needs
@@ -50,12 +51,12 @@ loop-less : tie.Need-loop-less Inv-loop μ-loop
 loop-less c = search needs
 
 loop-again : tie.Need-loop-again Inv-loop μ-loop
-loop-again c = (
-  search needs,
-  all-next _ _ (c .before .before .before .before .before .loop .inv .1)
-      (rises-at (keyIn (c .before .before .before .before .before .before .before .before .before .args .nodes .now) (c .before .before .before .before .before .before .before .before .before .args .strings .now) (c .before .before .before .before .before .before .before .before .before .args .t) (c .before .before .before .before .before .before .before .before .before .args .w .now)) (c .before .before .before .before .before .before .before .before .before .args .w .now) _ _ _ _ (c .before .before .before .before .before .loop .inv .0) (c .before .before .before .word .ensures) (c .before .before .word2 .ensures) (c .before .below .ensures)
-      ∙ not-false _ (c .if1 .left)),
-)
+loop-again c =
+    let loop = c .before .before .before .before .before in
+    let to = loop .before .before .before .before .args in
+    let key = keyIn (to .source .version) (to .nodes .now) (to .strings .now) (to .t) (to .w .now) in
+    let here = rises-at key (to .w .now) _ _ _ _ (loop .loop .inv .0) (c .before .before .before .word .ensures) (c .before .before .word2 .ensures) (c .before .below .ensures) in
+    (search needs, all-next _ _ (loop .loop .inv .1) (here ∙ not-false _ (c .if1 .left)))
 
 returns-2 : tie.Need-returns-2 Inv-loop μ-loop
 returns-2 c = sym (all-less _ _ _ (search needs) (c .before .loop .inv .1))

@@ -19,8 +19,10 @@ same-length c = search needs
 
 returns : tie.Need-returns
 returns c =
-    arranged-not _ _ _ _ _ _ _ (c .before .before .before .before .before .before .before .before .before .before .before .before .before .before .pre .0) (c .before .before .before .before .before .before .before .before .before .before .before .before .before .before .pre .1) (c .before .before .before .before .before .before .before .before .before .count-up .ensures) (c .before .before .before .before .before .sort .ensures .0) (c .before .before .before .before .before .sort .ensures .1) (search needs) _
-    (c .before .rises .ensures) (not-true _ (c .if1 .taken))
+    let to = c .before .before .before .before .before .before .before .before .before .before .before .before .before .before in
+    let counted = c .before .before .before .before .before .before .before .before .before .count-up .ensures in
+    let sorted = c .before .before .before .before .before .sort .ensures in
+    arranged-not _ _ _ _ _ _ _ _ (to .pre .0) (to .pre .1) counted (sorted .0) (sorted .1) (search needs) _ (c .before .rises .ensures) (not-true _ (c .if1 .taken))
 
 add-list : tie.Need-add-list
 add-list c = search needs
@@ -36,8 +38,13 @@ same-length-2 c = search needs
 
 returns-2 : tie.Need-returns-2
 returns-2 c =
-    arranged _ _ _ _ _ _ _ (c .before .before .before .before .before .before .before .before .before .before .before .before .before .before .before .before .before .before .before .before .before .before .before .pre .0) (c .before .before .before .before .before .before .before .before .before .before .before .before .before .before .before .before .before .before .before .before .before .before .before .pre .1) (c .before .before .before .before .before .before .before .before .before .before .before .before .before .before .before .before .before .before .count-up .ensures) (c .before .before .before .before .before .before .before .before .before .before .before .before .before .before .sort .ensures .0) (c .before .before .before .before .before .before .before .before .before .before .before .before .before .before .sort .ensures .1) (search needs) _
-    (c .before .before .before .before .before .before .before .before .before .before .rises .ensures) (not-false _ (c .before .before .before .before .before .before .before .before .before .if1 .left)) _ _ (c .before .before .before .before .before .before .gather .ensures) (c .before .before .settle .ensures)
+    let to = c .before .before .before .before .before .before .before .before .before .before .before .before .before .before .before .before .before .before .before .before .before .before .before in
+    let counted = c .before .before .before .before .before .before .before .before .before .before .before .before .before .before .before .before .before .before .count-up .ensures in
+    let sorted = c .before .before .before .before .before .before .before .before .before .before .before .before .before .before .sort .ensures in
+    let rising = c .before .before .before .before .before .before .before .before .before .before .rises .ensures in
+    let yes = not-false _ (c .before .before .before .before .before .before .before .before .before .if1 .left) in
+    arranged _ _ _ _ _ _ _ _ (to .pre .0) (to .pre .1) counted (sorted .0) (sorted .1) (search needs) _ rising yes _ _
+    (c .before .before .before .before .before .before .gather .ensures) (c .before .before .settle .ensures)
 
 pub sort-list-spec : {M : Type 1} → statement M
 sort-list-spec =

@@ -10,7 +10,7 @@ all-placed-requires c κs = search needs
 
 returns : tie.Need-returns
 returns c =
-    λ s olds en es z ec rooted known. indexed-unplaced s olds _ _ _ _ _ _ en es z ec rooted known _ (c .before .all-placed .ensures s en z) (not-true _ (c .if1 .taken))
+    λ s olds en es z ec rooted known. indexed-unplaced s olds _ _ _ _ _ _ _ en es z ec rooted known _ (c .before .all-placed .ensures s en z) (not-true _ (c .if1 .taken))
 
 add-list : tie.Need-add-list
 add-list c = search needs
@@ -23,13 +23,16 @@ add-measure c = search needs
 
 measure-requires : tie.Need-measure-requires
 measure-requires c κs =
-    let few = containers-few (c .before .before .before .before .before .before .before .before .before .before .before .before .args .nodes .now) (c .before .before .before .before .before .before .before .before .before .before .before .before .args .w .now) (c .before .before .before .before .before .before .before .before .before .before .before .before .args .order) (c .before .before .before .before .before .before .before .before .before .before .before .before .args .count) in
-    let size = c .before .before .before .before .list-containers .ensures .0 in
-    (search needs, λ k h. listed-below _ _ _ _ _ _ _ (search needs) (c .before .before .before .before .before .before .before .before .before .before .before .before .pre .0 .3) (c .before .before .before .before .before .before .before .before .before .before .before .before .pre .1 .1) (c .before .before .before .before .list-containers .ensures .0) (c .before .before .before .before .list-containers .ensures .1) k h)
+    let to = c .before .before .before .before .before .before .before .before .before .before .before .before in
+    let listed = c .before .before .before .before .list-containers .ensures in
+    let few = containers-few (to .args .source .version) (to .args .nodes .now) (to .args .w .now) (to .args .order) (to .args .count) in
+    let size = listed .0 in
+    (search needs, λ k h. listed-below _ _ _ _ _ _ _ _ (search needs) (to .pre .0 .3) (to .pre .1 .1) (listed .0) (listed .1) k h)
 
 sort-list-requires : tie.Need-sort-list-requires
 sort-list-requires c κs =
-    let few = containers-few (c .before .before .before .before .before .before .before .before .before .before .before .before .before .before .before .before .args .nodes .now) (c .before .before .before .before .before .before .before .before .before .before .before .before .before .before .before .before .args .w .now) (c .before .before .before .before .before .before .before .before .before .before .before .before .before .before .before .before .args .order) (c .before .before .before .before .before .before .before .before .before .before .before .before .before .before .before .before .args .count) in
+    let to = c .before .before .before .before .before .before .before .before .before .before .before .before .before .before .before .before .args in
+    let few = containers-few (to .source .version) (to .nodes .now) (to .w .now) (to .order) (to .count) in
     let size = c .before .before .before .before .before .before .before .before .list-containers .ensures .0 in
     search needs
 
@@ -39,7 +42,15 @@ same-length c = search needs
 returns-2 : tie.Need-returns-2
 returns-2 c =
     λ s olds en es z ec rooted known.
-    indexed s olds (c .before .before .before .before .before .before .before .before .before .before .before .before .before .before .before .before .before .before .before .before .args .nodes .now) (c .before .before .before .before .before .before .before .before .before .before .before .before .before .before .before .before .before .before .before .before .args .strings .now) (c .before .before .before .before .before .before .before .before .before .before .before .before .before .before .before .before .before .before .before .before .args .t) (c .before .before .before .before .before .before .before .before .before .before .before .before .before .before .before .before .before .before .before .before .args .w .now) (c .before .before .before .before .before .before .before .before .before .before .before .before .before .before .before .before .before .before .before .before .args .order) (c .before .before .before .before .before .before .before .before .before .before .before .before .before .before .before .before .before .before .before .before .args .count) en es z ec rooted known (c .before .before .before .before .before .before .before .before .before .before .before .before .before .before .before .before .before .before .before .before .pre .1 .0 .0) (search needs) (search needs) (search needs) _ _ _ (c .before .before .before .before .before .before .before .before .before .before .before .before .list-containers .ensures .0) (c .before .before .before .before .before .before .before .before .before .before .before .before .list-containers .ensures .1) (c .before .before .before .before .before .before .before .measure .ensures) _ (c .before .before .before .before .before .before .before .before .before .before .before .before .before .before .before .before .all-placed .ensures s en z) (not-false _ (c .before .before .before .before .before .before .before .before .before .before .before .before .before .before .before .if1 .left)) _ _ (c .before .before .before .sort-list .ensures) (c .if2 .taken)
+    let start = c .before .before .before .before .before .before .before .before .before .before .before .before .before .before .before .before .before .before .before .before in
+    let to = start .args in
+    let listed = c .before .before .before .before .before .before .before .before .before .before .before .before .list-containers .ensures in
+    let measured = c .before .before .before .before .before .before .before .measure .ensures in
+    let placed = c .before .before .before .before .before .before .before .before .before .before .before .before .before .before .before .before .all-placed .ensures s en z in
+    let yes = not-false _ (c .before .before .before .before .before .before .before .before .before .before .before .before .before .before .before .if1 .left) in
+    indexed s olds (to .source .version) (to .nodes .now) (to .strings .now) (to .t) (to .w .now) (to .order) (to .count) en es z ec rooted known
+    (start .pre .1 .0 .0) (search needs) (search needs) (search needs) _ _ _ (listed .0) (listed .1) measured _ placed yes _ _
+    (c .before .before .before .sort-list .ensures) (c .if2 .taken)
 
 same-length-2 : tie.Need-same-length-2
 same-length-2 c = search needs
@@ -47,7 +58,15 @@ same-length-2 c = search needs
 returns-3 : tie.Need-returns-3
 returns-3 c =
     λ s olds en es z ec rooted known.
-    indexed-twice s olds (c .before .before .before .before .before .before .before .before .before .before .before .before .before .before .before .before .before .before .before .before .args .nodes .now) (c .before .before .before .before .before .before .before .before .before .before .before .before .before .before .before .before .before .before .before .before .args .strings .now) (c .before .before .before .before .before .before .before .before .before .before .before .before .before .before .before .before .before .before .before .before .args .t) (c .before .before .before .before .before .before .before .before .before .before .before .before .before .before .before .before .before .before .before .before .args .w .now) (c .before .before .before .before .before .before .before .before .before .before .before .before .before .before .before .before .before .before .before .before .args .order) (c .before .before .before .before .before .before .before .before .before .before .before .before .before .before .before .before .before .before .before .before .args .count) en es z ec rooted known (c .before .before .before .before .before .before .before .before .before .before .before .before .before .before .before .before .before .before .before .before .pre .1 .0 .0) (search needs) (search needs) (search needs) _ _ _ (c .before .before .before .before .before .before .before .before .before .before .before .before .list-containers .ensures .0) (c .before .before .before .before .before .before .before .before .before .before .before .before .list-containers .ensures .1) (c .before .before .before .before .before .before .before .measure .ensures) _ (c .before .before .before .before .before .before .before .before .before .before .before .before .before .before .before .before .all-placed .ensures s en z) (not-false _ (c .before .before .before .before .before .before .before .before .before .before .before .before .before .before .before .if1 .left)) _ _ (c .before .before .before .sort-list .ensures) (c .if2 .left)
+    let start = c .before .before .before .before .before .before .before .before .before .before .before .before .before .before .before .before .before .before .before .before in
+    let to = start .args in
+    let listed = c .before .before .before .before .before .before .before .before .before .before .before .before .list-containers .ensures in
+    let measured = c .before .before .before .before .before .before .before .measure .ensures in
+    let placed = c .before .before .before .before .before .before .before .before .before .before .before .before .before .before .before .before .all-placed .ensures s en z in
+    let yes = not-false _ (c .before .before .before .before .before .before .before .before .before .before .before .before .before .before .before .if1 .left) in
+    indexed-twice s olds (to .source .version) (to .nodes .now) (to .strings .now) (to .t) (to .w .now) (to .order) (to .count) en es z ec rooted known
+    (start .pre .1 .0 .0) (search needs) (search needs) (search needs) _ _ _ (listed .0) (listed .1) measured _ placed yes _ _
+    (c .before .before .before .sort-list .ensures) (c .if2 .left)
 
 pub sort-paths-spec : {M : Type 1} → statement M
 sort-paths-spec =

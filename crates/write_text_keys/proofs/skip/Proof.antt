@@ -41,11 +41,11 @@ loop-again c =
     let to = at .before .before .args in
     at .loop .inv ∙ back-up (to .source .version) (to .nodes .now) (at .loop .rest) (at .loop .rest - (at .loop .x .left + 1)) (at .loop .x) (omega arith) ∙ ap (back (at .loop .rest - (at .loop .x .left + 1)) (to .source .version) (to .nodes .now)) (sym (c .at-end .ensures))
 
-cast-t9 : tie.Need-cast-t9 Inv-loop μ-loop
-cast-t9 c = search needs
+cast-t10 : tie.Need-cast-t10 Inv-loop μ-loop
+cast-t10 c = search needs
 
-sub-t10 : tie.Need-sub-t10 Inv-loop μ-loop
-sub-t10 c = search needs
+sub-t11 : tie.Need-sub-t11 Inv-loop μ-loop
+sub-t11 c = search needs
 
 returns : tie.Need-returns Inv-loop μ-loop
 returns c =
@@ -67,6 +67,6 @@ skip-spec =
     at-end-requires
     loop-less
     loop-again
-    cast-t9
-    sub-t10
+    cast-t10
+    sub-t11
     returns)

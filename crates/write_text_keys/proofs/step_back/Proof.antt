@@ -12,12 +12,12 @@ returns : tie.Need-returns
 unfolding stepBack
 returns c = search (needs, cases)
 
-sub-t4 : tie.Need-sub-t4
-sub-t4 c = search needs
+sub-t5 : tie.Need-sub-t5
+sub-t5 c = search needs
 
 returns-2 : tie.Need-returns-2
 unfolding stepBack
 returns-2 c = search (needs, cases)
 
 pub step-back-spec : {M : Type 1} → statement M
-step-back-spec = tie.close (tie.spec at-end-requires returns sub-t4 returns-2)
+step-back-spec = tie.close (tie.spec at-end-requires returns sub-t5 returns-2)

@@ -1,5 +1,5 @@
 -- `write_text_keys::texts_below` meets its contract.
-use Rattle.texts.specs.Text.{before}
+use mathlib.Core.Path.{_∙_}
 use borrow.Author.Needs.{needs}
 use Rattle.write_text_keys.proofs.texts_below.Statement.{statement}
 use Rattle.write_text_keys.proofs.texts_below.Tie as tie
@@ -10,40 +10,11 @@ text-of-requires c κs = search needs
 text-of-requires-2 : tie.Need-text-of-requires-2
 text-of-requires-2 c κs = search needs
 
-compare-requires : tie.Need-compare-requires
-compare-requires c κs = search needs
-
-enum-told : tie.Need-enum-told
-enum-told c = search needs
-
-enum-told-2 : tie.Need-enum-told-2
-enum-told-2 c = search needs
-
-enum-told-3 : tie.Need-enum-told-3
-enum-told-3 c = search needs
+comes-before-requires : tie.Need-comes-before-requires
+comes-before-requires c κs = search needs
 
 returns : tie.Need-returns
-unfolding before
-returns c = rw (← c .before .before .before .before .text-of .ensures, ← c .before .before .before .text-of2 .ensures, ← c .before .before .compare .ensures, c .enum-told .given .1)
-
-returns-2 : tie.Need-returns-2
-unfolding before
-returns-2 c = rw (← c .before .before .before .before .text-of .ensures, ← c .before .before .before .text-of2 .ensures, ← c .before .before .compare .ensures, c .enum-told2 .given .1)
-
-returns-3 : tie.Need-returns-3
-unfolding before
-returns-3 c = rw (← c .before .before .before .before .text-of .ensures, ← c .before .before .before .text-of2 .ensures, ← c .before .before .compare .ensures, c .enum-told3 .given .1)
+returns c = c .comes-before .ensures ∙ rw (c .before .before .text-of .ensures, c .before .text-of2 .ensures)
 
 pub texts-below-spec : {M : Type 1} → statement M
-texts-below-spec =
-    tie.close
-    (tie.spec
-    text-of-requires
-    text-of-requires-2
-    compare-requires
-    enum-told
-    enum-told-2
-    enum-told-3
-    returns
-    returns-2
-    returns-3)
+texts-below-spec = tie.close (tie.spec text-of-requires text-of-requires-2 comes-before-requires returns)

@@ -18,12 +18,20 @@ definition-at-requires c κs = search needs
 definition-at-requires-2 : tie.Need-definition-at-requires-2
 definition-at-requires-2 c κs = search needs
 
+text-part-requires : tie.Need-text-part-requires
+text-part-requires c κs = search needs
+
+text-part-requires-2 : tie.Need-text-part-requires-2
+text-part-requires-2 c κs = search needs
+
 comes-before-requires : tie.Need-comes-before-requires
 comes-before-requires c κs = search needs
 
 returns-2 : tie.Need-returns-2
 returns-2 c =
-    definition-rises _ _ _ _ _ _ (c .before .before .before .if1 .left) (c .before .before .definition-at .ensures) (c .before .definition-at2 .ensures) (c .comes-before .ensures)
+    let read = c .before .before .before in
+    definition-rises _ _ _ _ _ _ (read .before .before .if1 .left) (read .before .definition-at .ensures) (read .definition-at2 .ensures) _ _
+    (c .before .before .text-part .ensures) (c .before .text-part2 .ensures) (c .comes-before .ensures)
 
 pub definition-rises-spec : {M : Type 1} → statement M
 definition-rises-spec =
@@ -33,5 +41,7 @@ definition-rises-spec =
     sub-definition-at
     definition-at-requires
     definition-at-requires-2
+    text-part-requires
+    text-part-requires-2
     comes-before-requires
     returns-2)

@@ -24,12 +24,20 @@ add-entry-at-2 c = search needs
 entry-at-requires-2 : tie.Need-entry-at-requires-2
 entry-at-requires-2 c κs = search needs
 
+text-part-requires : tie.Need-text-part-requires
+text-part-requires c κs = search needs
+
+text-part-requires-2 : tie.Need-text-part-requires-2
+text-part-requires-2 c κs = search needs
+
 comes-before-requires : tie.Need-comes-before-requires
 comes-before-requires c κs = search needs
 
 returns-2 : tie.Need-returns-2
 returns-2 c =
-    entry-rises _ _ _ _ _ _ _ (c .before .before .before .if1 .left) (c .before .before .entry-at .ensures) (c .before .entry-at2 .ensures) (c .comes-before .ensures)
+    let read = c .before .before .before in
+    entry-rises _ _ _ _ _ _ _ (read .before .before .if1 .left) (read .before .entry-at .ensures) (read .entry-at2 .ensures) _ _
+    (c .before .before .text-part .ensures) (c .before .text-part2 .ensures) (c .comes-before .ensures)
 
 pub entry-rises-spec : {M : Type 1} → statement M
 entry-rises-spec =
@@ -41,5 +49,7 @@ entry-rises-spec =
     entry-at-requires
     add-entry-at-2
     entry-at-requires-2
+    text-part-requires
+    text-part-requires-2
     comes-before-requires
     returns-2)

@@ -51,10 +51,15 @@ slice-aggregate-put-words : tie.Need-slice-aggregate-put-words Inv-loop μ-loop
 slice-aggregate-put-words c = search needs
 
 put-words-requires : tie.Need-put-words-requires Inv-loop μ-loop
-put-words-requires c κs = three-room _ _ _ _ _ _ _ _ _ (c .before .before .before .before .before .before .before .before .before .before .before .before .loop .inv) (c .before .before .before .before .before .before .before .before .before .before .if1 .taken)
+put-words-requires c κs =
+    let test = c .before .before .before .before .before .before .before .before .before .before in
+    three-room _ _ _ _ _ _ _ _ _ (test .before .before .loop .inv) (test .if1 .taken)
 
 add-at : tie.Need-add-at Inv-loop μ-loop
-add-at c = let h = three-room _ _ _ _ _ _ _ _ _ (c .before .before .before .before .before .before .before .before .before .before .before .before .before .before .before .loop .inv) (c .before .before .before .before .before .before .before .before .before .before .before .before .before .if1 .taken) in omega arith
+add-at c =
+    let test = c .before .before .before .before .before .before .before .before .before .before .before .before .before in
+    let h = three-room _ _ _ _ _ _ _ _ _ (test .before .before .loop .inv) (test .if1 .taken) in
+    omega arith
 
 add-k : tie.Need-add-k Inv-loop μ-loop
 add-k c = search needs
@@ -63,7 +68,14 @@ loop-less : tie.Need-loop-less Inv-loop μ-loop
 loop-less c = search needs
 
 loop-again : tie.Need-loop-again Inv-loop μ-loop
-loop-again c = three-next _ _ _ _ _ _ _ _ _ (c .before .before .before .before .before .before .before .before .before .before .before .before .before .before .before .loop .inv) (c .before .before .before .before .before .before .before .before .before .word2 .result) (c .before .before .before .before .before .before .before .word3 .result) (c .before .before .before .before .before .word4 .result) _ (c .before .before .before .before .before .before .before .before .before .before .before .before .before .if1 .taken) (c .before .before .before .before .before .before .before .before .before .word2 .ensures) (rw (← c .before .before .before .before .before .before .before .before .before .before .before .word .ensures) (c .before .before .before .before .before .before .before .word3 .ensures)) (rw (← c .before .before .before .before .before .before .before .before .before .before .before .word .ensures) (c .before .before .before .before .before .word4 .ensures)) (c .before .before .put-words .ensures)
+loop-again c =
+    let new = c .before .before .before .before .before .word4 in
+    let size = c .before .before .before .before .before .before .before .word3 in
+    let offset = c .before .before .before .before .before .before .before .before .before .word2 in
+    let node = c .before .before .before .before .before .before .before .before .before .before .before .word .ensures in
+    let test = c .before .before .before .before .before .before .before .before .before .before .before .before .before in
+    three-next _ _ _ _ _ _ _ _ _ (test .before .before .loop .inv) (offset .result) (size .result) (new .result) _ (test .if1 .taken)
+    (offset .ensures) (rw (← node) (size .ensures)) (rw (← node) (new .ensures)) (c .before .before .put-words .ensures)
 
 same-length : tie.Need-same-length Inv-loop μ-loop
 same-length c = search needs
