@@ -22,7 +22,7 @@ use Rattle.tree.proofs.Numbers.{get-below}
 use Rattle.draft.specs.Draft.{tablesRule, writeWords, reachRule, shapeRule, pathsRule}
 use Rattle.draft.specs.Source.{draftOf, nodesOnly}
 use Rattle.draft.specs.Numbering.{numbering, oldOf}
-use Rattle.draft.proofs.Rules.{tables, whole, tables-fit}
+use Rattle.draft.proofs.Rules.{tables, tables-fit}
 use Rattle.draft_image.specs.Strings.{uses, byPath, storedTexts, distinct, offsetOf}
 use Rattle.draft_image.specs.Ready.{OldsAt, NewsAt, textUses}
 use Rattle.write_numbering.specs.Work.{treeOf, Leads, Numbered}
@@ -124,9 +124,6 @@ module _ (version : ℕ) (ns cs ms ds is ps ss : List ℕ) (p : tablesRule (draf
 
   pub seen-whole : (b : Bool) → b ≡ allSeen (treeOf version ns cs ms) (readWalk (treeOf version ns cs ms) .seen) → b ≡ allSeen s (readWalk s .seen)
   seen-whole b e = e ∙ whole-seen version ns cs ms ds is ps ss
-
-  pub nodes-whole : length ns ≡ n * 10
-  nodes-whole = whole s p refl .nodes
 
   -- the tables lie behind the sorted words, one after the other, and before the numbers
   pub record Laid : Type 0 where

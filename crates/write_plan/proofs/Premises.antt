@@ -1,10 +1,7 @@
 -- What the rules have shown of a draft, in the form that each step asks for.
-use Prim.Native.Nat.{ℕ, _*_, _-_, _%_}
+use Prim.Native.Nat.{_-_}
 use mathlib.Core.Path.{_≡_}
-use mathlib.Core.List.{List}
-use native.Mathlib.Omega.{arith}
-use lib.ListN.{length}
-use Rattle.image.specs.Sections.{Sections, nodeWords, nodeCount}
+use Rattle.image.specs.Sections.{Sections, nodeCount}
 use Rattle.records.proofs.PassedRules.{ranges}
 use Rattle.tree.specs.Tree.{readWalk}
 use Rattle.tree.specs.Reach.{Reached}
@@ -31,7 +28,7 @@ module _ (s : Sections) (p : tablesRule s ≡ 0) (q : reachRule s ≡ 0) where
   pub rooted : shapeRule s ≡ 0 → Rooted s (numbering s)
   rooted r =
       record {
-        whole = by-ten (s .nodes) (nodeCount s) (whole s p z .nodes);
+        whole = whole s p .nodes;
         numbers = renumbers;
         climbs =
             λ x h.
@@ -39,6 +36,3 @@ module _ (s : Sections) (p : tablesRule s ≡ 0) (q : reachRule s ≡ 0) where
             (right-tree s (entries-counts s (tables s p)) (shape s r .entries) (λ i k. all-at (Reached s) i (readWalk s .seen) (reached s q i k) (read-reached s))) x h;
         named = λ x h c. ranges s x c (tables s p .fields x h) .name;
       }
-    where
-      by-ten : (xs : List ℕ) (n : ℕ) → length xs ≡ n * nodeWords → length xs % nodeWords ≡ 0
-      by-ten xs n e = omega arith

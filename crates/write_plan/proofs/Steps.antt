@@ -9,6 +9,9 @@ use Rattle.image.specs.Sections.{Sections, nodeWords, nodeCount}
 use Rattle.tree.specs.Tree.{readWalk, allSeen}
 use Rattle.tree.specs.Work.{treeWords}
 use Rattle.tree.specs.Parts.{Fit}
+use Rattle.draft.specs.Shown.{TablesPassed}
+use Rattle.draft.proofs.Rules.{tables}
+use Rattle.draft.proofs.Row21.{tables-passed}
 use Rattle.draft.specs.Draft.{tablesRule, writeWords, reachRule, shapeRule, pathsRule}
 use Rattle.draft.specs.Source.{draftOf}
 use Rattle.draft.specs.Numbering.{numbering}
@@ -40,10 +43,16 @@ module _ (version : ℕ) (ns cs ms ds is ps ss : List ℕ) (p : tablesRule (draf
   abbrev s : Sections
   s = draftOf version ns cs ms ds is ps ss
 
-  pub number-asks : Fit (treeOf version ns cs ms) × (Leads (treeOf version ns cs ms) × ((treeWords (treeOf version ns cs ms) ≤ l .order) × (l .order + 2 * nodeCount (treeOf version ns cs ms) ≤ length w₀)))
+  pub shape-asks : TablesPassed s
+  shape-asks = tables-passed s (tables s p)
+
+  pub number-asks : Fit (treeOf version ns cs ms) × Leads (treeOf version ns cs ms) × (treeWords (treeOf version ns cs ms) ≤ l .order)
+      × (l .order + 2 * nodeCount (treeOf version ns cs ms) ≤ length w₀)
   number-asks = (
     number-fit version ns cs ms ds is ps ss p,
-    (number-leads version ns cs ms ds is ps ss p, (rw el (number-low version ns cs ms ds is ps ss p), rw (el, long₀) (number-room version ns cs ms ds is ps ss p))),
+    number-leads version ns cs ms ds is ps ss p,
+    rw el (number-low version ns cs ms ds is ps ss p),
+    rw (el, long₀) (number-room version ns cs ms ds is ps ss p),
   )
 
   -- numbered in w₁
@@ -91,7 +100,7 @@ module _ (version ns cs ms ds is ps ss w₁ : List ℕ) (l : Layout) (known : Sh
 
   pub paths-asks : ((length ns / nodeWords version + length ns / nodeWords version ≤ l .at) × (l .paths + length ns / nodeWords version ≤ l .lengths)
       × (l .at + l .lengths + length ns / nodeWords version + length ns / nodeWords version ≤ l .order) × (l .order + length ns / nodeWords version ≤ length w₁))
-      × ((_≡_ {A = ℕ} 0 0 × (length ns / nodeWords version * 10 ≤ length ns) × (length ns / nodeWords version ≤ 4294967295))
+      × ((_≡_ {A = ℕ} 0 0 × (length ns / nodeWords version ≤ length ns / nodeWords version) × (length ns / nodeWords version ≤ 4294967295))
       × ((j : ℕ) → j < length ns / nodeWords version → getD w₁ (l .order + j) 0 < length ns / nodeWords version))
   paths-asks =
       let room = laid version ns cs ms ds is ps ss p in (

@@ -8,8 +8,10 @@ use lib.Dec.{leb}
 use Rattle.laws.specs.Refusal.{unless, _▸_}
 use Rattle.laws.specs.Lists.{flatMap}
 use Rattle.words.specs.Words.{NONE}
-use Rattle.image.specs.Sections.{Sections, nodeCount, namedCount, definitionCount, itemCount}
+use Rattle.image.specs.Sections.{Sections, nodeCount}
 use Rattle.draft.specs.Draft.{tablesRule, writeWords, reachRule, shapeRule, pathsRule}
+use Rattle.draft.specs.declared.EntryCounts.{EntryCounts}
+use Rattle.draft.specs.Needs.{entryCounts}
 use Rattle.draft.specs.Source.{draftOf}
 use Rattle.draft.specs.Numbering.{numbering, oldOf}
 use Rattle.draft_image.specs.Strings.{uses, byPath, pathOf, storedTexts}
@@ -24,18 +26,13 @@ use Rattle.write_plan.specs.declared.Plan.the-variants.{Ready, Refused}
 
 -- by a draft's counts and the work words that it needs. Two words a use are sorted; behind them two words a text, a word for each
 -- path, two for a path's length by its node; at the end the numbers, two words a node
-abbrev pub layoutBy : ℕ → ℕ → ℕ → ℕ → ℕ → ℕ → Layout
-layoutBy nodes named definitions items payload needed =
-    record {
-      at = 2 * (2 * nodes + named + definitions + items + payload);
-      paths = 2 * (2 * nodes + named + definitions + items + payload);
-      lengths = 2 * (2 * nodes + named + definitions + items + payload) + nodes;
-      order = needed - 2 * nodes;
-      new = needed - nodes;
-    }
+abbrev pub layoutBy : EntryCounts → ℕ → Layout
+layoutBy c needed =
+    let uses = 2 * c .nodes + c .named + c .definitions + c .items + c .payload in
+    record { at = 2 * uses; paths = 2 * uses; lengths = 2 * uses + c .nodes; order = needed - 2 * c .nodes; new = needed - c .nodes }
 
 abbrev pub layoutOf : Sections → Layout
-layoutOf s = layoutBy (nodeCount s) (namedCount s) (definitionCount s) (itemCount s) (length (s .payload)) (writeWords s)
+layoutOf s = layoutBy (entryCounts s) (writeWords s)
 
 -- the stored texts, one after the other
 abbrev pub storedBytes : Sections → List ℕ

@@ -6,14 +6,15 @@ ghost use Prim.Native.Nat.{_+_, _*_, _≤_};
 ghost use Rattle.writer.specs.Answer.{encodedOf, fitsOutput, Answered, WrittenWith};
 ghost use mathlib.Core.Bool.{true};
 ghost use Rattle.draft.specs.Draft.{tablesRule, writeWords};
+ghost use Rattle.draft.specs.Needs.{wordsFor};
 ghost use Rattle.image.specs.Header.{inkRight, version};
 ghost use Rattle.draft_image.specs.Encode.{imageFor, encodeRule, outAfter, encodeWorkAfter};
 ghost use Rattle.laws.specs.Refusal.{unless};
 ghost use Rattle.write_plan.specs.Planned.{layoutBy};
 ghost use Rattle.writer.specs.Planned.{Drawn};
+use draft::EntryCounts;
 use draft::Needed;
 use draft::source::Source;
-use draft::source::node_count;
 use draft::tables;
 use image::ImageView;
 use image::refusal::BAD_INK_VERSION;
@@ -35,24 +36,17 @@ pub enum Encoded {
 }
 
 // Where the tables lie, by a draft's counts and the work words that it needs.
-fn layout_of(
-    nodes: usize,
-    named: usize,
-    definitions: usize,
-    items: usize,
-    payload: usize,
-    needed: usize,
-) -> Layout
-    requires { ⌜ 16 * nodes + 4 * (named + definitions + items + payload) ≤ needed ⌝ }
-    ensures { λ r. ⌜ r ≡ layoutBy nodes named definitions items payload needed ⌝ }
+fn layout_of(counts: EntryCounts, needed: usize) -> Layout
+    requires { ⌜ wordsFor counts ≤ needed ⌝ }
+    ensures { λ r. ⌜ r ≡ layoutBy counts needed ⌝ }
 {
-    let uses = 2 * nodes + named + definitions + items + payload;
+    let uses = 2 * counts.nodes + counts.named + counts.definitions + counts.items + counts.payload;
     Layout {
         at: 2 * uses,
         paths: 2 * uses,
-        lengths: 2 * uses + nodes,
-        order: needed - 2 * nodes,
-        new: needed - nodes,
+        lengths: 2 * uses + counts.nodes,
+        order: needed - 2 * counts.nodes,
+        new: needed - counts.nodes,
     }
 }
 
@@ -80,14 +74,15 @@ fn put_image(
         (now (payload .entry)) (now (strings .entry)) in
         Answered ink s (unless (fitsOutput ink s (length (now (out .entry)))) 23) (now (out .entry)) (now (out .exit)) r) ⌝ }
 {
+    let counts = draft::entry_counts(nodes, children, named, definitions, items, payload, source);
     let entries = Entries {
-        nodes: node_count(nodes, source),
-        children: children.len(),
-        named: named.len() / ImageView::TEXT_ENTRY_WORDS,
-        definitions: definitions.len() / ImageView::DEFINITION_WORDS,
-        items: items.len() / ImageView::TEXT_ENTRY_WORDS,
+        nodes: counts.nodes,
+        children: counts.children,
+        named: counts.named,
+        definitions: counts.definitions,
+        items: counts.items,
         index: uses.paths,
-        payload: payload.len(),
+        payload: counts.payload,
         strings: uses.strings,
     };
     match size::image_length(entries, source) {
@@ -153,14 +148,8 @@ fn write(
         (now (items .entry)) (now (payload .entry)) (now (strings .entry)) in
         WrittenWith ink s (now (out .entry)) (now (out .exit)) r) ⌝ }
 {
-    let l = layout_of(
-        node_count(nodes, source),
-        named.len() / ImageView::TEXT_ENTRY_WORDS,
-        definitions.len() / ImageView::DEFINITION_WORDS,
-        items.len() / ImageView::TEXT_ENTRY_WORDS,
-        payload.len(),
-        work.len(),
-    );
+    let counts = draft::entry_counts(nodes, children, named, definitions, items, payload, source);
+    let l = layout_of(counts, work.len());
     match write_plan::prepare(
         nodes,
         children,
@@ -241,15 +230,8 @@ pub fn encode(
     if broken != 0 {
         return Encoded::Refused(broken);
     }
-    match draft::work_words_fit(
-        nodes,
-        children,
-        named,
-        definitions,
-        items,
-        payload,
-        work.len(),
-    ) {
+    let counts = draft::entry_counts(nodes, children, named, definitions, items, payload, source);
+    match draft::work_words_fit(counts, work.len()) {
         Needed::TooMany => Encoded::Refused(TOO_FEW_WORDS),
         Needed::Words(needed) => {
             let answer = write(

@@ -1,7 +1,7 @@
 -- `write_plan::prepare` meets its contract.
 use mathlib.Core.List.{[]}
 use borrow.Author.Tests.{not-true, not-false}
-use Rattle.write_plan.proofs.Steps.{number-asks, unreached, misshapen, shaped, texts-ask}
+use Rattle.write_plan.proofs.Steps.{number-asks, shape-asks, unreached, misshapen, shaped, texts-ask}
 use borrow.Author.Needs.{needs}
 use Rattle.write_plan.proofs.prepare.Statement.{statement}
 use Rattle.write_plan.proofs.prepare.Tie as tie
@@ -25,7 +25,11 @@ returns c =
     (asked .0) (to .l) (asked .2) (to .w .now) (asked .1) _ (number .ensures .0) [] (not-true _ (c .if1 .taken))
 
 shape-rule-requires : tie.Need-shape-rule-requires
-shape-rule-requires c κs = search needs
+shape-rule-requires c κs =
+    let to = c .before .args in
+    let asked = c .before .pre in
+    shape-asks (to .source .version) (to .nodes .now) (to .children .now) (to .named .now) (to .definitions .now) (to .items .now) (to .payload .now)
+    (to .strings .now) (asked .0) (to .l) (asked .2) (to .w .now) (asked .1)
 
 same-length-2 : tie.Need-same-length-2
 same-length-2 c = search needs
