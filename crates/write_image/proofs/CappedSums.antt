@@ -8,7 +8,7 @@ use native.Mathlib.Decide.{decLt}
 use lib.Dec.{leb}
 use borrow.Author.Tests.{le-leb, lt-leb}
 use Rattle.words.specs.Words.{NONE}
-use Rattle.image.specs.Sections.{nodeSize, childSize, textEntrySize, definitionSize}
+use Rattle.image.specs.Sections.{textEntrySize}
 use Rattle.write_image.specs.declared.size.Entries.{Entries}
 use Rattle.write_image.specs.declared.size.Size.the-variants.{Bytes, TooLong}
 use Rattle.write_image.specs.Length.{frontBy, lengthBy, capped, sizeOf}

@@ -41,8 +41,8 @@ unfolding imageOf bodyOf startOf
 image-length ink v =
     length-append (headerWith ink v _) (joinOf 8 (sectionOut v)) ∙ rw (head-length ink v _, join-length 8 (sectionOut v)) refl
 
--- nodes are fewer than their bytes
-pub nodes-fewer : (n version : ℕ) → n * 40 ≤ n * nodeSize version
+-- a node has two bytes at least
+pub nodes-fewer : (n version : ℕ) → n + n ≤ n * nodeSize version
 nodes-fewer n version = omega (arith, size-words n version, mul-le-mul-left n (words-some version))
 
 -- ---- a list's payload

@@ -24,9 +24,9 @@ use Rattle.image.specs.declared.encoding.EntryCounts.{EntryCounts}
 use Rattle.image.specs.Counted.{endOf, CountsOf}
 use Rattle.write_image.specs.declared.Places.{Places}
 use Rattle.write_image.specs.declared.size.Entries.{Entries}
-use Rattle.write_image.specs.Length.{lengthBy, countsBy, placesBy, entriesOf}
+use Rattle.write_image.specs.Length.{lengthBy, Small, countsBy, placesBy, entriesOf}
 use Rattle.write_image.specs.Given.{Indexed, treeOut, TreeReady, definitionsAt, listsOut, ListsAt, ListsReady, textsOut, TextsReady, pathsOf, Ready, Sectioned}
-use Rattle.write_image.proofs.SectionLengths.{head-length, sized}
+use Rattle.write_image.proofs.SectionLengths.{head-length, sized, nodes-fewer}
 use Rattle.write_image.proofs.Premises.{tree-length, lists-length, texts-length}
 use Rattle.write_image.proofs.SectionLayers.{over-next, three-parts, counts-right}
 
@@ -110,6 +110,19 @@ module _ (s : Sections) (w : List ℕ) (n : Numbers) (t : Tables) (e : Entries) 
   -- the length that the entries say is the image's
   pub long-enough : lengthBy (s .version) e ≤ NONE
   long-enough = omega (arith, ap (lengthBy (s .version)) (r .entries), r .told .long)
+
+  pub counts-small : Small e
+  counts-small =
+      record {
+        nodes = omega (arith, long-enough, nodes-fewer (e .nodes) (s .version));
+        children = omega (arith, long-enough);
+        named = omega (arith, long-enough);
+        definitions = omega (arith, long-enough);
+        items = omega (arith, long-enough);
+        index = omega (arith, long-enough);
+        payload = omega (arith, long-enough);
+        strings = omega (arith, long-enough);
+      }
 
   pub end-small : (c : EntryCounts) → c ≡ countsBy e → endOf (s .version) c ≤ NONE
   end-small c k = omega (arith, ap (endOf (s .version)) k, long-enough)

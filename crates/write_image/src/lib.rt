@@ -17,10 +17,10 @@ ghost use Rattle.write_image.specs.Length.{lengthBy, Small, countsBy, pl
 ghost use Rattle.write_image.specs.Given.{Ready, Sectioned, pathsOf};
 use crate::list_part::put_lists;
 use crate::size::Entries;
+use crate::size::nodes_length;
 use crate::text_part::put_texts;
 use crate::tree_part::put_tree;
 use draft::source::Source;
-use draft::source::node_words;
 use image::ImageView;
 use image::encoding::EntryCounts;
 use image::encoding::put_checksum;
@@ -57,8 +57,7 @@ fn places_of(entries: Entries, source: Source) -> Places
     requires { ⌜ lengthBy (source .version) entries ≤ NONE ⌝ }
     ensures { λ r. ⌜ r ≡ placesBy (source .version) entries ⌝ }
 {
-    let size = ImageView::WORD_BYTES * node_words(source);
-    let lists = entries.nodes * size
+    let lists = nodes_length(entries.nodes, source)
         + entries.children * ImageView::WORD_BYTES
         + entries.named * ImageView::TEXT_ENTRY_BYTES;
     let texts = lists

@@ -1,6 +1,7 @@
 // How long an image is, by the entries of its sections.
 ghost use mathlib.Core.Path.{_≡_};
 ghost use Prim.Native.Nat.{_+_, _*_, _≤_, _<_};
+ghost use Rattle.image.specs.Sections.{nodeSize};
 ghost use Rattle.write_image.specs.Length.{capped, frontBy, lengthBy, sizeOf};
 use draft::source::Source;
 use draft::source::node_words;
@@ -42,6 +43,14 @@ fn add(sum: usize, count: usize, size: usize) -> usize
     }
     let total = sum + count * size;
     if total < MORE { total } else { MORE }
+}
+
+// Bytes of so many nodes.
+pub fn nodes_length(count: usize, source: Source) -> usize
+    requires { ⌜ count * nodeSize (source .version) ≤ 18446744073709551615 ⌝ }
+    ensures { λ r. ⌜ r ≡ count * nodeSize (source .version) ⌝ }
+{
+    count * (ImageView::WORD_BYTES * node_words(source))
 }
 
 // Adds the sections of nodes, children, named children and definitions to the header.

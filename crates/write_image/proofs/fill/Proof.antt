@@ -2,13 +2,13 @@
 use mathlib.Core.Path.{refl, sym}
 use native.Mathlib.Omega.{arith}
 use lib.Seq.{length-take-le}
-use Rattle.write_image.proofs.SectionRuns.{long-enough, end-small, body-end, sectioned, image-put}
+use Rattle.write_image.proofs.SectionRuns.{long-enough, counts-small, end-small, body-end, sectioned, image-put}
 use borrow.Author.Needs.{needs}
 use Rattle.write_image.proofs.fill.Statement.{statement}
 use Rattle.write_image.proofs.fill.Tie as tie
 
 counts-of-requires : tie.Need-counts-of-requires
-counts-of-requires c κs = long-enough _ _ _ _ _ (c .before .before .before .before .before .before .before .before .before .pre .0)
+counts-of-requires c κs = counts-small _ _ _ _ _ (c .before .before .before .before .before .before .before .before .before .pre .0)
 
 put-header-requires : tie.Need-put-header-requires
 put-header-requires c κs =

@@ -62,7 +62,7 @@ returns c =
     let put-tree = c .before .before .before .before .before .before .before .before .before .before .before .before .put-tree in
     let put-lists = c .before .before .before .before .before .before .put-lists in
     let first = put-tree .ensures _ _ _ (r .told) in
-    let second = put-lists .ensures _ _ _ _ _ (r .told)
+    let second = put-lists .ensures _ _ _ _ _ _ (r .told)
     (lists-at _ _ _ _ _ _ _ _ _ _ _ _ _ _ r _ _ (first .1) refl) (r .indexed) in
     let third = c .before .before .put-texts .ensures _ _ _ _ (r .told)
     (r .keyed) in runs-put _ _ _ _ _ _ _ _ _ _ _ _ _ _ r _ _ _ _ _ refl (first .0) second refl third

@@ -4,6 +4,7 @@ use Prim.Native.Nat.{_+_, _*_, _/_, _≤_}
 use native.Mathlib.Omega.{arith}
 use lib.ListN.{length}
 use Rattle.image.specs.Encoding.{sectionOut}
+use Rattle.image.specs.Sections.{textEntryWords, definitionWords, textEntrySize, definitionSize}
 use Rattle.draft.specs.Source.{draftOf}
 use Rattle.draft_image.specs.Written.{written}
 use Rattle.write_image.proofs.Premises.{lists-room, definitions-texts, items-sum, index-fit, measured, definitions-put, items-put, index-put}
@@ -60,14 +61,14 @@ same-length : tie.Need-same-length
 same-length c = search needs
 
 returns : tie.Need-returns
-returns c = λ nodes children named payload strings t at i.
+returns c = λ version nodes children named payload strings t at i.
     let a = c .before .before .before .before .before .before .before .before .before .before .before .before .before .before .before .before .args in
     let m = measured _ _ _ t in
-    let v = sectionOut (written (draftOf nodes children named (a .definitions .now) (a .items .now) payload strings)) in
+    let v = sectionOut (written (draftOf version nodes children named (a .definitions .now) (a .items .now) payload strings)) in
     let room = lists-room _ _ _ _ _ _ _ _ (c .before .before .before .before .before .before .before .before .before .before .before .before .before .before .before .before .pre) in
     let fits : length (v 3) + length (v 4) + length (v 5) ≤ length (a .out .now) = omega (arith, m .definitions, m .items, m .index, i .count) in
-    let at-items : length (a .definitions .now) / 4 * 16 ≡ length (v 3) = omega (arith, m .definitions) in
-    let at-index : length (a .definitions .now) / 4 * 16 + length (a .items .now) / 3 * 12 ≡ length (v 3) + length (v 4) = omega (arith, m .definitions, m .items) in
+    let at-items : length (a .definitions .now) / definitionWords * definitionSize ≡ length (v 3) = omega (arith, m .definitions) in
+    let at-index : length (a .definitions .now) / definitionWords * definitionSize + length (a .items .now) / textEntryWords * textEntrySize ≡ length (v 3) + length (v 4) = omega (arith, m .definitions, m .items) in
     let first = definitions-put _ _ _ _ _ _ _ _ _ _ _ _ t _ (at .texts) (c .before .before .before .before .before .before .before .before .before .before .put-definitions .ensures) in
     let second = items-put _ _ _ _ _ _ _ _ _ _ _ _ t _ (at .texts) (c .before .before .before .before .before .before .put-items .ensures) in
     let third = index-put _ _ _ _ _ _ _ _ _ _ _ _ t _ _ i (at .paths) (c .before .before .put-index .ensures) in

@@ -41,7 +41,7 @@ returns : tie.Need-returns
 returns c = λ children named definitions items t k.
     let a = c .before .before .before .before .before .before .before .before .before .before .before .before .before .args in
     let m = measured _ _ _ t in
-    let v = sectionOut (written (draftOf (a .nodes .now) children named definitions items (a .payload .now) (a .strings .now))) in
+    let v = sectionOut (written (draftOf (a .source .version) (a .nodes .now) children named definitions items (a .payload .now) (a .strings .now))) in
     let room = texts-fit _ _ _ _ _ _ _ _ (c .before .before .before .before .before .before .before .before .before .before .before .before .before .pre) _ _ _ _ t k in
     let fits : length (v 6) + length (v 7) ≤ length (a .out .now) = omega (arith, m .payload, m .strings) in
     let at-strings : length (a .payload .now) ≡ length (v 6) = omega (arith, m .payload) in
