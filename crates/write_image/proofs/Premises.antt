@@ -31,6 +31,7 @@ use Rattle.draft_image.specs.Written.{indexOut, writtenWith, written}
 use Rattle.draft_image.specs.Ready.{NewsAt, OffsetsAt, nodeUses, namedUses, definitionUses, textUses}
 use Rattle.draft_image.proofs.Joins.{sum-const, join-length, join-same}
 use Rattle.draft_image.proofs.Offsets.{offsets-left, offsets-right}
+use Rattle.write_text_uses.specs.Uses.{storedBytes}
 use Rattle.write_numbering.specs.declared.numbers.Numbers.{Numbers}
 use Rattle.write_tree_sections.specs.Held.{OrderFits, NamedFit, childrenBy, namedBy, payloadBy}
 use Rattle.write_paths.specs.declared.path_index.Paths.{Paths}
@@ -49,7 +50,7 @@ use Rattle.write_list_sections.proofs.PayloadLoop.{pay-room}
 use Rattle.write_text_keys.specs.declared.Tables.{Tables}
 use Rattle.write_text_keys.specs.Keys.{keyIn}
 use Rattle.write_interning.specs.Uses.{textsOf, storedOf, joined, Offsets}
-use Rattle.write_image.specs.Length.{storedBytes, imageLength}
+use Rattle.write_image.specs.Length.{imageLength}
 use Rattle.write_image.specs.Given.{Told, Indexed, Keyed, TreeReady, ListsReady, TextsReady, treeOut, listsOut, textsOut, definitionsAt}
 use Rattle.write_image.proofs.SectionLengths.{Sized, sized, once, nodes-fewer}
 

@@ -27,8 +27,9 @@ use Rattle.draft_image.specs.Written.{listItemOut, listOriginOut, listOut, payl
 use Rattle.draft_image.specs.Encode.{imageFor}
 use Rattle.draft_image.proofs.Joins.{join-length, join-len, even-len, all-get}
 use Rattle.draft_image.proofs.Blocks.{w, nodes-length, child-count, named-whole, definitions-whole, items-whole, index-whole}
+use Rattle.write_text_uses.specs.Uses.{storedBytes}
 use Rattle.write_text_uses.proofs.Sums.{sum-ordered}
-use Rattle.write_image.specs.Length.{storedBytes, imageLength}
+use Rattle.write_image.specs.Length.{imageLength}
 
 -- ---- the header
 

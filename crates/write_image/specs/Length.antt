@@ -1,15 +1,14 @@
 -- How long an image is, by the entries of its sections, and which image a draft has.
 use Prim.Native.Nat.{ℕ, _+_, _*_, _≤_}
-use mathlib.Core.List.{List}
 use mathlib.Core.Bool.{cond}
 use lib.ListN.{length}
 use lib.Dec.{leb}
-use Rattle.laws.specs.Lists.{flatMap}
 use Rattle.words.specs.Words.{NONE}
 use Rattle.image.specs.Header.{headerLength}
 use Rattle.image.specs.Sections.{Sections, nodeSize, childSize, textEntrySize, definitionSize, nodeCount, childCount, namedCount, definitionCount, itemCount}
 use Rattle.draft.specs.Numbering.{numbering}
-use Rattle.draft_image.specs.Strings.{byPath, storedTexts}
+use Rattle.write_text_uses.specs.Uses.{storedBytes}
+use Rattle.draft_image.specs.Strings.{byPath}
 use Rattle.image.specs.declared.encoding.EntryCounts.{EntryCounts}
 use Rattle.write_image.specs.declared.Places.{Places}
 use Rattle.write_image.specs.declared.size.Entries.{Entries}
@@ -65,10 +64,6 @@ unfoldable pub sizeOf : ℕ → Size
 sizeOf n = cond (leb n NONE) (Bytes n) TooLong
 
 -- ---- of a draft
-
--- the stored texts, one after the other
-abbrev pub storedBytes : Sections → List ℕ
-storedBytes s = flatMap (λ t. t) (storedTexts s (numbering s))
 
 -- the entries of its image
 abbrev pub entriesOf : Sections → Entries

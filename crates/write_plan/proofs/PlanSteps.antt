@@ -27,7 +27,7 @@ use Rattle.draft_image.specs.Strings.{uses, byPath, storedTexts, distinct, offs
 use Rattle.draft_image.specs.Ready.{OldsAt, NewsAt, textUses}
 use Rattle.write_numbering.specs.Work.{treeOf, Leads, Numbered}
 use Rattle.write_numbering.proofs.WholeDraft.{whole-seen, fit-tree, leads-tree, numbered-whole}
-use Rattle.write_text_uses.specs.Uses.{useWords, usesMost, wordsFrom, withWords, Readable, Collectable, Collected}
+use Rattle.write_text_uses.specs.Uses.{useWords, usesMost, wordsFrom, withWords, Readable, Collectable, Collected, storedBytes}
 use Rattle.write_text_uses.proofs.Fits.{uses-length, readable}
 use Rattle.write_text_uses.proofs.Bounds.{uses-bound, olds-below}
 use Rattle.write_text_uses.proofs.AllUses.{uses-are}
@@ -40,7 +40,7 @@ use Rattle.write_paths.specs.Arranged.{indexedOf, Indexes}
 use Rattle.write_plan.specs.declared.Uses.{Uses}
 use Rattle.write_plan.specs.declared.Plan.{Plan}
 use Rattle.write_plan.specs.declared.Plan.the-variants.{Ready, Refused}
-use Rattle.write_plan.specs.Planned.{layoutOf, storedBytes, planRule, Prepared, PlanOf, StoredPlan}
+use Rattle.write_plan.specs.Planned.{layoutOf, planRule, Prepared, PlanOf, StoredPlan}
 use Rattle.write_paths.proofs.NodeList.{same-later}
 use Rattle.write_plan.proofs.Premises.{once}
 use Rattle.write_plan.proofs.UseTexts.{texts-same, uses-long, tables-put, put-behind, boxes-long, boxes′, longs′, key-use, paths-rise}

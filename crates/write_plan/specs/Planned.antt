@@ -6,7 +6,6 @@ use mathlib.Core.List.{List, []}
 use lib.ListN.{length, getD, drop}
 use lib.Dec.{leb}
 use Rattle.laws.specs.Refusal.{unless, _▸_}
-use Rattle.laws.specs.Lists.{flatMap}
 use Rattle.words.specs.Words.{NONE}
 use Rattle.image.specs.Sections.{Sections, nodeCount}
 use Rattle.draft.specs.Draft.{tablesRule, writeWords, reachRule, shapeRule, pathsRule}
@@ -14,6 +13,7 @@ use Rattle.draft.specs.declared.EntryCounts.{EntryCounts}
 use Rattle.draft.specs.Needs.{entryCounts}
 use Rattle.draft.specs.Source.{draftOf}
 use Rattle.draft.specs.Numbering.{numbering, oldOf}
+use Rattle.write_text_uses.specs.Uses.{storedBytes}
 use Rattle.draft_image.specs.Strings.{uses, byPath, pathOf, storedTexts}
 use Rattle.draft_image.specs.Ready.{OldsAt, NewsAt, OffsetsAt, textUses}
 use Rattle.write_numbering.specs.Work.{treeOf, Numbered}
@@ -33,10 +33,6 @@ layoutBy c needed =
 
 abbrev pub layoutOf : Sections → Layout
 layoutOf s = layoutBy (entryCounts s) (writeWords s)
-
--- the stored texts, one after the other
-abbrev pub storedBytes : Sections → List ℕ
-storedBytes s = flatMap (λ t. t) (storedTexts s (numbering s))
 
 -- the rules that are tested on the way. An image with more uses of texts than a word can count, or longer texts, is too long
 unfoldable pub planRule : Sections → ℕ

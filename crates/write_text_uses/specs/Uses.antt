@@ -13,7 +13,8 @@ use Rattle.records.specs.Records.{fieldsAt, numberOfNamed, listItems, listOrigi
 use Rattle.tree.specs.Tree.{namedAt}
 use Rattle.index.specs.Definitions.{firstItem, numberOfItems}
 use Rattle.draft.specs.Source.{draftOf, nodesOnly}
-use Rattle.draft.specs.Numbering.{oldOf}
+use Rattle.draft.specs.Numbering.{numbering, oldOf}
+use Rattle.draft_image.specs.Strings.{storedTexts}
 use Rattle.draft_image.specs.Ready.{textUses}
 
 -- a text that may be absent
@@ -82,6 +83,10 @@ useWords s order = allNodePairs s order ++ allNamedPairs s order ++ allDefinitio
 -- as many texts, and one more a container, are no more than this
 abbrev pub usesMost : Sections → ℕ
 usesMost s = 2 * nodeCount s + namedCount s + definitionCount s + itemCount s + length (s .payload)
+
+-- the texts in use and the paths, each stored once, one after the other
+abbrev pub storedBytes : Sections → List ℕ
+storedBytes s = flatMap (λ t. t) (storedTexts s (numbering s))
 
 -- ---- the same of words and bytes, as the code reads them
 

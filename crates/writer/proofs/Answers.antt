@@ -15,7 +15,7 @@ use Rattle.draft.specs.Draft.{tablesRule, writeWords, reachRule, shapeRule, pat
 use Rattle.draft.specs.Numbering.{numbering}
 use Rattle.draft_image.specs.Strings.{uses}
 use Rattle.draft_image.specs.Encode.{imageFor, draftRule, encodeRule, untouched}
-use Rattle.write_image.specs.Length.{storedBytes}
+use Rattle.write_text_uses.specs.Uses.{storedBytes}
 use Rattle.write_image.proofs.SectionLengths.{length-is}
 use Rattle.write_image.proofs.Premises.{uses-fewer}
 use Rattle.writer.specs.Answer.{fitsOutput}

@@ -14,13 +14,13 @@ use Rattle.draft.specs.Draft.{tablesRule, writeWords, reachRule, shapeRule, pat
 use Rattle.draft.specs.Numbering.{numbering, oldOf}
 use Rattle.draft_image.specs.Strings.{uses, byPath, pathOf, storedTexts}
 use Rattle.written.proofs.Texts.{stored, offset-inside}
-use Rattle.write_text_uses.specs.Uses.{usesMost}
+use Rattle.write_text_uses.specs.Uses.{usesMost, storedBytes}
 use Rattle.write_text_uses.proofs.Bounds.{uses-bound}
 use Rattle.write_plan.specs.declared.Uses.{Uses}
 use Rattle.write_plan.specs.Planned.{layoutOf, planRule, Prepared}
 use Rattle.write_plan.proofs.Premises.{once}
 use Rattle.write_plan.proofs.UseTexts.{boxes-long, uses-long}
-use Rattle.write_image.specs.Length.{storedBytes, entriesOf, imageLength}
+use Rattle.write_image.specs.Length.{entriesOf, imageLength}
 use Rattle.write_image.specs.Given.{Told, Ready}
 use Rattle.writer.specs.Planned.{numbersBy, tablesBy, entriesBy}
 
