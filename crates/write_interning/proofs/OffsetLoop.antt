@@ -29,6 +29,22 @@ pub record Assigning (key : ℕ → List ℕ) (n : ℕ) (w x : List ℕ) (k tota
   pub done : (p : ℕ) → p < k → getD x (n + p) 0 ≡ offsetOf (storedOf key k) (key p)
   pub left : (p : ℕ) → k ≤ p → p < n → getD x (n + p) 0 ≡ getD w (n + p) 0
 
+-- what of it does not go by the texts
+pub record Bounded (n : ℕ) (w x : List ℕ) (k total : ℕ) : Type 0 where
+  pub bound : k ≤ n
+  pub room : length x ≡ length w
+  pub behind : drop (n + n) x ≡ drop (n + n) w
+  pub fits : total < 2 ^ 32
+
+pub bounds-of : (key : ℕ → List ℕ) (n : ℕ) (w x : List ℕ) (k total : ℕ) → Assigning key n w x k total → Bounded n w x k total
+bounds-of key n w x k total A = record { bound = A .bound; room = A .room; behind = A .behind; fits = A .fits }
+
+-- of texts by a number, as they go by the format version: all of this, and the bounds by one of them
+pub assign-all : (key : ℕ → ℕ → List ℕ) (n : ℕ) (w x : List ℕ) (k total v : ℕ) → Firsts (key v) n w
+    → ((u : ℕ) → Firsts (key u) n w → Assigning (key u) n w x k total)
+    → Bounded n w x k total × ((u : ℕ) → Firsts (key u) n w → Assigning (key u) n w x k total)
+assign-all key n w x k total v f all = (bounds-of (key v) n w x k total (all v f), all)
+
 pub assign-none : (key : ℕ → List ℕ) (n : ℕ) (w : List ℕ) → Assigning key n w w 0 0
 unfolding storedOf flatMap joinOf distinct
 assign-none key n w =
@@ -64,6 +80,11 @@ module _ (key : ℕ → List ℕ) (n : ℕ) (w : List ℕ) (hn : n + n ≤ lengt
             rw (q, getD-set-same x (n + k) total 0 b, offset-new (storedOf key k) (key k) f) (A .sum)));
         left = λ p l m. let ne : (n + p ≡ n + k) → ⊥ = omega arith in rw (getD-set-other x (n + k) (n + p) total 0 ne) (A .left p (omega arith) m);
       }
+
+  -- where the code has the length of the text as a number
+  pub assign-next : (len : ℕ) → len ≡ length (key k) → getD x (n + k) 0 ≡ k → total + len < 2 ^ 32
+      → Assigning key n w (set x (n + k) total) (k + 1) (total + len)
+  assign-next len e q s = let t : total + length (key k) < 2 ^ 32 = omega (arith, e) in rw e (assign-new q t)
 
   pub assign-old : (getD x (n + k) 0 ≡ k → ⊥) → Assigning key n w (set x (n + k) (getD x (n + getD x (n + k) 0) 0)) (k + 1) total
   assign-old e =

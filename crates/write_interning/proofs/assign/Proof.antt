@@ -1,3 +1,4 @@
+-- `write_interning::assign` meets its contract. The invariant: whatever the version, the uses before `k` have their offsets.
 use Prim.Native.Nat.{ℕ, _+_, _-_, _≤_}
 use mathlib.Core.Path.{_≡_, sym, ap, _∙_}
 use mathlib.Core.Logic.{⊎-elim}
@@ -6,59 +7,66 @@ use native.Mathlib.Omega.{arith}
 use lib.ListN.{getD, drop, length}
 use Rattle.write_text_keys.specs.Keys.{keyOf, keyIn}
 use Rattle.write_sorting.proofs.MergeInPlace.{drop-later}
-use Rattle.write_interning.proofs.OffsetLoop.{Assigning, assign-none, first-early, assign-new, assign-old, assign-long, assigned-long, assigned-whole}
+use Rattle.write_interning.specs.Uses.{Firsts}
+use Rattle.write_interning.proofs.OffsetLoop.{Assigning, Bounded, assign-all, assign-none, first-early, assign-next, assign-old, assign-long, assigned-long, assigned-whole}
 use borrow.Author.Needs.{needs}
 use Rattle.write_interning.proofs.assign.Statement.{statement}
 use Rattle.write_interning.proofs.assign.Tie as tie
-use Rattle.write_interning.proofs.assign.Reads as reads
-use Rattle.write_interning.proofs.assign.Lts as lts
-use Rattle.draft.proofs.source.word.Reads as word-reads
-use Rattle.write_text_keys.proofs.key_length.Reads as key-length-reads
 
 abbrev Inv-loop : tie.InvT-loop
-Inv-loop nodes strings w₀ t n source total₀ k₀ w total k = Assigning (keyIn (source .version) nodes strings t w₀) n w₀ w k total
+Inv-loop nodes strings w₀ t n total₀ k₀ w total k =
+    Bounded n w₀ w k total × ((v : ℕ) → Firsts (keyIn v nodes strings t w₀) n w₀ → Assigning (keyIn v nodes strings t w₀) n w₀ w k total)
 
 abbrev μ-loop : tie.MeasureT-loop
-μ-loop nodes strings w₀ t n source total₀ k₀ w total k = n - k
+μ-loop nodes strings w₀ t n total₀ k₀ w total k = n - k
 
--- the texts by the tables where the pass began
-abbrev key : tie.At-loop Inv-loop μ-loop → ℕ → List ℕ
-key c = let to = c .before .before .before .before in keyIn (to .args .source .version) (to .args .nodes .now) (to .args .strings .now) (to .args .t) (to .args .w .now)
+-- the texts by the tables where the pass began, by a format version
+abbrev key : tie.At-loop Inv-loop μ-loop → ℕ → ℕ → List ℕ
+key c v = let to = c .before .before .before .before in keyIn v (to .args .nodes .now) (to .args .strings .now) (to .args .t) (to .args .w .now)
+
+-- the draft's
+abbrev version : tie.At-loop Inv-loop μ-loop → ℕ
+version c = c .before .before .before .before .args .source .version
 
 behind : (c : tie.At-loop Inv-loop μ-loop) → let to = c .before .before .before .before in drop (to .args .t .at) (c .loop .w) ≡ drop (to .args .t .at) (to .args .w .now)
 behind c =
     let to = c .before .before .before .before in
-    drop-later (to .args .n + to .args .n) (to .args .t .at) (c .loop .w) (to .args .w .now) (c .loop .inv .behind) (omega arith)
+    drop-later (to .args .n + to .args .n) (to .args .t .at) (c .loop .w) (to .args .w .now) (c .loop .inv .0 .behind) (omega arith)
 
 -- the first use of k is not behind it
 early : (c : tie.After-word Inv-loop μ-loop) → c .word .result ≤ c .before .before .before .loop .k
 early c =
     let at = c .before .before .before in
     let to = at .before .before .before .before in
-    rw (c .word .ensures) (first-early (key at) (to .args .n) (to .args .w .now) (omega arith) (to .pre .1) (at .loop .w) (at .loop .k) (at .loop .total) (at .loop .inv) (c .before .before .loop-test .taken))
+    let so-far = at .loop .inv .1 (version at) (to .pre .1) in
+    rw (c .word .ensures)
+    (first-early (key at (version at)) (to .args .n) (to .args .w .now) (omega arith) (to .pre .1) (at .loop .w) (at .loop .k) (at .loop .total) so-far (c .before .before .loop-test .taken))
 
 -- a use that is its own first: the length of its text
 record Own (key : ℕ → List ℕ) (w : List ℕ) (n k len : ℕ) : Type 0 where
   self : getD w (n + k) 0 ≡ k
   size : len ≡ length (key k)
 
-own : (c : tie.After-key-length Inv-loop μ-loop) → let at = c .before .before .before .before .before .before in let to = at .before .before .before .before in Own (key at) (at .loop .w) (to .args .n) (at .loop .k) (c .key-length .result)
-own c =
+own : (c : tie.After-key-length Inv-loop μ-loop) (v : ℕ)
+    → let at = c .before .before .before .before .before .before in let to = at .before .before .before .before in Own (key at v) (at .loop .w) (to .args .n) (at .loop .k) (c .key-length .result)
+own c v =
     let at = c .before .before .before .before .before .before in
     let to = at .before .before .before .before in
     let t = to .args .t in
     let e = sym (c .before .before .before .word .ensures) ∙ c .before .before .if1 .taken in
     record {
       self = e;
-      size = c .key-length .ensures (to .args .source .version) (to .args .nodes .now)
-          ∙ ap (λ (d : List ℕ). length (keyOf (to .args .source .version) (to .args .nodes .now) (to .args .strings .now) (t .texts) (t .paths) (t .lengths) d (c .before .before .before .word .result))) (behind at)
-          ∙ ap (λ (a : ℕ). length (key at a)) (c .before .before .if1 .taken);
+      size = c .key-length .ensures v (to .args .nodes .now)
+          ∙ ap (λ (d : List ℕ). length (keyOf v (to .args .nodes .now) (to .args .strings .now) (t .texts) (t .paths) (t .lengths) d (c .before .before .before .word .result))) (behind at)
+          ∙ ap (λ (a : ℕ). length (key at v a)) (c .before .before .if1 .taken);
     }
 
 loop-holds : tie.Need-loop-holds Inv-loop μ-loop
 loop-holds c =
     let to = c .before .before .before in
-    assign-none (keyIn (to .args .source .version) (to .args .nodes .now) (to .args .strings .now) (to .args .t) (to .args .w .now)) (to .args .n) (to .args .w .now)
+    let a = to .args in
+    assign-all (λ v. keyIn v (a .nodes .now) (a .strings .now) (a .t) (a .w .now)) (a .n) (a .w .now) (a .w .now) 0 0 (a .source .version) (to .pre .1)
+    (λ v f. assign-none (keyIn v (a .nodes .now) (a .strings .now) (a .t) (a .w .now)) (a .n) (a .w .now))
 
 add-word : tie.Need-add-word Inv-loop μ-loop
 add-word c = search needs
@@ -82,9 +90,10 @@ returns : tie.Need-returns Inv-loop μ-loop
 returns c =
     let at = c .before .before .before .before .before .before .before in
     let to = at .before .before .before .before in
-    let o = own (c .before) in
-    let h = assign-long (key at) (to .args .n) (to .args .w .now) (omega arith) (to .pre .1) (at .loop .w) (at .loop .k) (at .loop .total) (at .loop .inv) (c .before .before .before .before .before .before .loop-test .taken) (o .self) (omega (arith, o .size)) in
-    let a = assigned-long (key at) (to .args .n) (at .loop .w) h in
+    let o = own (c .before) (version at) in
+    let so-far = at .loop .inv .1 (version at) (to .pre .1) in
+    let h = assign-long (key at (version at)) (to .args .n) (to .args .w .now) (omega arith) (to .pre .1) (at .loop .w) (at .loop .k) (at .loop .total) so-far (c .before .before .before .before .before .before .loop-test .taken) (o .self) (omega (arith, o .size)) in
+    let a = assigned-long (key at (version at)) (to .args .n) (at .loop .w) h in
     (a .0, (a .1, behind at))
 
 cast-w : tie.Need-cast-w Inv-loop μ-loop
@@ -130,13 +139,19 @@ loop-again : tie.Need-loop-again Inv-loop μ-loop
 loop-again c =
     let at = c .before .before .before .before in
     let to = at .before .before .before .before in
+    let test = c .before .before .before .loop-test .taken in
     ⊎-elim
     (λ w.
     let o = own (record { before = record { before = record { before = c .before; if1 = w .0 }; key-length-arg = w .1 }; key-length = w .2 }) in
-    rw (w .4, w .5, o .size) (assign-new (key at) (to .args .n) (to .args .w .now) (omega arith) (to .pre .1) (at .loop .w) (at .loop .k) (at .loop .total) (at .loop .inv) (c .before .before .before .loop-test .taken) (o .self) (omega (arith, w .3 .left, o .size))))
+    rw (w .4, w .5)
+    (assign-all (key at) (to .args .n) (to .args .w .now) _ _ _ (version at) (to .pre .1)
+    (λ v f.
+    assign-next (key at v) (to .args .n) (to .args .w .now) (omega arith) f (at .loop .w) (at .loop .k) (at .loop .total) (at .loop .inv .1 v f) test (w .2 .result) (o v .size) (o v .self) (omega (arith, w .3 .left)))))
     (λ w.
     rw (w .3, w .4, w .2 .ensures, c .before .word .ensures)
-    (assign-old (key at) (to .args .n) (to .args .w .now) (omega arith) (to .pre .1) (at .loop .w) (at .loop .k) (at .loop .total) (at .loop .inv) (c .before .before .before .loop-test .taken) (λ z. w .0 .left (c .before .word .ensures ∙ z))))
+    (assign-all (key at) (to .args .n) (to .args .w .now) _ _ _ (version at) (to .pre .1)
+    (λ v f.
+    assign-old (key at v) (to .args .n) (to .args .w .now) (omega arith) f (at .loop .w) (at .loop .k) (at .loop .total) (at .loop .inv .1 v f) test (λ z. w .0 .left (c .before .word .ensures ∙ z)))))
     (c .if1 .came)
 
 same-length-2 : tie.Need-same-length-2 Inv-loop μ-loop
@@ -146,7 +161,8 @@ returns-2 : tie.Need-returns-2 Inv-loop μ-loop
 returns-2 c =
     let at = c .before in
     let to = at .before .before .before .before in
-    let a = assigned-whole (key at) (to .args .n) (to .args .w .now) (at .loop .w) (at .loop .k) (at .loop .total) (at .loop .inv) (c .loop-test .left) in
+    let so-far = at .loop .inv .1 (version at) (to .pre .1) in
+    let a = assigned-whole (key at (version at)) (to .args .n) (to .args .w .now) (at .loop .w) (at .loop .k) (at .loop .total) so-far (c .loop-test .left) in
     (a .0, (a .1, behind at))
 
 pub assign-spec : {M : Type 1} → statement M
