@@ -21,6 +21,10 @@ draftOf version nodes children named definitions items payload strings =
       strings = strings;
     }
 
+-- a draft that has nodes and a payload alone
+abbrev pub nodesOnly : ℕ → List ℕ → List ℕ → Sections
+nodesOnly version nodes payload = draftOf version nodes [] [] [] [] payload []
+
 -- the words of a node that every version has: parent, place, tag, f0 to f6
 abbrev pub commonWords : ℕ
 commonWords = 10

@@ -3,6 +3,7 @@ ghost use mathlib.Core.Path.{_≡_};
 ghost use mathlib.Core.List.{[]};
 ghost use Prim.Native.Nat.{ℕ, _+_, _*_, _/_, _≤_, _<_};
 ghost use lib.ListN.{length, getD};
+ghost use Rattle.words.specs.Words.{wordAt, wordIn};
 ghost use Rattle.image.specs.Sections.{nodeWords, textEntryWords, definitionWords};
 ghost use Rattle.image.specs.Entries.{recordOf, textEntryOf, definitionOf};
 ghost use Rattle.records.specs.Shown.{tagIn};
@@ -87,6 +88,21 @@ pub fn node_at(nodes: &[u32], i: usize, source: Source) -> NodeRecord
     ensures { λ r. ⌜ r ≡ recordOf (source .version) (now (nodes .entry)) i ⌝ }
 {
     record_at(nodes, first_word(i, source))
+}
+
+// The word at byte `at` of the payload.
+pub fn payload_word(payload: &[u8], at: usize) -> u32
+    requires { ⌜ at + 4 ≤ length (now payload) ⌝ }
+    ensures { λ r. ⌜ r ≡ wordAt (now (payload .entry)) at ⌝ }
+{
+    words::word(payload, at)
+}
+
+// The same: 0 past the end.
+pub fn payload_get(payload: &[u8], at: usize) -> u32
+    ensures { λ r. ⌜ r ≡ wordIn (now (payload .entry)) at ⌝ }
+{
+    words::get(payload, at)
 }
 
 // Entry `j` of the words of the named entries or the items.

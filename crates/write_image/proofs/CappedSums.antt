@@ -8,9 +8,10 @@ use native.Mathlib.Decide.{decLt}
 use lib.Dec.{leb}
 use borrow.Author.Tests.{le-leb, lt-leb}
 use Rattle.words.specs.Words.{NONE}
+use Rattle.image.specs.Sections.{textEntrySize}
 use Rattle.write_image.specs.declared.size.Entries.{Entries}
 use Rattle.write_image.specs.declared.size.Size.the-variants.{Bytes, TooLong}
-use Rattle.write_image.specs.Length.{lengthBy, capped, sizeOf}
+use Rattle.write_image.specs.Length.{frontBy, lengthBy, capped, sizeOf}
 
 pub capped-few : (n : ℕ) → n < 4294967296 → capped n ≡ n
 unfolding capped
@@ -42,18 +43,14 @@ capped-next n m = side (decLt n 4294967296)
 pub adds : (r t n m : ℕ) → r ≡ capped (t + m) → t ≡ capped n → r ≡ capped (n + m)
 adds r t n m e f = e ∙ ap (λ (x : ℕ). capped (x + m)) f ∙ capped-next n m
 
--- header, nodes, children, named children and definitions
-abbrev front : Entries → ℕ
-front e = 88 + 40 * e .nodes + 4 * e .children + 12 * e .named + 16 * e .definitions
-
 -- the sections behind them
-pub whole : (e : Entries) (a b c d r : ℕ) → a ≡ capped (front e) → b ≡ capped (a + 12 * e .items) → c ≡ capped (b + 12 * e .index)
-    → d ≡ capped (c + 1 * e .payload) → r ≡ capped (d + 1 * e .strings) → r ≡ capped (lengthBy e)
-whole e a b c d r pa pb pc pd pr =
-    let items = adds b a (front e) (12 * e .items) pb pa in
-    let index = adds c b (front e + 12 * e .items) (12 * e .index) pc items in
-    let payload = adds d c (front e + 12 * e .items + 12 * e .index) (1 * e .payload) pd index in
-    adds r d (front e + 12 * e .items + 12 * e .index + 1 * e .payload) (1 * e .strings) pr payload
+pub whole : (version : ℕ) (e : Entries) (a b c d r : ℕ) → a ≡ capped (frontBy version e) → b ≡ capped (a + e .items * textEntrySize) → c ≡ capped (b + e .index * textEntrySize)
+    → d ≡ capped (c + e .payload * 1) → r ≡ capped (d + e .strings * 1) → r ≡ capped (lengthBy version e)
+whole version e a b c d r pa pb pc pd pr =
+    let items = adds b a (frontBy version e) (e .items * textEntrySize) pb pa in
+    let index = adds c b (frontBy version e + e .items * textEntrySize) (e .index * textEntrySize) pc items in
+    let payload = adds d c (frontBy version e + e .items * textEntrySize + e .index * textEntrySize) (e .payload * 1) pd index in
+    adds r d (frontBy version e + e .items * textEntrySize + e .index * textEntrySize + e .payload * 1) (e .strings * 1) pr payload
     ∙ ap capped (omega arith)
 
 pub size-few : (n r : ℕ) → r ≡ capped n → r < 4294967296 → Bytes r ≡ sizeOf n
@@ -74,8 +71,8 @@ size-many n r e h = side (decLt n 4294967296)
 
 -- ---- a section of few or of many entries
 
-pub product-few : (size count : ℕ) → size ≤ 40 → count < 4294967296 → size * count ≤ 171798691840
-product-few size count h k = let l : count ≤ 4294967296 = omega arith in mul-le-mul h l
+pub product-few : (size count : ℕ) → size ≤ 44 → count < 4294967296 → count * size ≤ 188978561024
+product-few size count h k = let l : count ≤ 4294967296 = omega arith in mul-le-mul l h
 
-pub product-many : (size count : ℕ) → 0 < size → 4294967296 ≤ count → 4294967296 ≤ size * count
-product-many size count h k = let l : 1 ≤ size = omega arith in mul-le-mul l k
+pub product-many : (size count : ℕ) → 0 < size → 4294967296 ≤ count → 4294967296 ≤ count * size
+product-many size count h k = let l : 1 ≤ size = omega arith in mul-le-mul k l

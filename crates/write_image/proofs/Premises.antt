@@ -10,10 +10,10 @@ use Rattle.laws.specs.Counted.{sumOf, joinOf}
 use Rattle.laws.specs.Lists.{placeIn}
 use Rattle.words.specs.Words.{bytesOf}
 use Rattle.words.proofs.Words.{length-bytes}
-use Rattle.image.specs.Sections.{Sections, nodeCount, childCount, namedCount, definitionCount, itemCount, nodeWord, definitionWord, tagOf}
-use Rattle.image.specs.Header.{nodeWords}
+use Rattle.image.specs.Sections.{Sections, nodeWords, textEntryWords, definitionWords, nodeSize, childSize, textEntrySize, definitionSize, nodeCount, childCount, namedCount, definitionCount, itemCount, nodeWord, definitionWord, tagOf}
 use Rattle.image.specs.declared.NodeRecord.{NodeRecord}
 use Rattle.image.proofs.Entries.{node-record}
+use Rattle.image.proofs.Widths.{size-words}
 use Rattle.image.specs.Encoding.{sectionOut}
 use Rattle.records.specs.Fields.{kindOf}
 use Rattle.records.specs.Records.{numberOfChildren, numberOfNamed, payloadLengthOf}
@@ -22,15 +22,16 @@ use Rattle.tree.specs.Tree.{namedText}
 use Rattle.tree.proofs.Members.{sum-ext}
 use Rattle.tree.proofs.Numbers.{get-below, place-of-get}
 use Rattle.draft.specs.Source.{draftOf}
-use Rattle.draft.specs.Draft.{tablesRule, reachRule, shapeRule}
+use Rattle.draft.specs.Draft.{tablesRule, reachRule}
 use Rattle.draft.specs.Numbering.{numbering, oldOf}
 use Rattle.draft.proofs.Rules.{tables, items-all}
 use Rattle.draft.proofs.ReachedNodes.{Numbered}
 use Rattle.draft_image.specs.Strings.{nodeTexts, namedTexts, uses, byPath, pathOf, distinct, storedTexts, offsetOf}
-use Rattle.draft_image.specs.Written.{nodeOut, childrenOut, namedOut, definitionOut, itemOut, indexOut, payloadOut, writtenWith, written}
-use Rattle.draft_image.specs.Ready.{OldsAt, NewsAt, OffsetsAt, nodeUses, namedUses, definitionUses, textUses}
+use Rattle.draft_image.specs.Written.{indexOut, writtenWith, written}
+use Rattle.draft_image.specs.Ready.{NewsAt, OffsetsAt, nodeUses, namedUses, definitionUses, textUses}
 use Rattle.draft_image.proofs.Joins.{sum-const, join-length, join-same}
 use Rattle.draft_image.proofs.Offsets.{offsets-left, offsets-right}
+use Rattle.write_text_uses.specs.Uses.{storedBytes}
 use Rattle.write_numbering.specs.declared.numbers.Numbers.{Numbers}
 use Rattle.write_tree_sections.specs.Held.{OrderFits, NamedFit, childrenBy, namedBy, payloadBy}
 use Rattle.write_paths.specs.declared.path_index.Paths.{Paths}
@@ -41,15 +42,17 @@ use Rattle.write_text_uses.proofs.Bounds.{uses-bound}
 use Rattle.write_tree_sections.specs.Encoded.{textsBy}
 use Rattle.write_tree_sections.specs.Summed.{textsAt, usedBy, NodesFit}
 use Rattle.write_tree_sections.proofs.FieldWords.{texts-count}
+use Rattle.write_tree_sections.specs.Put.{NodesPut, ChildrenPut, NamedPut}
+use Rattle.write_list_sections.specs.Put.{DefinitionsPut, ItemsPut, PayloadPut}
 use Rattle.write_list_sections.specs.Entered.{textsBefore, itemsBefore, payloadWords, PayloadFits}
 use Rattle.write_list_sections.proofs.DefinitionWords.{uses-are}
 use Rattle.write_list_sections.proofs.PayloadLoop.{pay-room}
 use Rattle.write_text_keys.specs.declared.Tables.{Tables}
 use Rattle.write_text_keys.specs.Keys.{keyIn}
 use Rattle.write_interning.specs.Uses.{textsOf, storedOf, joined, Offsets}
-use Rattle.write_image.specs.Length.{storedBytes, imageLength}
+use Rattle.write_image.specs.Length.{imageLength}
 use Rattle.write_image.specs.Given.{Told, Indexed, Keyed, TreeReady, ListsReady, TextsReady, treeOut, listsOut, textsOut, definitionsAt}
-use Rattle.write_image.proofs.SectionLengths.{Sized, sized, once}
+use Rattle.write_image.proofs.SectionLengths.{Sized, sized, once, nodes-fewer}
 
 ones-length : (n : ℕ) (g : ℕ → List ℕ) → length (joinOf n (λ j. g j ∷ [])) ≡ n
 ones-length n g = join-length n (λ j. g j ∷ []) ∙ sum-const n 1 ∙ mul-one n
@@ -63,12 +66,12 @@ taken (suc n) xs h = ap (λ (l : List (List ℕ)). l ++ (getD xs n [] ∷ [])) (
 -- ---- the bytes of each section
 
 pub record Measured (s : Sections) : Type 0 where
-  pub nodes : length (sectionOut (written s) 0) ≡ 40 * nodeCount s
-  pub children : length (sectionOut (written s) 1) ≡ 4 * childCount s
-  pub named : length (sectionOut (written s) 2) ≡ 12 * namedCount s
-  pub definitions : length (sectionOut (written s) 3) ≡ 16 * definitionCount s
-  pub items : length (sectionOut (written s) 4) ≡ 12 * itemCount s
-  pub index : length (sectionOut (written s) 5) ≡ 12 * length (byPath s (numbering s))
+  pub nodes : length (sectionOut (written s) 0) ≡ nodeCount s * nodeSize (s .version)
+  pub children : length (sectionOut (written s) 1) ≡ childCount s * childSize
+  pub named : length (sectionOut (written s) 2) ≡ namedCount s * textEntrySize
+  pub definitions : length (sectionOut (written s) 3) ≡ definitionCount s * definitionSize
+  pub items : length (sectionOut (written s) 4) ≡ itemCount s * textEntrySize
+  pub index : length (sectionOut (written s) 5) ≡ length (byPath s (numbering s)) * textEntrySize
   pub payload : length (sectionOut (written s) 6) ≡ length (s .payload)
   pub strings : length (sectionOut (written s) 7) ≡ length (storedBytes s)
 
@@ -77,7 +80,7 @@ unfolding sectionOut
 by-sizes s z =
     let v = written s in
     record {
-      nodes = omega (arith, length-bytes (v .nodes), z .nodes);
+      nodes = omega (arith, length-bytes (v .nodes), z .nodes, size-words (nodeCount s) (s .version));
       children = omega (arith, length-bytes (v .children), z .children);
       named = omega (arith, length-bytes (v .named), z .named);
       definitions = omega (arith, length-bytes (v .definitions), z .definitions);
@@ -96,8 +99,9 @@ uses-length s order =
     ∙ ap (λ (m : ℕ). length (textUses s order) + m) (length-map (byPath s order) (pathOf s order))
 
 -- fewer than the image has bytes
-pub uses-fewer : (s : Sections) → s .stride ≡ nodeWords → tablesRule s ≡ 0 → reachRule s ≡ 0 → length (uses s (numbering s)) ≤ imageLength s
-uses-fewer s ten p q = omega (arith, uses-bound s (numbering s) p (once s ten p q), uses-length s (numbering s))
+pub uses-fewer : (s : Sections) → tablesRule s ≡ 0 → reachRule s ≡ 0 → length (uses s (numbering s)) ≤ imageLength s
+uses-fewer s p q =
+    omega (arith, uses-bound s (numbering s) p (once s p q), uses-length s (numbering s), nodes-fewer (nodeCount s) (s .version))
 
 module _ (s : Sections) (w : List ℕ) (n : Numbers) (t : Told s w n) where
   abbrev order : List ℕ
@@ -107,16 +111,16 @@ module _ (s : Sections) (w : List ℕ) (n : Numbers) (t : Told s w n) where
   kept = storedTexts s (numbering s)
 
   pub measured : Measured s
-  measured = by-sizes s (sized s (t .wide) (t .tables) (t .reach))
+  measured = by-sizes s (sized s (t .tables) (t .reach))
 
   -- the three runs of sections
-  pub tree-length : length (treeOut s) ≡ 40 * nodeCount s + 4 * childCount s + 12 * namedCount s
+  pub tree-length : length (treeOut s) ≡ nodeCount s * nodeSize (s .version) + childCount s * childSize + namedCount s * textEntrySize
   tree-length =
       let m = measured in
       let sec = sectionOut (written s) in
       omega (arith, m .nodes, m .children, m .named, length-append (sec 0 ++ sec 1) (sec 2), length-append (sec 0) (sec 1))
 
-  pub lists-length : length (listsOut s) ≡ 16 * definitionCount s + 12 * itemCount s + 12 * length (byPath s order)
+  pub lists-length : length (listsOut s) ≡ definitionCount s * definitionSize + itemCount s * textEntrySize + length (byPath s order) * textEntrySize
   lists-length =
       let m = measured in
       let sec = sectionOut (written s) in
@@ -131,7 +135,7 @@ module _ (s : Sections) (w : List ℕ) (n : Numbers) (t : Told s w n) where
   -- ---- numbers
 
   pub numbers-once : Numbered (nodeCount s) order
-  numbers-once = once s (t .wide) (t .tables) (t .reach)
+  numbers-once = once s (t .tables) (t .reach)
 
   pub place-back : (j : ℕ) → j < nodeCount s → placeIn order (oldOf order j) ≡ j
   place-back j h = place-of-get numbers-once j h
@@ -196,40 +200,40 @@ module _ (s : Sections) (w : List ℕ) (n : Numbers) (t : Told s w n) where
 
 -- ---- what the writers of the first sections ask
 
-module _ (nodes children named definitions items payload strings w : List ℕ) (n : Numbers) where
+module _ (version : ℕ) (nodes children named definitions items payload strings w : List ℕ) (n : Numbers) where
   abbrev s : Sections
-  s = draftOf nodes children named definitions items payload strings
+  s = draftOf version nodes children named definitions items payload strings
 
   module _ (t : Told s w n) where
-    pub children-sum : childrenBy nodes w (n .order) (length nodes / 10) ≡ length children
+    pub children-sum : childrenBy version nodes w (n .order) (length nodes / nodeWords version) ≡ length children
     unfolding numberOfChildren nodeWord
     children-sum = sum-words s w n t (numberOfChildren s) ∙ used-up s (tables s (t .tables) .used) .children
 
-    pub named-sum : namedBy nodes w (n .order) (length nodes / 10) ≡ namedCount s
+    pub named-sum : namedBy version nodes w (n .order) (length nodes / nodeWords version) ≡ namedCount s
     unfolding numberOfNamed nodeWord
     named-sum = sum-words s w n t (numberOfNamed s) ∙ used-up s (tables s (t .tables) .used) .named
 
-    pub payload-sum : payloadBy nodes w (n .order) (length nodes / 10) ≡ length payload
+    pub payload-sum : payloadBy version nodes w (n .order) (length nodes / nodeWords version) ≡ length payload
     unfolding payloadLengthOf nodeWord
     payload-sum = sum-words s w n t (payloadLengthOf s) ∙ used-up s (tables s (t .tables) .used) .payload
 
     -- the texts of the nodes
-    one-count : (i : ℕ) → i < nodeCount s → textsAt nodes payload i ≡ length (nodeTexts s i)
+    one-count : (i : ℕ) → i < nodeCount s → textsAt version nodes payload i ≡ length (nodeTexts s i)
     unfolding textsAt
     one-count i h =
-        ap (λ (r : NodeRecord). textsBy payload r (kindOf (r .tag))) (node-record s nodes i refl refl)
+        ap (λ (r : NodeRecord). textsBy payload r (kindOf (r .tag))) (node-record s version nodes i refl refl)
         ∙ texts-count s i (kindOf (tagOf s i)) (tables s (t .tables) .fields i h)
 
-    pub texts-sum : usedBy nodes w (n .order) payload (length nodes / 10) ≡ length (nodeUses s (numbering s))
+    pub texts-sum : usedBy version nodes w (n .order) payload (length nodes / nodeWords version) ≡ length (nodeUses s (numbering s))
     texts-sum =
-        sum-ext (nodeCount s) (λ m. textsAt nodes payload (getD w (n .order + m) 0)) (λ m. length (nodeTexts s (oldOf (numbering s) m)))
-        (λ m h. ap (textsAt nodes payload) (t .olds m h) ∙ one-count (oldOf (numbering s) m) (old-inside s w n t m h))
+        sum-ext (nodeCount s) (λ m. textsAt version nodes payload (getD w (n .order + m) 0)) (λ m. length (nodeTexts s (oldOf (numbering s) m)))
+        (λ m h. ap (textsAt version nodes payload) (t .olds m h) ∙ one-count (oldOf (numbering s) m) (old-inside s w n t m h))
         ∙ sym (join-length (nodeCount s) (λ m. nodeTexts s (oldOf (numbering s) m)))
 
-    pub order-fits : OrderFits nodes w n
+    pub order-fits : OrderFits version nodes w n
     order-fits = record { olds = word-inside s w n t; order-end = t .order-end; new-start = t .new-start }
 
-    pub nodes-fit : NodesFit nodes payload w n
+    pub nodes-fit : NodesFit version nodes payload w n
     nodes-fit =
         record {
           order = order-fits;
@@ -239,7 +243,7 @@ module _ (nodes children named definitions items payload strings w : List ℕ) (
           texts = omega (arith, texts-sum, t .offsets-end, uses-length s (numbering s), text-uses-length s w n t);
         }
 
-    pub named-fit : (text : ℕ) → text ≡ n .offsets + length (nodeUses s (numbering s)) → NamedFit nodes w (record { order = n .order; new = n .new; offsets = text })
+    pub named-fit : (text : ℕ) → text ≡ n .offsets + length (nodeUses s (numbering s)) → NamedFit version nodes w (record { order = n .order; new = n .new; offsets = text })
     named-fit text e =
         record {
           order = record { olds = word-inside s w n t; order-end = t .order-end; new-start = t .new-start };
@@ -248,10 +252,10 @@ module _ (nodes children named definitions items payload strings w : List ℕ) (
 
     -- ---- definitions, items, index
 
-    pub definitions-texts : definitionsAt s n + textsBefore definitions (length definitions / 4) ≤ length w
+    pub definitions-texts : definitionsAt s n + textsBefore definitions (length definitions / definitionWords) ≤ length w
     definitions-texts = omega (arith, uses-are s, t .offsets-end, uses-length s (numbering s), text-uses-length s w n t)
 
-    pub items-sum : itemsBefore definitions (length definitions / 4) ≡ itemCount s
+    pub items-sum : itemsBefore definitions (length definitions / definitionWords) ≡ itemCount s
     unfolding itemsBefore definitionWord
     items-sum = items-all s (tables s (t .tables))
 
@@ -267,17 +271,17 @@ module _ (nodes children named definitions items payload strings w : List ℕ) (
 
     -- ---- payload and strings
 
-    pub payload-fits : PayloadFits nodes payload w (n .order) (n .offsets)
+    pub payload-fits : PayloadFits version nodes payload w (n .order) (n .offsets)
     payload-fits = record { olds = word-inside s w n t; order-end = t .order-end; texts = nodes-fit .texts }
 
-    pub payload-room : 4 * length (joinOf (length nodes / 10) (payloadWords nodes payload w (n .order) (n .offsets))) ≡ length payload
+    pub payload-room : 4 * length (joinOf (length nodes / nodeWords version) (payloadWords version nodes payload w (n .order) (n .offsets))) ≡ length payload
     payload-room =
-        pay-room s nodes payload w (n .order) (n .offsets) (numbering s) (storedTexts s (numbering s)) payload-fits refl refl refl (t .tables) (t .olds)
+        pay-room s version nodes payload w (n .order) (n .offsets) (numbering s) (storedTexts s (numbering s)) payload-fits refl refl refl (t .tables) (t .olds)
         (node-offsets s w n t)
         ∙ (unfold written writtenWith sectionOut in measured s w n t .payload)
 
     pub uses-small : length (uses s (numbering s)) < 2 ^ 32
-    uses-small = omega (arith, uses-fewer s (t .wide) (t .tables) (t .reach), t .long)
+    uses-small = omega (arith, uses-fewer s (t .tables) (t .reach), t .long)
 
     module _ (k : Tables) (q : Keyed s w n k) where
       abbrev key : ℕ → List ℕ
@@ -299,53 +303,37 @@ module _ (nodes children named definitions items payload strings w : List ℕ) (
 
 -- ---- what a section's writer gives, of a draft of which all is known
 
-module _ (nodes children named definitions items payload strings w : List ℕ) (n : Numbers) (out₀ out : List ℕ) (t : Told (draftOf nodes children named definitions items payload strings) w n) where
+module _ (version : ℕ) (nodes children named definitions items payload strings w : List ℕ) (n : Numbers) (out₀ out : List ℕ) (t : Told (draftOf version nodes children named definitions items payload strings) w n) where
   abbrev d : Sections
-  d = draftOf nodes children named definitions items payload strings
+  d = draftOf version nodes children named definitions items payload strings
 
   abbrev sec : ℕ → List ℕ
   sec = sectionOut (written d)
 
-  pub nodes-put : (text : ℕ)
-      → ((s : Sections) (order : List ℕ) (kept : List (List ℕ)) → s .nodes ≡ nodes → s .stride ≡ nodeWords → s .payload ≡ payload → tablesRule s ≡ 0 → shapeRule s ≡ 0
-      → ((j : ℕ) → j < nodeCount s → placeIn order (oldOf order j) ≡ j) → OldsAt order w (nodeCount s) (n .order) → NewsAt order w (nodeCount s) (n .new)
-      → OffsetsAt kept (nodeUses s order) w (n .offsets)
-      → (out ≡ over (bytesOf (joinOf (nodeCount s) (λ j. nodeOut s order kept (oldOf order j)))) out₀) × (text ≡ n .offsets + length (nodeUses s order)))
+  pub nodes-put : (text : ℕ) → NodesPut version nodes payload w n out₀ out text
       → (out ≡ over (sec 0) out₀) × (text ≡ n .offsets + length (nodeUses d (numbering d)))
   unfolding sectionOut written writtenWith
   nodes-put text e =
       e d (numbering d) (storedTexts d (numbering d)) refl refl refl (t .tables) (t .shape) (place-back d w n t) (t .olds) (t .news) (node-offsets d w n t)
 
-  pub children-put : ((s : Sections) (order : List ℕ) (kept : List (List ℕ)) → s .nodes ≡ nodes → s .stride ≡ nodeWords → s .children ≡ children → tablesRule s ≡ 0
-      → OldsAt order w (nodeCount s) (n .order) → NewsAt order w (nodeCount s) (n .new)
-      → out ≡ over (bytesOf (joinOf (nodeCount s) (λ j. childrenOut s order kept (oldOf order j)))) out₀)
-      → out ≡ over (sec 1) out₀
+  pub children-put : ChildrenPut version nodes children w n out₀ out → out ≡ over (sec 1) out₀
   unfolding sectionOut written writtenWith
   children-put e = e d (numbering d) (storedTexts d (numbering d)) refl refl refl (t .tables) (t .olds) (t .news)
 
   pub named-put : (text : ℕ) → text ≡ n .offsets + length (nodeUses d (numbering d))
-      → ((s : Sections) (order : List ℕ) (kept : List (List ℕ)) → s .nodes ≡ nodes → s .stride ≡ nodeWords → s .named ≡ named → tablesRule s ≡ 0
-      → OldsAt order w (nodeCount s) (n .order) → NewsAt order w (nodeCount s) (n .new) → OffsetsAt kept (namedUses s order) w text
-      → out ≡ over (bytesOf (joinOf (nodeCount s) (λ j. namedOut s order kept (oldOf order j)))) out₀)
-      → out ≡ over (sec 2) out₀
+      → NamedPut version nodes named w (record { order = n .order; new = n .new; offsets = text }) out₀ out → out ≡ over (sec 2) out₀
   unfolding sectionOut written writtenWith
   named-put text q e =
       e d (numbering d) (storedTexts d (numbering d)) refl refl refl (t .tables) (t .olds) (t .news)
       (subst (OffsetsAt (storedTexts d (numbering d)) (namedUses d (numbering d)) w) (sym q) (named-offsets d w n t))
 
-  pub definitions-put : (text : ℕ) → text ≡ definitionsAt d n
-      → ((s : Sections) (order : List ℕ) (kept : List (List ℕ)) → s .definitions ≡ definitions → tablesRule s ≡ 0 → OffsetsAt kept (definitionUses s) w text
-      → out ≡ over (bytesOf (joinOf (definitionCount s) (definitionOut s order kept))) out₀)
-      → out ≡ over (sec 3) out₀
+  pub definitions-put : (text : ℕ) → text ≡ definitionsAt d n → DefinitionsPut definitions w text out₀ out → out ≡ over (sec 3) out₀
   unfolding sectionOut written writtenWith
   definitions-put text q e =
       e d (numbering d) (storedTexts d (numbering d)) refl (t .tables)
       (subst (OffsetsAt (storedTexts d (numbering d)) (definitionUses d) w) (sym q) (definition-offsets d w n t))
 
-  pub items-put : (text : ℕ) → text ≡ definitionsAt d n
-      → ((s : Sections) (order : List ℕ) (kept : List (List ℕ)) → s .definitions ≡ definitions → s .items ≡ items → tablesRule s ≡ 0 → OffsetsAt kept (definitionUses s) w text
-      → out ≡ over (bytesOf (joinOf (itemCount s) (itemOut s order kept))) out₀)
-      → out ≡ over (sec 4) out₀
+  pub items-put : (text : ℕ) → text ≡ definitionsAt d n → ItemsPut definitions items w text out₀ out → out ≡ over (sec 4) out₀
   unfolding sectionOut written writtenWith
   items-put text q e =
       e d (numbering d) (storedTexts d (numbering d)) refl refl (t .tables)
@@ -362,43 +350,40 @@ module _ (nodes children named definitions items payload strings w : List ℕ) (
       e d (numbering d) (storedTexts d (numbering d)) (i .count) (old-inside d w n t) (place-back d w n t) (t .news) (i .boxes) (i .lengths)
       (subst (OffsetsAt (storedTexts d (numbering d)) (map (pathOf d (numbering d)) (byPath d (numbering d))) w) (sym q) (path-offsets d w n t))
 
-  pub payload-put : ((s : Sections) (olds : List ℕ) (kept : List (List ℕ)) → s .nodes ≡ nodes → s .stride ≡ nodeWords → s .payload ≡ payload → tablesRule s ≡ 0
-      → OldsAt olds w (nodeCount s) (n .order) → OffsetsAt kept (nodeUses s olds) w (n .offsets)
-      → out ≡ over (joinOf (nodeCount s) (λ j. payloadOut s olds kept (oldOf olds j))) out₀)
-      → out ≡ over (sec 6) out₀
+  pub payload-put : PayloadPut version nodes payload w (n .order) (n .offsets) out₀ out → out ≡ over (sec 6) out₀
   unfolding sectionOut written writtenWith
   payload-put e = e d (numbering d) (storedTexts d (numbering d)) refl refl refl (t .tables) (t .olds) (node-offsets d w n t)
 
   pub strings-put : (k : Tables) → Keyed d w n k → out ≡ over (joined (storedOf (keyIn nodes strings k w) (n .offsets))) out₀ → out ≡ over (sec 7) out₀
   unfolding sectionOut written writtenWith
-  strings-put k q e = e ∙ ap (λ (kept : List (List ℕ)). over (joined kept) out₀) (stored-are nodes children named definitions items payload strings w n t k q)
+  strings-put k q e = e ∙ ap (λ (kept : List (List ℕ)). over (joined kept) out₀) (stored-are version nodes children named definitions items payload strings w n t k q)
 
 -- ---- the room of three runs of sections, by the draft's counts
 
-pub tree-room : (nodes children named payload w : List ℕ) (n : Numbers) (room : ℕ) → TreeReady nodes children named payload w n room
-    → 40 * (length nodes / 10) + 4 * length children + 12 * (length named / 3) ≤ room
-tree-room nodes children named payload w n room r =
-    omega (arith, r .fits, tree-length (draftOf nodes children named (r .definitions) (r .items) payload (r .strings)) w n (r .told))
+pub tree-room : (version : ℕ) (nodes children named payload w : List ℕ) (n : Numbers) (room : ℕ) → TreeReady version nodes children named payload w n room
+    → length nodes / nodeWords version * nodeSize version + length children * childSize + length named / textEntryWords * textEntrySize ≤ room
+tree-room version nodes children named payload w n room r =
+    omega (arith, r .fits, tree-length (draftOf version nodes children named (r .definitions) (r .items) payload (r .strings)) w n (r .told))
 
 pub lists-room : (definitions items w : List ℕ) (n : Numbers) (text path : ℕ) (p : Paths) (room : ℕ) → ListsReady definitions items w n text path p room
-    → 16 * (length definitions / 4) + 12 * (length items / 3) + 12 * p .count ≤ room
+    → length definitions / definitionWords * definitionSize + length items / textEntryWords * textEntrySize + p .count * textEntrySize ≤ room
 lists-room definitions items w n text path p room r =
-    omega (arith, r .fits, r .indexed .count, lists-length (draftOf (r .nodes) (r .children) (r .named) definitions items (r .payload) (r .strings)) w n (r .told))
+    omega (arith, r .fits, r .indexed .count, lists-length (draftOf (r .version) (r .nodes) (r .children) (r .named) definitions items (r .payload) (r .strings)) w n (r .told))
 
-pub texts-room : (nodes payload strings w : List ℕ) (n : Numbers) (k : Tables) (room : ℕ) (r : TextsReady nodes payload strings w n k room)
-    → length payload + length (storedBytes (draftOf nodes (r .children) (r .named) (r .definitions) (r .items) payload strings)) ≤ room
-texts-room nodes payload strings w n k room r =
-    omega (arith, r .fits, texts-length (draftOf nodes (r .children) (r .named) (r .definitions) (r .items) payload strings) w n (r .told))
+pub texts-room : (version : ℕ) (nodes payload strings w : List ℕ) (n : Numbers) (k : Tables) (room : ℕ) (r : TextsReady version nodes payload strings w n k room)
+    → length payload + length (storedBytes (draftOf version nodes (r .children) (r .named) (r .definitions) (r .items) payload strings)) ≤ room
+texts-room version nodes payload strings w n k room r =
+    omega (arith, r .fits, texts-length (draftOf version nodes (r .children) (r .named) (r .definitions) (r .items) payload strings) w n (r .told))
 
 -- of whatever draft has this payload and these texts
-pub texts-fit : (nodes payload strings w : List ℕ) (n : Numbers) (k : Tables) (room : ℕ) → TextsReady nodes payload strings w n k room
-    → (children named definitions items : List ℕ) (t : Told (draftOf nodes children named definitions items payload strings) w n)
-    → Keyed (draftOf nodes children named definitions items payload strings) w n k
-    → length payload + length (storedBytes (draftOf nodes children named definitions items payload strings)) ≤ room
-texts-fit nodes payload strings w n k room r children named definitions items t q =
-    let one = stored-are nodes (r .children) (r .named) (r .definitions) (r .items) payload strings w n (r .told) k (r .keyed) in
-    let two = stored-are nodes children named definitions items payload strings w n t k q in
-    let same : length (storedBytes (draftOf nodes children named definitions items payload strings))
-    ≡ length (storedBytes (draftOf nodes (r .children) (r .named) (r .definitions) (r .items) payload strings)) =
+pub texts-fit : (version : ℕ) (nodes payload strings w : List ℕ) (n : Numbers) (k : Tables) (room : ℕ) → TextsReady version nodes payload strings w n k room
+    → (children named definitions items : List ℕ) (t : Told (draftOf version nodes children named definitions items payload strings) w n)
+    → Keyed (draftOf version nodes children named definitions items payload strings) w n k
+    → length payload + length (storedBytes (draftOf version nodes children named definitions items payload strings)) ≤ room
+texts-fit version nodes payload strings w n k room r children named definitions items t q =
+    let one = stored-are version nodes (r .children) (r .named) (r .definitions) (r .items) payload strings w n (r .told) k (r .keyed) in
+    let two = stored-are version nodes children named definitions items payload strings w n t k q in
+    let same : length (storedBytes (draftOf version nodes children named definitions items payload strings))
+    ≡ length (storedBytes (draftOf version nodes (r .children) (r .named) (r .definitions) (r .items) payload strings)) =
     ap (λ (kept : List (List ℕ)). length (joined kept)) (sym two ∙ one) in
-    omega (arith, texts-room nodes payload strings w n k room r)
+    omega (arith, texts-room version nodes payload strings w n k room r)

@@ -44,10 +44,10 @@ three-parts out₀ out₁ out₂ a b c ys zs at₁ at₂ h e p y f q z =
     over-next out₀ out₂ (a ++ b) c zs at₂ two (omega (arith, length-append a b)) (omega arith) z
 
 -- the counts that the header says
-pub counts-right : (s : Sections) → Sized s (written s) → CountsOf (written s) (countsBy (entriesOf s))
+pub counts-right : (s : Sections) → Sized s (written s) → CountsOf (s .version) (written s) (countsBy (entriesOf s))
 counts-right s z =
     record {
-      stride = z .wide;
+      versioned = z .versioned;
       nodes = z .nodes;
       children = z .children;
       named = z .named;

@@ -1,9 +1,10 @@
 -- The sections of a written image: how long each is, and where it begins.
-use Prim.Native.Nat.{ℕ, _+_, _*_, _<_}
+use Prim.Native.Nat.{ℕ, _+_, _*_, _≤_, _<_}
 use mathlib.Core.Path.{_≡_, refl, ap, _∙_}
 use mathlib.Core.List.{List, []}
 use mathlib.Core.Bool.{Bool, true, false, cond}
 use native.Mathlib.Omega.{arith}
+use native.Mathlib.Nat.{mul-le-mul-left}
 use lib.ListN.{length, length-append}
 use lib.Dec.{eqb}
 use borrow.Author.Tests.{eqb-true}
@@ -11,8 +12,9 @@ use Rattle.laws.specs.Counted.{sumOf, joinOf}
 use Rattle.words.specs.Words.{bytesOf}
 use Rattle.words.proofs.Words.{length-bytes}
 use Rattle.texts.specs.Text.{ascii}
-use Rattle.image.specs.Header.{nodeWords, headerLength, magic}
-use Rattle.image.specs.Sections.{Sections, nodeCount, childCount, namedCount, definitionCount, itemCount, tagOf, f}
+use Rattle.image.specs.Header.{headerLength, magic}
+use Rattle.image.specs.Sections.{Sections, nodeWords, textEntryWords, definitionWords, nodeSize, childSize, textEntrySize, definitionSize, nodeCount, childCount, namedCount, definitionCount, itemCount, tagOf, f}
+use Rattle.image.proofs.Widths.{words-some, size-words}
 use Rattle.image.specs.Encoding.{sectionOut, startOf, bodyOf, headerWith, imageOf}
 use Rattle.records.specs.Records.{numberOfChildren, numberOfNamed, payloadLengthOf, listItems, listOrigins}
 use Rattle.records.proofs.PassedRules.{payload-range, used-up}
@@ -25,8 +27,9 @@ use Rattle.draft_image.specs.Written.{listItemOut, listOriginOut, listOut, payl
 use Rattle.draft_image.specs.Encode.{imageFor}
 use Rattle.draft_image.proofs.Joins.{join-length, join-len, even-len, all-get}
 use Rattle.draft_image.proofs.Blocks.{w, nodes-length, child-count, named-whole, definitions-whole, items-whole, index-whole}
+use Rattle.write_text_uses.specs.Uses.{storedBytes}
 use Rattle.write_text_uses.proofs.Sums.{sum-ordered}
-use Rattle.write_image.specs.Length.{storedBytes, imageLength}
+use Rattle.write_image.specs.Length.{imageLength}
 
 -- ---- the header
 
@@ -38,6 +41,10 @@ pub image-length : (ink : ℕ) (v : Sections) → length (imageOf ink v) ≡ sta
 unfolding imageOf bodyOf startOf
 image-length ink v =
     length-append (headerWith ink v _) (joinOf 8 (sectionOut v)) ∙ rw (head-length ink v _, join-length 8 (sectionOut v)) refl
+
+-- a node has two bytes at least
+pub nodes-fewer : (n version : ℕ) → n + n ≤ n * nodeSize version
+nodes-fewer n version = omega (arith, size-words n version, mul-le-mul-left n (words-some version))
 
 -- ---- a list's payload
 
@@ -58,17 +65,17 @@ abbrev containerCount : Sections → ℕ
 containerCount s = length (byPath s (numbering s))
 
 pub record Sized (s v : Sections) : Type 0 where
-  pub wide : v .stride ≡ nodeWords
-  pub nodes : length (v .nodes) ≡ nodeCount s * 10
+  pub versioned : v .version ≡ s .version
+  pub nodes : length (v .nodes) ≡ nodeCount s * nodeWords (s .version)
   pub children : length (v .children) ≡ childCount s
-  pub named : length (v .named) ≡ namedCount s * 3
-  pub definitions : length (v .definitions) ≡ definitionCount s * 4
-  pub items : length (v .items) ≡ itemCount s * 3
-  pub index : length (v .index) ≡ containerCount s * 3
+  pub named : length (v .named) ≡ namedCount s * textEntryWords
+  pub definitions : length (v .definitions) ≡ definitionCount s * definitionWords
+  pub items : length (v .items) ≡ itemCount s * textEntryWords
+  pub index : length (v .index) ≡ containerCount s * textEntryWords
   pub payload : length (v .payload) ≡ length (s .payload)
   pub strings : v .strings ≡ storedBytes s
 
-module _ (s : Sections) (ten : s .stride ≡ nodeWords) (p : tablesRule s ≡ 0) (q : reachRule s ≡ 0) where
+module _ (s : Sections) (p : tablesRule s ≡ 0) (q : reachRule s ≡ 0) where
   abbrev order : List ℕ
   order = numbering s
 
@@ -105,10 +112,10 @@ module _ (s : Sections) (ten : s .stride ≡ nodeWords) (p : tablesRule s ≡ 0)
   sized-with =
       let all = used-up s (tables s p .used) in
       record {
-        wide = unfold w writtenWith in ten;
-        nodes = nodes-length s order kept (omega arith) ∙ ap (λ (x : ℕ). nodeCount s * x) ten;
+        versioned = unfold w writtenWith in refl;
+        nodes = nodes-length s order kept;
         children = child-count s order kept ∙ sum-ordered (nodeCount s) order once (numberOfChildren s) ∙ all .children;
-        named = named-whole s order kept ∙ ap (λ (x : ℕ). x * 3) (sum-ordered (nodeCount s) order once (numberOfNamed s) ∙ all .named);
+        named = named-whole s order kept ∙ ap (λ (x : ℕ). x * textEntryWords) (sum-ordered (nodeCount s) order once (numberOfNamed s) ∙ all .named);
         definitions = definitions-whole s order kept;
         items = items-whole s order kept;
         index = index-whole s order kept;
@@ -124,15 +131,15 @@ module _ (s : Sections) (ten : s .stride ≡ nodeWords) (p : tablesRule s ≡ 0)
 
 pub record Starts (s v : Sections) : Type 0 where
   pub nodes : startOf v 0 ≡ headerLength
-  pub children : startOf v 1 ≡ headerLength + 40 * nodeCount s
-  pub named : startOf v 2 ≡ headerLength + 40 * nodeCount s + 4 * childCount s
-  pub definitions : startOf v 3 ≡ headerLength + 40 * nodeCount s + 4 * childCount s + 12 * namedCount s
-  pub items : startOf v 4 ≡ headerLength + 40 * nodeCount s + 4 * childCount s + 12 * namedCount s + 16 * definitionCount s
-  pub index : startOf v 5 ≡ headerLength + 40 * nodeCount s + 4 * childCount s + 12 * namedCount s + 16 * definitionCount s + 12 * itemCount s
+  pub children : startOf v 1 ≡ headerLength + nodeCount s * nodeSize (s .version)
+  pub named : startOf v 2 ≡ headerLength + nodeCount s * nodeSize (s .version) + childCount s * childSize
+  pub definitions : startOf v 3 ≡ headerLength + nodeCount s * nodeSize (s .version) + childCount s * childSize + namedCount s * textEntrySize
+  pub items : startOf v 4 ≡ headerLength + nodeCount s * nodeSize (s .version) + childCount s * childSize + namedCount s * textEntrySize + definitionCount s * definitionSize
+  pub index : startOf v 5 ≡ headerLength + nodeCount s * nodeSize (s .version) + childCount s * childSize + namedCount s * textEntrySize + definitionCount s * definitionSize + itemCount s * textEntrySize
   pub payload : startOf v 6
-      ≡ headerLength + 40 * nodeCount s + 4 * childCount s + 12 * namedCount s + 16 * definitionCount s + 12 * itemCount s + 12 * containerCount s
+      ≡ headerLength + nodeCount s * nodeSize (s .version) + childCount s * childSize + namedCount s * textEntrySize + definitionCount s * definitionSize + itemCount s * textEntrySize + containerCount s * textEntrySize
   pub strings : startOf v 7
-      ≡ headerLength + 40 * nodeCount s + 4 * childCount s + 12 * namedCount s + 16 * definitionCount s + 12 * itemCount s + 12 * containerCount s
+      ≡ headerLength + nodeCount s * nodeSize (s .version) + childCount s * childSize + namedCount s * textEntrySize + definitionCount s * definitionSize + itemCount s * textEntrySize + containerCount s * textEntrySize
       + length (s .payload)
   pub end : startOf v 8 ≡ imageLength s
 
@@ -140,6 +147,7 @@ pub starts : (s v : Sections) → Sized s v → Starts s v
 unfolding startOf sumOf sectionOut
 starts s v z =
     let a = length-bytes (v .nodes) in
+    let wide = size-words (nodeCount s) (s .version) in
     let b = length-bytes (v .children) in
     let c = length-bytes (v .named) in
     let d = length-bytes (v .definitions) in
@@ -158,6 +166,6 @@ starts s v z =
       end = omega arith;
     }
 
-pub length-is : (ink : ℕ) (s : Sections) → s .stride ≡ nodeWords → tablesRule s ≡ 0 → reachRule s ≡ 0 → length (imageFor ink s) ≡ imageLength s
+pub length-is : (ink : ℕ) (s : Sections) → tablesRule s ≡ 0 → reachRule s ≡ 0 → length (imageFor ink s) ≡ imageLength s
 unfolding imageFor
-length-is ink s ten p q = image-length ink (written s) ∙ starts s (written s) (sized s ten p q) .end
+length-is ink s p q = image-length ink (written s) ∙ starts s (written s) (sized s p q) .end

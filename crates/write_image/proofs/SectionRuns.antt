@@ -9,7 +9,7 @@ use borrow.Rule.Slice.PartMut.{putMid}
 use Rattle.laws.specs.Counted.{joinOf}
 use Rattle.words.specs.Words.{NONE}
 use Rattle.image.specs.Header.{headerLength}
-use Rattle.image.specs.Sections.{Sections, nodeCount, childCount, namedCount, definitionCount, itemCount}
+use Rattle.image.specs.Sections.{Sections, nodeSize, childSize, textEntrySize, definitionSize, nodeCount, childCount, namedCount, definitionCount, itemCount}
 use Rattle.image.specs.Encoding.{bodyOf, headerWith, imageOf}
 use Rattle.draft.specs.Source.{draftOf}
 use Rattle.draft.specs.Numbering.{numbering}
@@ -24,9 +24,9 @@ use Rattle.image.specs.declared.encoding.EntryCounts.{EntryCounts}
 use Rattle.image.specs.Counted.{endOf, CountsOf}
 use Rattle.write_image.specs.declared.Places.{Places}
 use Rattle.write_image.specs.declared.size.Entries.{Entries}
-use Rattle.write_image.specs.Length.{lengthBy, countsBy, placesBy, entriesOf}
+use Rattle.write_image.specs.Length.{lengthBy, Small, countsBy, placesBy, entriesOf}
 use Rattle.write_image.specs.Given.{Indexed, treeOut, TreeReady, definitionsAt, listsOut, ListsAt, ListsReady, textsOut, TextsReady, pathsOf, Ready, Sectioned}
-use Rattle.write_image.proofs.SectionLengths.{head-length, sized}
+use Rattle.write_image.proofs.SectionLengths.{head-length, sized, nodes-fewer}
 use Rattle.write_image.proofs.Premises.{tree-length, lists-length, texts-length}
 use Rattle.write_image.proofs.SectionLayers.{over-next, three-parts, counts-right}
 
@@ -37,16 +37,16 @@ runs : (s : Sections) → treeOut s ++ listsOut s ++ textsOut s ≡ bodyOf (writ
 unfolding bodyOf joinOf
 runs s = simp append-assoc
 
-module _ (nodes children named definitions items payload strings w : List ℕ) (n : Numbers) (t : Tables) (p : Paths) (q : Places) (room : ℕ) where
+module _ (version : ℕ) (nodes children named definitions items payload strings w : List ℕ) (n : Numbers) (t : Tables) (p : Paths) (q : Places) (room : ℕ) where
   abbrev s : Sections
-  s = draftOf nodes children named definitions items payload strings
+  s = draftOf version nodes children named definitions items payload strings
 
   module _ (r : Sectioned s w n t p q room) where
-    lists-place : q .lists ≡ 40 * nodeCount s + 4 * childCount s + 12 * namedCount s
+    lists-place : q .lists ≡ nodeCount s * nodeSize (s .version) + childCount s * childSize + namedCount s * textEntrySize
     lists-place = ap (λ (x : Places). x .lists) (r .places)
 
     texts-place : q .texts
-        ≡ 40 * nodeCount s + 4 * childCount s + 12 * namedCount s + 16 * definitionCount s + 12 * itemCount s + 12 * length (byPath s (numbering s))
+        ≡ nodeCount s * nodeSize (s .version) + childCount s * childSize + namedCount s * textEntrySize + definitionCount s * definitionSize + itemCount s * textEntrySize + length (byPath s (numbering s)) * textEntrySize
     texts-place = ap (λ (x : Places). x .texts) (r .places)
 
     -- where each run begins, and that they fit
@@ -59,7 +59,7 @@ module _ (nodes children named definitions items payload strings w : List ℕ) (
     pub run-texts : length (treeOut s) + length (listsOut s) + length (textsOut s) ≤ room
     run-texts = omega (arith, tree-length s w n (r .told), lists-length s w n (r .told), texts-length s w n (r .told), r .fits)
 
-    pub tree-ready : TreeReady nodes children named payload w n room
+    pub tree-ready : TreeReady version nodes children named payload w n room
     tree-ready = record { definitions = definitions; items = items; strings = strings; told = r .told; fits = omega (arith, run-texts) }
 
     pub lists-at : (text path : ℕ) → text ≡ definitionsAt s n → path ≡ n .offsets + t .texts → ListsAt s n text path
@@ -68,6 +68,7 @@ module _ (nodes children named definitions items payload strings w : List ℕ) (
     pub lists-ready : (text path part : ℕ) → ListsAt s n text path → q .lists + part ≡ room → ListsReady definitions items w n text path p part
     lists-ready text path part a h =
         record {
+          version = version;
           nodes = nodes;
           children = children;
           named = named;
@@ -79,7 +80,7 @@ module _ (nodes children named definitions items payload strings w : List ℕ) (
           fits = omega (arith, run-tree, run-texts);
         }
 
-    pub texts-ready : (part : ℕ) → q .texts + part ≡ room → TextsReady nodes payload strings w n t part
+    pub texts-ready : (part : ℕ) → q .texts + part ≡ room → TextsReady version nodes payload strings w n t part
     texts-ready part h =
         record {
           children = children;
@@ -107,27 +108,40 @@ image-long ink v = length-append (headerWith ink v _) (bodyOf v) ∙ ap (λ (m :
 
 module _ (s : Sections) (w : List ℕ) (n : Numbers) (t : Tables) (e : Entries) (r : Ready s w n t e) where
   -- the length that the entries say is the image's
-  pub long-enough : lengthBy e ≤ NONE
-  long-enough = omega (arith, ap lengthBy (r .entries), r .told .long)
+  pub long-enough : lengthBy (s .version) e ≤ NONE
+  long-enough = omega (arith, ap (lengthBy (s .version)) (r .entries), r .told .long)
 
-  pub end-small : (c : EntryCounts) → c ≡ countsBy e → endOf c ≤ NONE
-  end-small c k = omega (arith, ap endOf k, long-enough)
+  pub counts-small : Small e
+  counts-small =
+      record {
+        nodes = omega (arith, long-enough, nodes-fewer (e .nodes) (s .version));
+        children = omega (arith, long-enough);
+        named = omega (arith, long-enough);
+        definitions = omega (arith, long-enough);
+        items = omega (arith, long-enough);
+        index = omega (arith, long-enough);
+        payload = omega (arith, long-enough);
+        strings = omega (arith, long-enough);
+      }
 
-  pub body-end : (q : Places) → q ≡ placesBy e → headerLength + q .end ≡ lengthBy (entriesOf s)
-  body-end q k = omega (arith, ap (λ (x : Places). x .end) k, ap lengthBy (r .entries))
+  pub end-small : (c : EntryCounts) → c ≡ countsBy e → endOf (s .version) c ≤ NONE
+  end-small c k = omega (arith, ap (endOf (s .version)) k, long-enough)
 
-  pub sectioned : (p : Paths) (q : Places) (room : ℕ) → p ≡ pathsOf t (e .index) → q ≡ placesBy e → q .end ≤ room → Sectioned s w n t p q room
+  pub body-end : (q : Places) → q ≡ placesBy (s .version) e → headerLength + q .end ≡ lengthBy (s .version) (entriesOf s)
+  body-end q k = omega (arith, ap (λ (x : Places). x .end) k, ap (lengthBy (s .version)) (r .entries))
+
+  pub sectioned : (p : Paths) (q : Places) (room : ℕ) → p ≡ pathsOf t (e .index) → q ≡ placesBy (s .version) e → q .end ≤ room → Sectioned s w n t p q room
   sectioned p q room k l h =
       record {
         told = r .told;
         texts = r .texts;
         indexed = subst (λ (x : Paths). Indexed s w x) (sym k) (r .indexed);
         keyed = r .keyed;
-        places = l ∙ ap placesBy (r .entries);
-        fits = omega (arith, ap (λ (x : Places). x .end) (l ∙ ap placesBy (r .entries)));
+        places = l ∙ ap (placesBy (s .version)) (r .entries);
+        fits = omega (arith, ap (λ (x : Places). x .end) (l ∙ ap (placesBy (s .version)) (r .entries)));
       }
 
-  body-length : headerLength + length (bodyOf (written s)) ≡ lengthBy (entriesOf s)
+  body-length : headerLength + length (bodyOf (written s)) ≡ lengthBy (s .version) (entriesOf s)
   body-length =
       omega (
         arith,
@@ -139,8 +153,8 @@ module _ (s : Sections) (w : List ℕ) (n : Numbers) (t : Tables) (e : Entries) 
         texts-length s w n (r .told),
       )
 
-  pub image-put : (ink : ℕ) (c : EntryCounts) (q : Places) (out₀ out₁ out₂ ys zs : List ℕ) → c ≡ countsBy e → q ≡ placesBy e → lengthBy (entriesOf s) ≤ length out₀
-      → ((v : Sections) → CountsOf v c → out₁ ≡ over (headerWith ink v 0) out₀)
+  pub image-put : (ink : ℕ) (c : EntryCounts) (q : Places) (out₀ out₁ out₂ ys zs : List ℕ) → c ≡ countsBy e → q ≡ placesBy (s .version) e → lengthBy (s .version) (entriesOf s) ≤ length out₀
+      → ((v : Sections) → CountsOf (s .version) v c → out₁ ≡ over (headerWith ink v 0) out₀)
       → ys ≡ over (bodyOf (written s)) (take (length out₁ - headerLength) (drop headerLength out₁)) → out₂ ≡ putMid headerLength (length out₁ - headerLength) out₁ ys
       → ((i : ℕ) (v : Sections) → take (headerLength + q .end) out₂ ≡ headerWith i v 0 ++ bodyOf v → zs ≡ imageOf i v)
       → zs ++ drop (headerLength + q .end) out₂ ≡ over (imageFor ink s) out₀
@@ -149,7 +163,7 @@ module _ (s : Sections) (w : List ℕ) (n : Numbers) (t : Tables) (e : Entries) 
       let head = headerWith ink v 0 in
       let size : length (head ++ bodyOf v) ≡ headerLength + q .end =
       omega (arith, length-append head (bodyOf v), head-length ink v 0, body-length, body-end q l) in
-      let first : out₁ ≡ over head out₀ = put v (subst (CountsOf v) (sym (k ∙ ap countsBy (r .entries))) (counts-right s (sized s (r .told .wide) (r .told .tables) (r .told .reach)))) in
+      let first : out₁ ≡ over head out₀ = put v (subst (CountsOf (s .version) v) (sym (k ∙ ap countsBy (r .entries))) (counts-right s (sized s (r .told .tables) (r .told .reach)))) in
       let both : out₂ ≡ over (head ++ bodyOf v) out₀ =
       f ∙ over-next out₀ out₁ head (bodyOf v) ys headerLength first (sym (head-length ink v 0)) (omega (arith, body-length)) y in
       let image : zs ≡ imageOf ink v = sum ink v (ap (take (headerLength + q .end)) both ∙ take-at (head ++ bodyOf v) (drop (length (head ++ bodyOf v)) out₀) (headerLength + q .end) size) in

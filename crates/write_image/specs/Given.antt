@@ -4,7 +4,6 @@ use mathlib.Core.Path.{_≡_}
 use mathlib.Core.List.{List, [], _++_}
 use lib.ListN.{length, getD}
 use Rattle.words.specs.Words.{NONE}
-use Rattle.image.specs.Header.{nodeWords}
 use Rattle.image.specs.Sections.{Sections, nodeCount}
 use Rattle.image.specs.Encoding.{sectionOut}
 use Rattle.draft.specs.Source.{draftOf}
@@ -25,7 +24,6 @@ use Rattle.write_image.specs.Length.{entriesOf, placesBy, imageLength}
 -- rules 19 to 21 are kept, a word can say how long the image is, and the work words hold the numbers of the nodes and the offsets of
 -- the texts in use
 pub record Told (s : Sections) (w : List ℕ) (n : Numbers) : Type 0 where
-  pub wide : s .stride ≡ nodeWords
   pub tables : tablesRule s ≡ 0
   pub reach : reachRule s ≡ 0
   pub shape : shapeRule s ≡ 0
@@ -44,12 +42,12 @@ abbrev pub treeOut : Sections → List ℕ
 treeOut s = sectionOut (written s) 0 ++ sectionOut (written s) 1 ++ sectionOut (written s) 2
 
 -- of some draft that has these sections, all is known, and they fit
-pub record TreeReady (nodes children named payload w : List ℕ) (n : Numbers) (room : ℕ) : Type 0 where
+pub record TreeReady (version : ℕ) (nodes children named payload w : List ℕ) (n : Numbers) (room : ℕ) : Type 0 where
   pub definitions : List ℕ
   pub items : List ℕ
   pub strings : List ℕ
-  pub told : Told (draftOf nodes children named definitions items payload strings) w n
-  pub fits : length (treeOut (draftOf nodes children named definitions items payload strings)) ≤ room
+  pub told : Told (draftOf version nodes children named definitions items payload strings) w n
+  pub fits : length (treeOut (draftOf version nodes children named definitions items payload strings)) ≤ room
 
 -- the word at which the offsets of the definitions' texts begin
 abbrev pub definitionsAt : Sections → Numbers → ℕ
@@ -74,15 +72,16 @@ pub record ListsAt (s : Sections) (n : Numbers) (text path : ℕ) : Type 0 where
   pub paths : path ≡ n .offsets + length (textUses s (numbering s))
 
 pub record ListsReady (definitions items w : List ℕ) (n : Numbers) (text path : ℕ) (p : Paths) (room : ℕ) : Type 0 where
+  pub version : ℕ
   pub nodes : List ℕ
   pub children : List ℕ
   pub named : List ℕ
   pub payload : List ℕ
   pub strings : List ℕ
-  pub told : Told (draftOf nodes children named definitions items payload strings) w n
-  pub at : ListsAt (draftOf nodes children named definitions items payload strings) n text path
-  pub indexed : Indexed (draftOf nodes children named definitions items payload strings) w p
-  pub fits : length (listsOut (draftOf nodes children named definitions items payload strings)) ≤ room
+  pub told : Told (draftOf version nodes children named definitions items payload strings) w n
+  pub at : ListsAt (draftOf version nodes children named definitions items payload strings) n text path
+  pub indexed : Indexed (draftOf version nodes children named definitions items payload strings) w p
+  pub fits : length (listsOut (draftOf version nodes children named definitions items payload strings)) ≤ room
 
 -- ---- payload and strings
 
@@ -96,14 +95,14 @@ pub record Keyed (s : Sections) (w : List ℕ) (n : Numbers) (t : Tables) : Type
   pub behind : n .offsets + n .offsets ≤ t .at
   pub placed : Placed t (length w)
 
-pub record TextsReady (nodes payload strings w : List ℕ) (n : Numbers) (t : Tables) (room : ℕ) : Type 0 where
+pub record TextsReady (version : ℕ) (nodes payload strings w : List ℕ) (n : Numbers) (t : Tables) (room : ℕ) : Type 0 where
   pub children : List ℕ
   pub named : List ℕ
   pub definitions : List ℕ
   pub items : List ℕ
-  pub told : Told (draftOf nodes children named definitions items payload strings) w n
-  pub keyed : Keyed (draftOf nodes children named definitions items payload strings) w n t
-  pub fits : length (textsOut (draftOf nodes children named definitions items payload strings)) ≤ room
+  pub told : Told (draftOf version nodes children named definitions items payload strings) w n
+  pub keyed : Keyed (draftOf version nodes children named definitions items payload strings) w n t
+  pub fits : length (textsOut (draftOf version nodes children named definitions items payload strings)) ≤ room
 
 -- ---- all of it
 
@@ -125,5 +124,5 @@ pub record Sectioned (s : Sections) (w : List ℕ) (n : Numbers) (t : Tables) (p
   pub texts : t .texts ≡ length (textUses s (numbering s))
   pub indexed : Indexed s w p
   pub keyed : Keyed s w n t
-  pub places : q ≡ placesBy (entriesOf s)
-  pub fits : placesBy (entriesOf s) .end ≤ room
+  pub places : q ≡ placesBy (s .version) (entriesOf s)
+  pub fits : placesBy (s .version) (entriesOf s) .end ≤ room

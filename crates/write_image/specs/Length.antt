@@ -1,25 +1,38 @@
 -- How long an image is, by the entries of its sections, and which image a draft has.
-use Prim.Native.Nat.{ℕ, _+_, _*_}
-use mathlib.Core.List.{List}
+use Prim.Native.Nat.{ℕ, _+_, _*_, _≤_}
 use mathlib.Core.Bool.{cond}
 use lib.ListN.{length}
 use lib.Dec.{leb}
-use Rattle.laws.specs.Lists.{flatMap}
 use Rattle.words.specs.Words.{NONE}
 use Rattle.image.specs.Header.{headerLength}
-use Rattle.image.specs.Sections.{Sections, nodeCount, childCount, namedCount, definitionCount, itemCount}
+use Rattle.image.specs.Sections.{Sections, nodeSize, childSize, textEntrySize, definitionSize, nodeCount, childCount, namedCount, definitionCount, itemCount}
 use Rattle.draft.specs.Numbering.{numbering}
-use Rattle.draft_image.specs.Strings.{byPath, storedTexts}
+use Rattle.write_text_uses.specs.Uses.{storedBytes}
+use Rattle.draft_image.specs.Strings.{byPath}
 use Rattle.image.specs.declared.encoding.EntryCounts.{EntryCounts}
 use Rattle.write_image.specs.declared.Places.{Places}
 use Rattle.write_image.specs.declared.size.Entries.{Entries}
 use Rattle.write_image.specs.declared.size.Size.{Size}
 use Rattle.write_image.specs.declared.size.Size.the-variants.{Bytes, TooLong}
 
+-- header, nodes, children, named children and definitions, by format version
+abbrev pub frontBy : ℕ → Entries → ℕ
+frontBy version e = headerLength + e .nodes * nodeSize version + e .children * childSize + e .named * textEntrySize + e .definitions * definitionSize
+
 -- header and sections
-abbrev pub lengthBy : Entries → ℕ
-lengthBy e =
-    headerLength + 40 * e .nodes + 4 * e .children + 12 * e .named + 16 * e .definitions + 12 * e .items + 12 * e .index + e .payload + e .strings
+abbrev pub lengthBy : ℕ → Entries → ℕ
+lengthBy version e = frontBy version e + e .items * textEntrySize + e .index * textEntrySize + e .payload + e .strings
+
+-- a word can count each of them
+pub record Small (e : Entries) : Type 0 where
+  pub nodes : e .nodes ≤ NONE
+  pub children : e .children ≤ NONE
+  pub named : e .named ≤ NONE
+  pub definitions : e .definitions ≤ NONE
+  pub items : e .items ≤ NONE
+  pub index : e .index ≤ NONE
+  pub payload : e .payload ≤ NONE
+  pub strings : e .strings ≤ NONE
 
 -- the entries as words
 abbrev pub countsBy : Entries → EntryCounts
@@ -36,14 +49,11 @@ countsBy e =
     }
 
 -- where the sections that hold lists begin behind the header, where those that hold texts, and where they end
-abbrev pub placesBy : Entries → Places
-placesBy e =
-    record {
-      lists = 40 * e .nodes + 4 * e .children + 12 * e .named;
-      texts = 40 * e .nodes + 4 * e .children + 12 * e .named + 16 * e .definitions + 12 * e .items + 12 * e .index;
-      end =
-          40 * e .nodes + 4 * e .children + 12 * e .named + 16 * e .definitions + 12 * e .items + 12 * e .index + e .payload + e .strings;
-    }
+abbrev pub placesBy : ℕ → Entries → Places
+placesBy version e =
+    let lists = e .nodes * nodeSize version + e .children * childSize + e .named * textEntrySize in
+    let texts = lists + e .definitions * definitionSize + e .items * textEntrySize + e .index * textEntrySize in
+    record { lists = lists; texts = texts; end = texts + e .payload + e .strings }
 
 -- a number that a word can say, or one more than a word can say
 unfoldable pub capped : ℕ → ℕ
@@ -54,10 +64,6 @@ unfoldable pub sizeOf : ℕ → Size
 sizeOf n = cond (leb n NONE) (Bytes n) TooLong
 
 -- ---- of a draft
-
--- the stored texts, one after the other
-abbrev pub storedBytes : Sections → List ℕ
-storedBytes s = flatMap (λ t. t) (storedTexts s (numbering s))
 
 -- the entries of its image
 abbrev pub entriesOf : Sections → Entries
@@ -74,4 +80,4 @@ entriesOf s =
     }
 
 abbrev pub imageLength : Sections → ℕ
-imageLength s = lengthBy (entriesOf s)
+imageLength s = lengthBy (s .version) (entriesOf s)

@@ -13,12 +13,14 @@ ghost use Rattle.image.specs.Encoding.{bodyOf};
 ghost use Rattle.draft_image.specs.Written.{written};
 ghost use Rattle.draft_image.specs.Encode.{imageFor};
 ghost use Rattle.words.specs.Output.{over};
-ghost use Rattle.write_image.specs.Length.{lengthBy, countsBy, placesBy, imageLength};
+ghost use Rattle.write_image.specs.Length.{lengthBy, Small, countsBy, placesBy, imageLength};
 ghost use Rattle.write_image.specs.Given.{Ready, Sectioned, pathsOf};
 use crate::list_part::put_lists;
 use crate::size::Entries;
+use crate::size::nodes_length;
 use crate::text_part::put_texts;
 use crate::tree_part::put_tree;
+use draft::source::Source;
 use image::ImageView;
 use image::encoding::EntryCounts;
 use image::encoding::put_checksum;
@@ -29,7 +31,7 @@ use write_text_keys::Tables;
 
 // The counts that the header says.
 fn counts_of(entries: Entries) -> EntryCounts
-    requires { ⌜ lengthBy entries ≤ NONE ⌝ }
+    requires { ⌜ Small entries ⌝ }
     ensures { λ r. ⌜ r ≡ countsBy entries ⌝ }
 {
     EntryCounts {
@@ -51,12 +53,17 @@ struct Places {
     end: usize,
 }
 
-fn places_of(entries: Entries) -> Places
-    requires { ⌜ lengthBy entries ≤ NONE ⌝ }
-    ensures { λ r. ⌜ r ≡ placesBy entries ⌝ }
+fn places_of(entries: Entries, source: Source) -> Places
+    requires { ⌜ lengthBy (source .version) entries ≤ NONE ⌝ }
+    ensures { λ r. ⌜ r ≡ placesBy (source .version) entries ⌝ }
 {
-    let lists = 40 * entries.nodes + 4 * entries.children + 12 * entries.named;
-    let texts = lists + 16 * entries.definitions + 12 * entries.items + 12 * entries.index;
+    let lists = nodes_length(entries.nodes, source)
+        + entries.children * ImageView::WORD_BYTES
+        + entries.named * ImageView::TEXT_ENTRY_BYTES;
+    let texts = lists
+        + entries.definitions * ImageView::DEFINITION_BYTES
+        + entries.items * ImageView::TEXT_ENTRY_BYTES
+        + entries.index * ImageView::TEXT_ENTRY_BYTES;
     Places {
         lists,
         texts,
@@ -91,13 +98,19 @@ fn put_sections(
     paths: Paths,
     places: Places,
     out: &mut [u8],
+    source: Source,
 )
-    requires { ⌜ Sectioned (draftOf (now nodes) (now children) (now named) (now definitions) (now items) (now payload) (now strings)) (now work) numbers tables paths places (length (now out)) ⌝ }
-    ensures { λ r. ⌜ now (out .exit) ≡ over (bodyOf (written (draftOf (now (nodes .entry)) (now (children .entry)) (now (named .entry)) (now (definitions .entry)) (now (items .entry)) (now (payload .entry)) (now (strings .entry))))) (now (out .entry)) ⌝ }
+    requires { ⌜ (let s =
+        draftOf (source .version) (now nodes) (now children) (now named) (now definitions) (now items) (now payload) (now strings) in
+        Sectioned s (now work) numbers tables paths places (length (now out))) ⌝ }
+    ensures { λ r. ⌜ (let s =
+        draftOf (source .version) (now (nodes .entry)) (now (children .entry)) (now (named .entry)) (now (definitions .entry)) (now (items .entry))
+        (now (payload .entry)) (now (strings .entry)) in
+        now (out .exit) ≡ over (bodyOf (written s)) (now (out .entry))) ⌝ }
 {
     let at_lists = places.lists;
     let at_texts = places.texts;
-    let text = put_tree(nodes, children, named, payload, work, numbers, out);
+    let text = put_tree(nodes, children, named, payload, work, numbers, out, source);
     let path = numbers.offsets + tables.texts;
     put_lists(
         definitions,
@@ -117,6 +130,7 @@ fn put_sections(
         numbers,
         tables,
         &mut out[at_texts..],
+        source,
     );
 }
 
@@ -135,14 +149,22 @@ pub fn fill(
     tables: Tables,
     entries: Entries,
     out: &mut [u8],
+    source: Source,
 )
-    requires { ⌜ Ready (draftOf (now nodes) (now children) (now named) (now definitions) (now items) (now payload) (now strings)) (now work) numbers tables entries ⌝ }
-    requires { ⌜ imageLength (draftOf (now nodes) (now children) (now named) (now definitions) (now items) (now payload) (now strings)) ≤ length (now out) ⌝ }
-    ensures { λ r. ⌜ now (out .exit) ≡ over (imageFor ink (draftOf (now (nodes .entry)) (now (children .entry)) (now (named .entry)) (now (definitions .entry)) (now (items .entry)) (now (payload .entry)) (now (strings .entry)))) (now (out .entry)) ⌝ }
+    requires { ⌜ (let s =
+        draftOf (source .version) (now nodes) (now children) (now named) (now definitions) (now items) (now payload) (now strings) in
+        Ready s (now work) numbers tables entries) ⌝ }
+    requires { ⌜ (let s =
+        draftOf (source .version) (now nodes) (now children) (now named) (now definitions) (now items) (now payload) (now strings) in
+        imageLength s ≤ length (now out)) ⌝ }
+    ensures { λ r. ⌜ (let s =
+        draftOf (source .version) (now (nodes .entry)) (now (children .entry)) (now (named .entry)) (now (definitions .entry)) (now (items .entry))
+        (now (payload .entry)) (now (strings .entry)) in
+        now (out .exit) ≡ over (imageFor ink s) (now (out .entry))) ⌝ }
 {
-    put_header(ink, counts_of(entries), out);
+    put_header(source.version, ink, counts_of(entries), out);
     let paths = paths_of(tables, entries.index);
-    let places = places_of(entries);
+    let places = places_of(entries, source);
     let header = ImageView::HEADER_LENGTH;
     let end = header + places.end;
     put_sections(
@@ -159,6 +181,7 @@ pub fn fill(
         paths,
         places,
         &mut out[header..],
+        source,
     );
     put_checksum(&mut out[..end]);
 }

@@ -6,6 +6,7 @@ ghost use lib.ListN.{length};
 ghost use Rattle.draft.specs.Source.{draftOf};
 ghost use Rattle.words.specs.Output.{over};
 ghost use Rattle.write_image.specs.Given.{Told, Indexed, ListsAt, ListsReady, listsOut};
+use image::ImageView;
 use write_list_sections::definitions::put_definitions;
 use write_list_sections::definitions::put_items;
 use write_numbering::numbers::Numbers;
@@ -24,12 +25,16 @@ pub fn put_lists(
     out: &mut [u8],
 )
     requires { ⌜ ListsReady (now definitions) (now items) (now work) numbers text path paths (length (now out)) ⌝ }
-    ensures { λ r. ⌜ ((nodes children named payload strings : List ℕ) → Told (draftOf nodes children named (now (definitions .entry)) (now (items .entry)) payload strings) (now (work .entry)) numbers → ListsAt (draftOf nodes children named (now (definitions .entry)) (now (items .entry)) payload strings) numbers text path → Indexed (draftOf nodes children named (now (definitions .entry)) (now (items .entry)) payload strings) (now (work .entry)) paths → now (out .exit) ≡ over (listsOut (draftOf nodes children named (now (definitions .entry)) (now (items .entry)) payload strings)) (now (out .entry))) ⌝ }
+    ensures { λ r. ⌜ ((version : ℕ) (nodes children named payload strings : List ℕ) → let s =
+        draftOf version nodes children named (now (definitions .entry)) (now (items .entry)) payload strings in
+        Told s (now (work .entry)) numbers → ListsAt s numbers text path → Indexed s (now (work .entry)) paths → now (out .exit) ≡ over
+        (listsOut s) (now (out .entry))) ⌝ }
 {
     put_definitions(definitions, work, text, out);
-    let at_items = definitions.len() / 4 * 16;
+    let at_items = definitions.len() / ImageView::DEFINITION_WORDS * ImageView::DEFINITION_BYTES;
     put_items(definitions, items, work, text, &mut out[at_items..]);
-    let at_index = at_items + items.len() / 3 * 12;
+    let at_index = at_items
+        + items.len() / ImageView::TEXT_ENTRY_WORDS * ImageView::TEXT_ENTRY_BYTES;
     let path_numbers = Numbers {
         order: numbers.order,
         new: numbers.new,

@@ -1,7 +1,11 @@
 // How long an image is, by the entries of its sections.
 ghost use mathlib.Core.Path.{_≡_};
 ghost use Prim.Native.Nat.{_+_, _*_, _≤_, _<_};
-ghost use Rattle.write_image.specs.Length.{capped, lengthBy, sizeOf};
+ghost use Rattle.image.specs.Sections.{nodeSize};
+ghost use Rattle.write_image.specs.Length.{capped, frontBy, lengthBy, sizeOf};
+use draft::source::Source;
+use draft::source::node_words;
+use image::ImageView;
 
 // Entries of the sections of an image; of payload and strings, bytes.
 pub struct Entries {
@@ -24,37 +28,54 @@ pub enum Size {
 // One more than a word can say, which stands for every larger number of bytes.
 const MORE: usize = 4294967296;
 
-// Adds a section to a number of bytes.
+// Bytes an entry of payload and strings.
+const PAYLOAD_SIZE: usize = ImageView::PAYLOAD_SIZE as usize;
+
+const STRINGS_SIZE: usize = ImageView::STRINGS_SIZE as usize;
+
+// Adds a section to a number of bytes: no entry has more bytes than the widest node.
 fn add(sum: usize, count: usize, size: usize) -> usize
-    requires { ⌜ (sum ≤ 4294967296) × (0 < size) × (size ≤ 40) ⌝ }
-    ensures { λ r. ⌜ r ≡ capped (sum + size * count) ⌝ }
+    requires { ⌜ (sum ≤ 4294967296) × (0 < size) × (size ≤ 44) ⌝ }
+    ensures { λ r. ⌜ r ≡ capped (sum + count * size) ⌝ }
 {
     if MORE <= count {
         return MORE;
     }
-    let total = sum + size * count;
+    let total = sum + count * size;
     if total < MORE { total } else { MORE }
 }
 
-// Adds the sections of nodes, children, named children and definitions to the header.
-fn front_length(entries: Entries) -> usize
-    ensures { λ r. ⌜ r ≡ capped (88 + 40 * entries .nodes + 4 * entries .children + 12 * entries .named + 16 * entries .definitions) ⌝ }
+// Bytes of so many nodes.
+pub fn nodes_length(count: usize, source: Source) -> usize
+    requires { ⌜ count * nodeSize (source .version) ≤ 18446744073709551615 ⌝ }
+    ensures { λ r. ⌜ r ≡ count * nodeSize (source .version) ⌝ }
 {
-    let nodes = add(88, entries.nodes, 40);
-    let children = add(nodes, entries.children, 4);
-    let named = add(children, entries.named, 12);
-    add(named, entries.definitions, 16)
+    count * (ImageView::WORD_BYTES * node_words(source))
+}
+
+// Adds the sections of nodes, children, named children and definitions to the header.
+fn front_length(entries: Entries, source: Source) -> usize
+    ensures { λ r. ⌜ r ≡ capped (frontBy (source .version) entries) ⌝ }
+{
+    let nodes = add(
+        ImageView::HEADER_LENGTH,
+        entries.nodes,
+        ImageView::WORD_BYTES * node_words(source),
+    );
+    let children = add(nodes, entries.children, ImageView::WORD_BYTES);
+    let named = add(children, entries.named, ImageView::TEXT_ENTRY_BYTES);
+    add(named, entries.definitions, ImageView::DEFINITION_BYTES)
 }
 
 // The length of an image.
-pub fn image_length(entries: Entries) -> Size
-    ensures { λ r. ⌜ r ≡ sizeOf (lengthBy entries) ⌝ }
+pub fn image_length(entries: Entries, source: Source) -> Size
+    ensures { λ r. ⌜ r ≡ sizeOf (lengthBy (source .version) entries) ⌝ }
 {
-    let front = front_length(entries);
-    let items = add(front, entries.items, 12);
-    let index = add(items, entries.index, 12);
-    let payload = add(index, entries.payload, 1);
-    let total = add(payload, entries.strings, 1);
+    let front = front_length(entries, source);
+    let items = add(front, entries.items, ImageView::TEXT_ENTRY_BYTES);
+    let index = add(items, entries.index, ImageView::TEXT_ENTRY_BYTES);
+    let payload = add(index, entries.payload, PAYLOAD_SIZE);
+    let total = add(payload, entries.strings, STRINGS_SIZE);
     if total < MORE {
         Size::Bytes(total as u32)
     } else {

@@ -6,6 +6,7 @@ ghost use lib.ListN.{length};
 ghost use Rattle.draft.specs.Source.{draftOf};
 ghost use Rattle.words.specs.Output.{over};
 ghost use Rattle.write_image.specs.Given.{Told, Keyed, TextsReady, textsOut};
+use draft::source::Source;
 use write_interning::emit;
 use write_list_sections::payload::put_payload;
 use write_numbering::numbers::Numbers;
@@ -20,11 +21,23 @@ pub fn put_texts(
     numbers: Numbers,
     tables: Tables,
     out: &mut [u8],
+    source: Source,
 )
-    requires { ⌜ TextsReady (now nodes) (now payload) (now strings) (now work) numbers tables (length (now out)) ⌝ }
-    ensures { λ r. ⌜ ((children named definitions items : List ℕ) → Told (draftOf (now (nodes .entry)) children named definitions items (now (payload .entry)) (now (strings .entry))) (now (work .entry)) numbers → Keyed (draftOf (now (nodes .entry)) children named definitions items (now (payload .entry)) (now (strings .entry))) (now (work .entry)) numbers tables → now (out .exit) ≡ over (textsOut (draftOf (now (nodes .entry)) children named definitions items (now (payload .entry)) (now (strings .entry)))) (now (out .entry))) ⌝ }
+    requires { ⌜ TextsReady (source .version) (now nodes) (now payload) (now strings) (now work) numbers tables (length (now out)) ⌝ }
+    ensures { λ r. ⌜ ((children named definitions items : List ℕ) → let s =
+        draftOf (source .version) (now (nodes .entry)) children named definitions items (now (payload .entry)) (now (strings .entry)) in
+        Told s (now (work .entry)) numbers → Keyed s (now (work .entry)) numbers tables → now (out .exit) ≡ over (textsOut s)
+        (now (out .entry))) ⌝ }
 {
-    put_payload(nodes, payload, work, numbers.order, numbers.offsets, out);
+    put_payload(
+        nodes,
+        payload,
+        work,
+        numbers.order,
+        numbers.offsets,
+        out,
+        source,
+    );
     let at_strings = payload.len();
     emit(
         nodes,
@@ -33,5 +46,6 @@ pub fn put_texts(
         tables,
         numbers.offsets,
         &mut out[at_strings..],
+        source,
     );
 }

@@ -6,6 +6,10 @@ ghost use lib.ListN.{length};
 ghost use Rattle.draft.specs.Source.{draftOf};
 ghost use Rattle.words.specs.Output.{over};
 ghost use Rattle.write_image.specs.Given.{Told, TreeReady, treeOut, definitionsAt};
+use crate::size::nodes_length;
+use draft::source::Source;
+use draft::source::node_count;
+use image::ImageView;
 use write_numbering::numbers::Numbers;
 use write_tree_sections::children::put_children;
 use write_tree_sections::named::put_named;
@@ -20,19 +24,36 @@ pub fn put_tree(
     work: &[u32],
     numbers: Numbers,
     out: &mut [u8],
+    source: Source,
 ) -> usize
-    requires { ⌜ TreeReady (now nodes) (now children) (now named) (now payload) (now work) numbers (length (now out)) ⌝ }
-    ensures { λ r. ⌜ ((definitions items strings : List ℕ) → Told (draftOf (now (nodes .entry)) (now (children .entry)) (now (named .entry)) definitions items (now (payload .entry)) strings) (now (work .entry)) numbers → (now (out .exit) ≡ over (treeOut (draftOf (now (nodes .entry)) (now (children .entry)) (now (named .entry)) definitions items (now (payload .entry)) strings)) (now (out .entry))) × (r ≡ definitionsAt (draftOf (now (nodes .entry)) (now (children .entry)) (now (named .entry)) definitions items (now (payload .entry)) strings) numbers)) ⌝ }
+    requires { ⌜ TreeReady (source .version) (now nodes) (now children) (now named) (now payload) (now work) numbers (length (now out)) ⌝ }
+    ensures { λ r. ⌜ ((definitions items strings : List ℕ) → let s =
+        draftOf (source .version) (now (nodes .entry)) (now (children .entry)) (now (named .entry)) definitions items (now (payload .entry)) strings in
+        Told s (now (work .entry)) numbers → (now (out .exit) ≡ over (treeOut s) (now (out .entry))) × (r ≡ definitionsAt s numbers)) ⌝ }
 {
-    let text = put_nodes(nodes, payload, work, numbers, out);
-    let at_children = nodes.len() / 10 * 40;
-    put_children(nodes, children, work, numbers, &mut out[at_children..]);
-    let at_named = at_children + children.len() * 4;
+    let text = put_nodes(nodes, payload, work, numbers, out, source);
+    let at_children = nodes_length(node_count(nodes, source), source);
+    put_children(
+        nodes,
+        children,
+        work,
+        numbers,
+        &mut out[at_children..],
+        source,
+    );
+    let at_named = at_children + children.len() * ImageView::WORD_BYTES;
     let named_numbers = Numbers {
         order: numbers.order,
         new: numbers.new,
         offsets: text,
     };
-    put_named(nodes, named, work, named_numbers, &mut out[at_named..]);
-    text + named.len() / 3
+    put_named(
+        nodes,
+        named,
+        work,
+        named_numbers,
+        &mut out[at_named..],
+        source,
+    );
+    text + named.len() / ImageView::TEXT_ENTRY_WORDS
 }

@@ -17,7 +17,7 @@ use Rattle.draft_image.proofs.Joins.{sum-const, join-same, join-length}
 use Rattle.draft_image.proofs.Offsets.{offset-first, offsets-right, offsets-part}
 use Rattle.tree.proofs.Members.{sum-ext}
 use Rattle.write_numbering.proofs.DraftWords.{text-length}
-use Rattle.write_list_sections.specs.Entered.{textsBefore, itemsBefore, definitionWords, itemWords, itemsWords}
+use Rattle.write_list_sections.specs.Entered.{textsBefore, itemsBefore, definitionEntry, itemWords, itemsWords}
 
 -- ---- joined parts
 
@@ -82,8 +82,8 @@ module _ (s : Sections) (order : List ℕ) (kept : List (List ℕ)) (w : List �
         ∙ offset-first kept w (here + 1 + sumOf i (λ m. 1)) (itemTextOf s d i) []
         (offsets-part kept w (here + 1) (numberOfItems s d) (λ j. itemTextOf s d j ∷ []) tail i k)
 
-    definition-written : definitionWords (s .definitions) w at d ≡ definitionOut s order kept d
-    unfolding definitionWords definitionOut definitionWord
+    definition-written : definitionEntry (s .definitions) w at d ≡ definitionOut s order kept d
+    unfolding definitionEntry definitionOut definitionWord
     definition-written =
         let size = text-length s (definitionWord s d 0) (definitionWord s d 1) (t .definitions d h .0) in
         λ j. definition-offset j ∷ size j ∷ definitionWord s d 2 ∷ definitionWord s d 3 ∷ []
@@ -101,8 +101,8 @@ module _ (s : Sections) (order : List ℕ) (kept : List (List ℕ)) (w : List �
         join-same (numberOfItems s d) (itemWords (s .items) w (here + 1) (firstItem s d)) (λ i. itemOut s order kept (itemsSum s d + i))
         (λ i k. item-written i k ∙ ap (λ (m : ℕ). itemOut s order kept (m + i)) (items-start s t d h))
 
-  pub definitions-are : joinOf (definitionCount s) (definitionWords (s .definitions) w at) ≡ joinOf (definitionCount s) (definitionOut s order kept)
-  definitions-are = join-same (definitionCount s) (definitionWords (s .definitions) w at) (definitionOut s order kept) definition-written
+  pub definitions-are : joinOf (definitionCount s) (definitionEntry (s .definitions) w at) ≡ joinOf (definitionCount s) (definitionOut s order kept)
+  definitions-are = join-same (definitionCount s) (definitionEntry (s .definitions) w at) (definitionOut s order kept) definition-written
 
   pub items-are : joinOf (definitionCount s) (itemsWords (s .definitions) (s .items) w at) ≡ joinOf (itemCount s) (itemOut s order kept)
   items-are =

@@ -10,6 +10,7 @@ use Rattle.laws.specs.Counted.{sumOf, joinOf}
 use Rattle.words.specs.Words.{wordIn}
 use Rattle.image.specs.declared.NodeRecord.{NodeRecord}
 use Rattle.image.specs.Entries.{recordOf}
+use Rattle.image.specs.Sections.{textEntryWords, definitionWords, nodeWords}
 use Rattle.words.specs.Output.{putAt}
 use Rattle.write_tree_sections.specs.Encoded.{textCount, optionalOffset}
 use Rattle.write_tree_sections.specs.Summed.{usedBy}
@@ -18,25 +19,25 @@ use Rattle.write_tree_sections.specs.Summed.{usedBy}
 
 -- how many texts the definitions before d have, with those of their items
 unfoldable pub textsBefore : List ℕ → ℕ → ℕ
-textsBefore definitions d = sumOf d (λ e. 1 + getD definitions (e * 4 + 3) 0)
+textsBefore definitions d = sumOf d (λ e. 1 + getD definitions (e * definitionWords + 3) 0)
 
 -- how many items they have
 unfoldable pub itemsBefore : List ℕ → ℕ → ℕ
-itemsBefore definitions d = sumOf d (λ e. getD definitions (e * 4 + 3) 0)
+itemsBefore definitions d = sumOf d (λ e. getD definitions (e * definitionWords + 3) 0)
 
 -- definition d
-unfoldable pub definitionWords : List ℕ → List ℕ → ℕ → ℕ → List ℕ
-definitionWords definitions w at d =
-    getD w (at + textsBefore definitions d) 0 ∷ getD definitions (d * 4 + 1) 0 ∷ getD definitions (d * 4 + 2) 0 ∷ getD definitions (d * 4 + 3) 0 ∷ []
+unfoldable pub definitionEntry : List ℕ → List ℕ → ℕ → ℕ → List ℕ
+definitionEntry definitions w at d =
+    getD w (at + textsBefore definitions d) 0 ∷ getD definitions (d * definitionWords + 1) 0 ∷ getD definitions (d * definitionWords + 2) 0 ∷ getD definitions (d * definitionWords + 3) 0 ∷ []
 
 -- item i, counted from the first one of a definition
 unfoldable pub itemWords : List ℕ → List ℕ → ℕ → ℕ → ℕ → List ℕ
-itemWords items w at first i = getD w (at + i) 0 ∷ getD items ((first + i) * 3 + 1) 0 ∷ getD items ((first + i) * 3 + 2) 0 ∷ []
+itemWords items w at first i = getD w (at + i) 0 ∷ getD items ((first + i) * textEntryWords + 1) 0 ∷ getD items ((first + i) * textEntryWords + 2) 0 ∷ []
 
 -- the items of definition d
 unfoldable pub itemsWords : List ℕ → List ℕ → List ℕ → ℕ → ℕ → List ℕ
 itemsWords definitions items w at d =
-    joinOf (getD definitions (d * 4 + 3) 0) (itemWords items w (at + textsBefore definitions d + 1) (getD definitions (d * 4 + 2) 0))
+    joinOf (getD definitions (d * definitionWords + 3) 0) (itemWords items w (at + textsBefore definitions d + 1) (getD definitions (d * definitionWords + 2) 0))
 
 -- ---- payload: the offset of a list's first text is word `text`
 
@@ -71,15 +72,15 @@ unfoldable pub nodeListWords : List ℕ → List ℕ → ℕ → NodeRecord → 
 nodeListWords payload w text r = cond (eqb (r .tag) 12) (listWords payload w text (r .f0)) []
 
 -- those of the image's node j: the draft's numbers of the nodes lie from word `order` on, the offsets of their texts from `offsets` on
-unfoldable pub payloadWords : List ℕ → List ℕ → List ℕ → ℕ → ℕ → ℕ → List ℕ
-payloadWords nodes payload w order offsets j =
-    nodeListWords payload w (offsets + usedBy nodes w order payload j) (recordOf nodes (getD w (order + j) 0))
+unfoldable pub payloadWords : ℕ → List ℕ → List ℕ → List ℕ → ℕ → ℕ → ℕ → List ℕ
+payloadWords version nodes payload w order offsets j =
+    nodeListWords payload w (offsets + usedBy version nodes w order payload j) (recordOf version nodes (getD w (order + j) 0))
 
 -- numbers of nodes are there, and an offset for each text
-pub record PayloadFits (nodes payload w : List ℕ) (order offsets : ℕ) : Type 0 where
-  pub olds : (j : ℕ) → j < length nodes / 10 → getD w (order + j) 0 < length nodes / 10
-  pub order-end : order + length nodes / 10 ≤ length w
-  pub texts : offsets + usedBy nodes w order payload (length nodes / 10) ≤ length w
+pub record PayloadFits (version : ℕ) (nodes payload w : List ℕ) (order offsets : ℕ) : Type 0 where
+  pub olds : (j : ℕ) → j < length nodes / nodeWords version → getD w (order + j) 0 < length nodes / nodeWords version
+  pub order-end : order + length nodes / nodeWords version ≤ length w
+  pub texts : offsets + usedBy version nodes w order payload (length nodes / nodeWords version) ≤ length w
 
 -- words were written from `at` on, and end at r
 pub record PutWords (ws out₀ out : List ℕ) (at r : ℕ) : Type 0 where

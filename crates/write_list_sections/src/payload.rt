@@ -1,20 +1,18 @@
 // Section 6: the payload of the lists, each at its node's turn, with the offsets of its texts in the image.
 ghost use mathlib.Core.Path.{_≡_};
-ghost use mathlib.Core.List.{List};
-ghost use Prim.Native.Nat.{ℕ, _+_, _*_, _/_, _≤_};
+ghost use Prim.Native.Nat.{_+_, _*_, _/_, _≤_};
 ghost use lib.ListN.{length};
 ghost use Rattle.laws.specs.Counted.{joinOf};
-ghost use Rattle.image.specs.Header.{nodeWords};
-ghost use Rattle.image.specs.Sections.{Sections, nodeCount};
-ghost use Rattle.draft.specs.Draft.{tablesRule};
-ghost use Rattle.draft.specs.Numbering.{oldOf};
-ghost use Rattle.draft_image.specs.Ready.{OldsAt, OffsetsAt, nodeUses};
-ghost use Rattle.draft_image.specs.Written.{payloadOut};
-ghost use Rattle.words.specs.Output.{over, putAt};
+ghost use Rattle.words.specs.Output.{putAt};
 ghost use Rattle.write_tree_sections.specs.Encoded.{listTextsIn, textsBy};
 ghost use Rattle.records.specs.Fields.{kindOf};
 ghost use Rattle.write_list_sections.specs.Entered.{itemTexts, listItemWords, listOriginWords, listWords, nodeListWords, payloadWords, PayloadFits, PutWords};
+ghost use Rattle.write_list_sections.specs.Put.{PayloadPut};
+ghost use Rattle.image.specs.Sections.{nodeWords};
+use draft::source::Source;
 use draft::source::node_at;
+use draft::source::node_count;
+use draft::source::payload_get;
 use draft::source::word;
 use image::NodeRecord;
 use words::output::put_words;
@@ -34,7 +32,8 @@ fn put_list_items(
 ) -> usize
     requires { ⌜ text + itemTexts (now payload) start count ≤ length (now w) ⌝ }
     requires { ⌜ at + 20 * count ≤ length (now out) ⌝ }
-    ensures { λ r. ⌜ (now (out .exit) ≡ putAt (now (out .entry)) at (joinOf count (listItemWords (now (payload .entry)) (now (w .entry)) text start))) × (r ≡ text + itemTexts (now (payload .entry)) start count) ⌝ }
+    ensures { λ r. ⌜ (let items = listItemWords (now (payload .entry)) (now (w .entry)) text start in
+        (now (out .exit) ≡ putAt (now (out .entry)) at (joinOf count items)) × (r ≡ text + itemTexts (now (payload .entry)) start count)) ⌝ }
 {
     let first = start as usize + 8;
     let all = count as usize;
@@ -43,14 +42,14 @@ fn put_list_items(
     let mut j = 0;
     while j < all {
         let item = first + j * 20;
-        let origin = words::get(payload, item);
+        let origin = payload_get(payload, item);
         let name = k + text_count(origin);
         let words = [
             optional_offset(w, k, origin),
-            words::get(payload, item + 4),
+            payload_get(payload, item + 4),
             word(w, name),
-            words::get(payload, item + 12),
-            words::get(payload, item + 16),
+            payload_get(payload, item + 12),
+            payload_get(payload, item + 16),
         ];
         put_words(out, place, &words);
         k = name + 1;
@@ -72,7 +71,8 @@ fn put_list_origins(
     at: usize,
 )
     requires { ⌜ (text + count ≤ length (now w)) × (at + 8 * count ≤ length (now out)) ⌝ }
-    ensures { λ r. ⌜ now (out .exit) ≡ putAt (now (out .entry)) at (joinOf count (listOriginWords (now (payload .entry)) (now (w .entry)) text (start + 8 + items * 20))) ⌝ }
+    ensures { λ r. ⌜ (let origins = listOriginWords (now (payload .entry)) (now (w .entry)) text (start + 8 + items * 20) in
+        now (out .exit) ≡ putAt (now (out .entry)) at (joinOf count origins)) ⌝ }
 {
     let first = start as usize + 8 + items as usize * 20;
     let all = count as usize;
@@ -81,7 +81,7 @@ fn put_list_origins(
     while j < all {
         let origin = first + j * 8;
         let offset = word(w, text + j);
-        let len = words::get(payload, origin + 4);
+        let len = payload_get(payload, origin + 4);
         let words = [offset, len];
         put_words(out, place, &words);
         place += 8;
@@ -96,8 +96,8 @@ fn put_list(payload: &[u8], start: u32, w: &[u32], text: usize, out: &mut [u8], 
     ensures { λ r. ⌜ PutWords (listWords (now (payload .entry)) (now (w .entry)) text start) (now (out .entry)) (now (out .exit)) at r ⌝ }
 {
     let first = start as usize;
-    let items = words::get(payload, first);
-    let origins = words::get(payload, first + 4);
+    let items = payload_get(payload, first);
+    let origins = payload_get(payload, first + 4);
     let head = [items, origins];
     put_words(out, at, &head);
     let behind = put_list_items(payload, start, items, w, text, out, at + 8);
@@ -134,17 +134,19 @@ pub fn put_payload(
     order: usize,
     offsets: usize,
     out: &mut [u8],
+    source: Source,
 )
-    requires { ⌜ PayloadFits (now nodes) (now payload) (now w) order offsets ⌝ }
-    requires { ⌜ 4 * length (joinOf (length (now nodes) / 10) (payloadWords (now nodes) (now payload) (now w) order offsets)) ≤ length (now out) ⌝ }
-    ensures { λ r. ⌜ ((s : Sections) (olds : List ℕ) (kept : List (List ℕ)) → s .nodes ≡ now (nodes .entry) → s .stride ≡ nodeWords → s .payload ≡ now (payload .entry) → tablesRule s ≡ 0 → OldsAt olds (now (w .entry)) (nodeCount s) order → OffsetsAt kept (nodeUses s olds) (now (w .entry)) offsets → now (out .exit) ≡ over (joinOf (nodeCount s) (λ j. payloadOut s olds kept (oldOf olds j))) (now (out .entry))) ⌝ }
+    requires { ⌜ PayloadFits (source .version) (now nodes) (now payload) (now w) order offsets ⌝ }
+    requires { ⌜ (let words = payloadWords (source .version) (now nodes) (now payload) (now w) order offsets in
+        4 * length (joinOf (length (now nodes) / nodeWords (source .version)) words) ≤ length (now out)) ⌝ }
+    ensures { λ r. ⌜ PayloadPut (source .version) (now (nodes .entry)) (now (payload .entry)) (now (w .entry)) order offsets (now (out .entry)) (now (out .exit)) ⌝ }
 {
-    let count = nodes.len() / 10;
+    let count = node_count(nodes, source);
     let mut text = offsets;
     let mut at = 0;
     let mut j = 0;
     while j < count {
-        let node = node_at(nodes, word(w, order + j) as usize);
+        let node = node_at(nodes, word(w, order + j) as usize, source);
         at = put_node(node, payload, w, text, out, at);
         text += texts_of(node, payload);
         j += 1;

@@ -1,11 +1,11 @@
 -- From step to step of the plan: what each step asks, and what all of them come to.
-use Prim.Native.Nat.{ℕ, zero, suc, _+_, _*_, _-_, _^_, _/_, _≤_, _<_}
+use Prim.Native.Nat.{ℕ, zero, suc, _+_, _*_, _-_, _≤_, _<_}
 use mathlib.Core.Path.{_≡_, refl, sym, ap, _∙_}
-use mathlib.Core.Logic.{_⊎_, inl, inr, ⊎-elim}
-use mathlib.Core.List.{List, [], _∷_, _++_}
+use mathlib.Core.Logic.{inl, inr}
+use mathlib.Core.List.{List, [], _++_}
 use mathlib.Core.Bool.{Bool, true, false}
 use native.Mathlib.Omega.{arith}
-use lib.ListN.{length, getD, take, drop, length-drop}
+use lib.ListN.{length, getD, drop, length-drop}
 use lib.Seq.{getD-take, getD-drop, length-take-le, ext-getD}
 use lib.Dec.{leb}
 use borrow.Author.Tests.{le-leb, lt-leb, ne-eqb}
@@ -13,40 +13,36 @@ use Rattle.laws.specs.Refusal.{unless, _▸_}
 use Rattle.laws.specs.Counted.{sumOf}
 use Rattle.laws.proofs.First.{first, second, pass, fail}
 use Rattle.words.specs.Words.{NONE}
-use Rattle.texts.specs.Text.{before}
-use Rattle.image.specs.Header.{nodeWords}
-use Rattle.image.specs.Sections.{Sections, nodeCount, childCount, namedCount, nodeWord}
+use Rattle.image.specs.Sections.{Sections, nodeCount, nodeWord}
 use Rattle.records.specs.Records.{listWord, containerOf}
 use Rattle.tree.specs.Tree.{readWalk, allSeen}
 use Rattle.tree.specs.Work.{treeWords}
 use Rattle.tree.specs.Parts.{Fit}
-use Rattle.tree.proofs.Numbers.{EachOnce, get-below}
+use Rattle.tree.proofs.Numbers.{get-below}
 use Rattle.draft.specs.Draft.{tablesRule, writeWords, reachRule, shapeRule, pathsRule}
-use Rattle.draft.specs.Source.{draftOf}
+use Rattle.draft.specs.Source.{draftOf, nodesOnly}
 use Rattle.draft.specs.Numbering.{numbering, oldOf}
-use Rattle.draft.proofs.Rules.{tables, whole, tables-fit}
-use Rattle.draft_image.specs.Strings.{uses, byPath, pathOf, storedTexts, distinct, offsetOf}
-use Rattle.draft_image.specs.Ready.{OldsAt, NewsAt, OffsetsAt, textUses}
+use Rattle.draft.proofs.Rules.{tables, tables-fit}
+use Rattle.draft_image.specs.Strings.{uses, byPath, storedTexts, distinct, offsetOf}
+use Rattle.draft_image.specs.Ready.{OldsAt, NewsAt, textUses}
 use Rattle.write_numbering.specs.Work.{treeOf, Leads, Numbered}
 use Rattle.write_numbering.proofs.WholeDraft.{whole-seen, fit-tree, leads-tree, numbered-whole}
-use Rattle.write_text_uses.specs.Uses.{useWords, usesMost, wordsFrom, withWords, nodesOnly, Readable, Collectable, Collected}
+use Rattle.write_text_uses.specs.Uses.{useWords, usesMost, wordsFrom, withWords, Readable, Collectable, Collected, storedBytes}
 use Rattle.write_text_uses.proofs.Fits.{uses-length, readable}
 use Rattle.write_text_uses.proofs.Bounds.{uses-bound, olds-below}
 use Rattle.write_text_uses.proofs.AllUses.{uses-are}
-use Rattle.write_text_keys.specs.declared.Tables.{Tables}
-use Rattle.write_text_keys.specs.Keys.{keyOf, keyIn, longOf}
-use Rattle.write_interning.specs.Uses.{storedOf, joined, Offsets, textsOf, RisesFrom}
+use Rattle.write_text_keys.specs.Keys.{keyOf, longOf}
+use Rattle.write_interning.specs.Uses.{storedOf, joined, Offsets, RisesFrom}
 use Rattle.write_sorting.specs.Sorted.{byKey}
 use Rattle.write_paths.specs.declared.Indexed.{Indexed}
 use Rattle.write_paths.specs.declared.Indexed.the-variants as indexed
-use Rattle.write_paths.specs.Arranged.{Rooted, indexedOf, Indexes}
-use Rattle.write_plan.specs.declared.Layout.{Layout}
+use Rattle.write_paths.specs.Arranged.{indexedOf, Indexes}
 use Rattle.write_plan.specs.declared.Uses.{Uses}
 use Rattle.write_plan.specs.declared.Plan.{Plan}
 use Rattle.write_plan.specs.declared.Plan.the-variants.{Ready, Refused}
-use Rattle.write_plan.specs.Planned.{layoutOf, storedBytes, planRule, Prepared, PlanOf, StoredPlan}
+use Rattle.write_plan.specs.Planned.{layoutOf, planRule, Prepared, PlanOf, StoredPlan}
 use Rattle.write_paths.proofs.NodeList.{same-later}
-use Rattle.write_plan.proofs.Premises.{once, rooted}
+use Rattle.write_plan.proofs.Premises.{once}
 use Rattle.write_plan.proofs.UseTexts.{texts-same, uses-long, tables-put, put-behind, boxes-long, boxes′, longs′, key-use, paths-rise}
 
 -- ---- refusals on the way
@@ -103,34 +99,31 @@ indexed-refused (suc r) n k e =
 
 -- ---- what each step asks
 
-nodes-readable : (ns cs ms ds is ps ss order : List ℕ) → Readable (draftOf ns cs ms ds is ps ss) order → Readable (nodesOnly ns ps) order
+nodes-readable : (version : ℕ) (ns cs ms ds is ps ss order : List ℕ) → Readable (draftOf version ns cs ms ds is ps ss) order → Readable (nodesOnly version ns ps) order
 unfolding nodeWord listWord
 nodes-readable ns cs ms ds is ps ss order k = record { olds = k .olds; lists = k .lists }
 
-module _ (ns cs ms ds is ps ss : List ℕ) (p : tablesRule (draftOf ns cs ms ds is ps ss) ≡ 0) where
+module _ (version : ℕ) (ns cs ms ds is ps ss : List ℕ) (p : tablesRule (draftOf version ns cs ms ds is ps ss) ≡ 0) where
   abbrev s : Sections
-  s = draftOf ns cs ms ds is ps ss
+  s = draftOf version ns cs ms ds is ps ss
 
   abbrev n : ℕ
   n = nodeCount s
 
-  pub number-fit : Fit (treeOf ns cs ms)
-  number-fit = fit-tree ns cs ms ds is ps ss (tables-fit s (tables s p))
+  pub number-fit : Fit (treeOf version ns cs ms)
+  number-fit = fit-tree version ns cs ms ds is ps ss (tables-fit s (tables s p))
 
-  pub number-leads : Leads (treeOf ns cs ms)
-  number-leads = leads-tree ns cs ms ds is ps ss (record { child = tables s p .children; named = tables s p .named-nodes })
+  pub number-leads : Leads (treeOf version ns cs ms)
+  number-leads = leads-tree version ns cs ms ds is ps ss (record { child = tables s p .children; named = tables s p .named-nodes })
 
-  pub number-low : treeWords (treeOf ns cs ms) ≤ layoutOf s .order
+  pub number-low : treeWords (treeOf version ns cs ms) ≤ layoutOf s .order
   number-low = omega (arith, tables s p .some)
 
   pub number-room : layoutOf s .order + 2 * n ≤ writeWords s
   number-room = omega arith
 
-  pub seen-whole : (b : Bool) → b ≡ allSeen (treeOf ns cs ms) (readWalk (treeOf ns cs ms) .seen) → b ≡ allSeen s (readWalk s .seen)
-  seen-whole b e = e ∙ whole-seen ns cs ms ds is ps ss
-
-  pub nodes-whole : length ns ≡ n * 10
-  nodes-whole = whole s p refl .nodes
+  pub seen-whole : (b : Bool) → b ≡ allSeen (treeOf version ns cs ms) (readWalk (treeOf version ns cs ms) .seen) → b ≡ allSeen s (readWalk s .seen)
+  seen-whole b e = e ∙ whole-seen version ns cs ms ds is ps ss
 
   -- the tables lie behind the sorted words, one after the other, and before the numbers
   pub record Laid : Type 0 where
@@ -142,9 +135,9 @@ module _ (ns cs ms ds is ps ss : List ℕ) (p : tablesRule (draftOf ns cs ms ds 
   pub laid : Laid
   laid = record { sort = omega arith; lists = omega arith; sizes = omega arith; numbers = omega arith }
 
-  module _ (q : reachRule s ≡ 0) (w₁ : List ℕ) (long : length w₁ ≡ writeWords s) (marks : Numbered (treeOf ns cs ms) (layoutOf s .order) w₁) where
+  module _ (q : reachRule s ≡ 0) (w₁ : List ℕ) (long : length w₁ ≡ writeWords s) (marks : Numbered (treeOf version ns cs ms) (layoutOf s .order) w₁) where
     numbers : Numbered s (layoutOf s .order) w₁
-    numbers = numbered-whole ns cs ms ds is ps ss (layoutOf s .order) w₁ marks
+    numbers = numbered-whole version ns cs ms ds is ps ss (layoutOf s .order) w₁ marks
 
     pub few-nodes : n ≤ 4294967295
     few-nodes = numbers .few
@@ -153,7 +146,7 @@ module _ (ns cs ms ds is ps ss : List ℕ) (p : tablesRule (draftOf ns cs ms ds 
     olds-known = numbers .olds
 
     pub olds-in : (j : ℕ) → j < n → getD w₁ (layoutOf s .order + j) 0 < n
-    olds-in j h = rw (numbers .olds j h) (get-below (once s refl p q) j h)
+    olds-in j h = rw (numbers .olds j h) (get-below (once s p q) j h)
 
     news-known : NewsAt (numbering s) w₁ n (layoutOf s .new)
     news-known i h =
@@ -176,7 +169,7 @@ module _ (ns cs ms ds is ps ss : List ℕ) (p : tablesRule (draftOf ns cs ms ds 
 
       order-words : wordsFrom w₂ (layoutOf s .order) n ≡ numbering s
       order-words =
-          ext-getD 0 (wordsFrom w₂ (layoutOf s .order) n) (numbering s) (long-order ∙ sym (once s refl p q .len))
+          ext-getD 0 (wordsFrom w₂ (layoutOf s .order) n) (numbering s) (long-order ∙ sym (once s p q .len))
           (λ j h. let k : j < n = omega (arith, long-order) in
           getD-take n (drop (layoutOf s .order) w₂) j 0 k ∙ getD-drop (layoutOf s .order) w₂ j 0 ∙ late (layoutOf s .order + j) (omega arith) ∙ olds-known j k)
         where
@@ -185,15 +178,15 @@ module _ (ns cs ms ds is ps ss : List ℕ) (p : tablesRule (draftOf ns cs ms ds 
               length-take-le n (drop (layoutOf s .order) w₂) (omega (arith, length-drop (layoutOf s .order) w₂, long, long₂, laid .numbers))
 
       bound : length (textUses s (numbering s)) + found ≤ usesMost s
-      bound = omega (arith, uses-bound s (numbering s) p (once s refl p q), found-all, boxes-count)
+      bound = omega (arith, uses-bound s (numbering s) p (once s p q), found-all, boxes-count)
         where
           boxes-count : length (byPath s (numbering s)) ≡ sumOf n (containerOf s)
-          boxes-count = boxes-long s refl p q free
+          boxes-count = boxes-long s p q free
 
-      uses-same : useWords (draftOf ns [] ms ds is ps []) (numbering s) ≡ useWords s (numbering s)
-      uses-same = uses-are ns [] ms ds is ps [] (numbering s) ∙ sym (uses-are ns cs ms ds is ps ss (numbering s))
+      uses-same : useWords (draftOf version ns [] ms ds is ps []) (numbering s) ≡ useWords s (numbering s)
+      uses-same = uses-are version ns [] ms ds is ps [] (numbering s) ∙ sym (uses-are version ns cs ms ds is ps ss (numbering s))
 
-      pub collect-asks : Collectable ns ms ds is ps w₂ (layoutOf s .order) (layoutOf s .at)
+      pub collect-asks : Collectable version ns ms ds is ps w₂ (layoutOf s .order) (layoutOf s .at)
       collect-asks =
           record {
             read = rw order-words read-nodes;
@@ -201,10 +194,10 @@ module _ (ns cs ms ds is ps ss : List ℕ) (p : tablesRule (draftOf ns cs ms ds 
             below = rw (order-words, uses-same) (omega (arith, uses-length s (numbering s), bound, laid .sizes));
           }
         where
-          read-nodes : Readable (nodesOnly ns ps) (numbering s)
+          read-nodes : Readable (nodesOnly version ns ps) (numbering s)
           read-nodes =
-              let known = readable s (tables s p) (numbering s) (olds-below s (numbering s) p (once s refl p q)) in
-              nodes-readable ns cs ms ds is ps ss (numbering s) known
+              let known = readable s (tables s p) (numbering s) (olds-below s (numbering s) p (once s p q)) in
+              nodes-readable version ns cs ms ds is ps ss (numbering s) known
 
       -- the uses are collected
       module _ (w₃ : List ℕ) (texts : ℕ) (long₃ : length w₃ ≡ length w₂)
@@ -230,18 +223,18 @@ module _ (ns cs ms ds is ps ss : List ℕ) (p : tablesRule (draftOf ns cs ms ds 
         tab = drop (layoutOf s .at) w₂
 
         abbrev key : ℕ → List ℕ
-        key = keyOf ns ss texts (layoutOf s .paths) (layoutOf s .lengths) (drop (layoutOf s .at) w₃)
+        key = keyOf version ns ss texts (layoutOf s .paths) (layoutOf s .lengths) (drop (layoutOf s .at) w₃)
 
         key-now : (a : ℕ) → a < texts + found → key a ≡ getD (uses s (numbering s)) a []
         key-now a h =
             rw (texts-all, tables-now)
-            (key-use s refl p q r free (layoutOf s .paths) (layoutOf s .lengths) text-room (omega arith) (drop (layoutOf s .at) w₂) (sorted .boxes free) (sorted .lengths free) a
+            (key-use s p q r free (layoutOf s .paths) (layoutOf s .lengths) text-room (omega arith) (drop (layoutOf s .at) w₂) (sorted .boxes free) (sorted .lengths free) a
             (omega (arith, texts-all, found-all)))
 
         pub store-rises : RisesFrom (byKey key) texts (texts + found)
         store-rises a l h =
             rw (texts-all, tables-now)
-            (paths-rise s refl p q r free (layoutOf s .paths) (layoutOf s .lengths) text-room (omega arith) (drop (layoutOf s .at) w₂) (sorted .boxes free) (sorted .lengths free) a
+            (paths-rise s p q r free (layoutOf s .paths) (layoutOf s .lengths) text-room (omega arith) (drop (layoutOf s .at) w₂) (sorted .boxes free) (sorted .lengths free) a
             (omega (arith, texts-all)) (omega (arith, texts-all, found-all)))
 
         -- the texts are stored
@@ -293,16 +286,16 @@ module _ (ns cs ms ds is ps ss : List ℕ) (p : tablesRule (draftOf ns cs ms ds 
                 keys =
                     λ a h.
                     let l : a < texts + found = omega (arith, ut, up) in
-                    rw ut (ap (λ (tab : List ℕ). keyOf ns ss texts (layoutOf s .paths) (layoutOf s .lengths) tab a) kept ∙ key-now a l);
+                    rw ut (ap (λ (tab : List ℕ). keyOf version ns ss texts (layoutOf s .paths) (layoutOf s .lengths) tab a) kept ∙ key-now a l);
                 boxes =
                     λ k h.
                     ap (λ (tab : List ℕ). getD tab (layoutOf s .paths + k) 0) tables-last
-                    ∙ boxes′ s refl p q r free (layoutOf s .paths) (layoutOf s .lengths) text-room (omega arith) (drop (layoutOf s .at) w₂) (sorted .boxes free)
+                    ∙ boxes′ s p q r free (layoutOf s .paths) (layoutOf s .lengths) text-room (omega arith) (drop (layoutOf s .at) w₂) (sorted .boxes free)
                     (sorted .lengths free) k (omega (arith, up, found-all));
                 lengths =
                     λ k h.
                     ap (λ (tab : List ℕ). longOf (layoutOf s .lengths) tab (oldOf (numbering s) (getD (byPath s (numbering s)) k 0))) tables-last
-                    ∙ longs′ s refl p q r free (layoutOf s .paths) (layoutOf s .lengths) text-room (omega arith) (drop (layoutOf s .at) w₂) (sorted .boxes free)
+                    ∙ longs′ s p q r free (layoutOf s .paths) (layoutOf s .lengths) text-room (omega arith) (drop (layoutOf s .at) w₂) (sorted .boxes free)
                     (sorted .lengths free) k (omega (arith, up, found-all));
               }
 

@@ -1,13 +1,7 @@
 -- What the rules have shown of a draft, in the form that each step asks for.
-use Prim.Native.Nat.{ℕ, zero, suc, _+_, _*_, _-_, _%_, _≤_, _<_}
-use mathlib.Core.Path.{_≡_, refl, sym, ap, _∙_}
-use mathlib.Core.List.{List}
-use mathlib.Core.Bool.{Bool, true}
-use native.Mathlib.Omega.{arith}
-use lib.ListN.{length, getD}
-use Rattle.laws.specs.Lists.{has}
-use Rattle.image.specs.Header.{nodeWords}
-use Rattle.image.specs.Sections.{Sections, nodeCount, f, isContainer, goodOptional}
+use Prim.Native.Nat.{_-_}
+use mathlib.Core.Path.{_≡_}
+use Rattle.image.specs.Sections.{Sections, nodeCount}
 use Rattle.records.proofs.PassedRules.{ranges}
 use Rattle.tree.specs.Tree.{readWalk}
 use Rattle.tree.specs.Reach.{Reached}
@@ -17,12 +11,12 @@ use Rattle.tree.proofs.PlainTree.{right-tree}
 use Rattle.tree.proofs.ParentSteps.{tree-climbs}
 use Rattle.draft.specs.Draft.{tablesRule, reachRule, shapeRule}
 use Rattle.draft.specs.Numbering.{numbering}
-use Rattle.draft.proofs.Rules.{Tables, tables, whole, entries-counts, Shape, shape}
+use Rattle.draft.proofs.Rules.{tables, whole, entries-counts, shape}
 use Rattle.draft.proofs.ReachedNodes.{reached, numbered}
 use Rattle.write_paths.specs.Listed.{Renumbers}
 use Rattle.write_paths.specs.Arranged.{Rooted}
 
-module _ (s : Sections) (z : s .stride ≡ nodeWords) (p : tablesRule s ≡ 0) (q : reachRule s ≡ 0) where
+module _ (s : Sections) (p : tablesRule s ≡ 0) (q : reachRule s ≡ 0) where
   -- the numbering has each node once
   pub once : EachOnce (nodeCount s) (numbering s)
   once = numbered s (tables s p) (reached s q)
@@ -34,7 +28,7 @@ module _ (s : Sections) (z : s .stride ≡ nodeWords) (p : tablesRule s ≡ 0) (
   pub rooted : shapeRule s ≡ 0 → Rooted s (numbering s)
   rooted r =
       record {
-        whole = by-ten (s .nodes) (nodeCount s) (whole s p z .nodes);
+        whole = whole s p .nodes;
         numbers = renumbers;
         climbs =
             λ x h.
@@ -42,6 +36,3 @@ module _ (s : Sections) (z : s .stride ≡ nodeWords) (p : tablesRule s ≡ 0) (
             (right-tree s (entries-counts s (tables s p)) (shape s r .entries) (λ i k. all-at (Reached s) i (readWalk s .seen) (reached s q i k) (read-reached s))) x h;
         named = λ x h c. ranges s x c (tables s p .fields x h) .name;
       }
-    where
-      by-ten : (xs : List ℕ) (n : ℕ) → length xs ≡ n * nodeWords → length xs % nodeWords ≡ 0
-      by-ten xs n e = omega arith

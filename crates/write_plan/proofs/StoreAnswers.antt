@@ -1,18 +1,16 @@
 -- What storing the texts answers.
-use Prim.Native.Nat.{ℕ, suc, _+_, _^_, _≤_, _<_}
+use Prim.Native.Nat.{ℕ, _+_, _^_, _≤_, _<_}
 use mathlib.Core.Path.{_≡_, refl, sym, ap, _∙_}
-use mathlib.Core.Logic.{_⊎_, inl, inr}
+use mathlib.Core.Logic.{inl, inr}
 use mathlib.Core.List.{List}
 use mathlib.Core.Bool.{Bool, true, false, cond}
 use native.Mathlib.Omega.{arith}
 use lib.ListN.{length}
 use lib.Dec.{ltb}
 use borrow.Author.Tests.{ltb-true, ltb-false}
-use Rattle.words.specs.Words.{NONE}
 use Rattle.write_interning.specs.declared.Stored.{Stored}
 use Rattle.write_interning.specs.declared.Stored.the-variants.{Whole, TooLong}
 use Rattle.write_interning.specs.Uses.{storedOf, joined, answerOf, Offsets}
-use Rattle.write_plan.specs.declared.Uses.{Uses}
 use Rattle.write_plan.specs.declared.Plan.the-variants.{Ready, Refused}
 use Rattle.write_plan.specs.Planned.{StoredPlan}
 

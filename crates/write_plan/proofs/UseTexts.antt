@@ -10,15 +10,12 @@ use lib.Seq.{getD-append-add, getD-drop, drop-drop, drop-at, length-take-le, ext
 use Rattle.laws.specs.Counted.{joinOf, sumOf, those}
 use Rattle.records.specs.Records.{containerOf}
 use Rattle.texts.specs.Text.{before}
-use Rattle.image.specs.Header.{nodeWords}
 use Rattle.image.specs.Sections.{Sections, nodeCount, f, isContainer, goodOptional}
-use Rattle.tree.proofs.Members.{length-join}
-use Rattle.index.specs.Paths.{canonicalPath}
 use Rattle.draft.specs.Draft.{tablesRule, reachRule, shapeRule, pathsRule}
 use Rattle.draft.specs.Numbering.{numbering, oldOf}
-use Rattle.draft_image.specs.Strings.{uses, byPath, pathOf, sortBy}
+use Rattle.draft_image.specs.Strings.{uses, byPath, pathOf}
 use Rattle.draft_image.specs.Ready.{textUses}
-use Rattle.write_text_uses.specs.Uses.{useWords, usesMost, withWords}
+use Rattle.write_text_uses.specs.Uses.{useWords, withWords}
 use Rattle.write_text_uses.proofs.Fits.{uses-length, use-at}
 use Rattle.write_text_uses.proofs.Bounds.{olds-below}
 use Rattle.write_text_uses.proofs.Sums.{sum-ordered}
@@ -26,11 +23,10 @@ use Rattle.write_sorting.specs.Sorted.{isort, byKey, Rises}
 use Rattle.write_sorting.proofs.ListProperties.{at-all, all-at, all-isort, length-isort}
 use Rattle.write_sorting.proofs.KeyOrder.{unlike-rises, isort-sortBy}
 use Rattle.write_interning.specs.Uses.{textsOf}
-use Rattle.write_text_keys.specs.Keys.{keyOf, nodeOf, longOf}
+use Rattle.write_text_keys.specs.Keys.{keyOf, longOf}
 use Rattle.write_text_keys.proofs.Uses.{key-text}
 use Rattle.write_text_keys.proofs.CanonicalPaths.{key-path, every-container}
 use Rattle.write_paths.specs.Listed.{containers}
-use Rattle.write_paths.specs.Arranged.{Rooted}
 use Rattle.write_paths.proofs.Rule.{twice, those-at}
 use Rattle.write_plan.proofs.Premises.{once, renumbers, rooted}
 
@@ -46,7 +42,7 @@ those-long (suc n) t = length-append (those n t) (cond (t n) (n ∷ []) []) ∙ 
 
 -- ---- the index rises
 
-module _ (s : Sections) (z : s .stride ≡ nodeWords) (p : tablesRule s ≡ 0) (q : reachRule s ≡ 0) (free : pathsRule s ≡ 0) where
+module _ (s : Sections) (p : tablesRule s ≡ 0) (q : reachRule s ≡ 0) (free : pathsRule s ≡ 0) where
   abbrev order : List ℕ
   order = numbering s
 
@@ -80,7 +76,7 @@ module _ (s : Sections) (z : s .stride ≡ nodeWords) (p : tablesRule s ≡ 0) (
   pub boxes-long : length (byPath s order) ≡ sumOf (nodeCount s) (containerOf s)
   boxes-long =
       ap {B = ℕ} length (sym sorted) ∙ length-isort (byKey (pathOf s order)) (containers s order)
-      ∙ those-long (nodeCount s) (λ j. isContainer s (oldOf order j)) ∙ containers-sum ∙ sum-ordered (nodeCount s) order (once s z p q) (containerOf s)
+      ∙ those-long (nodeCount s) (λ j. isContainer s (oldOf order j)) ∙ containers-sum ∙ sum-ordered (nodeCount s) order (once s p q) (containerOf s)
     where
       containers-sum : sumOf (nodeCount s) (λ j. cond (isContainer s (oldOf order j)) 1 0) ≡ sumOf (nodeCount s) (λ j. containerOf s (oldOf order j))
       containers-sum = unfold containerOf in refl
@@ -157,7 +153,7 @@ put-behind us tab k h =
     ap (λ (m : ℕ). getD (us ++ drop (length us) tab) m 0) e ∙ getD-append-add us (drop (length us) tab) (k - length us) 0
     ∙ getD-drop (length us) tab (k - length us) 0 ∙ ap (λ (m : ℕ). getD tab m 0) (sym e)
 
-module _ (s : Sections) (z : s .stride ≡ nodeWords) (p : tablesRule s ≡ 0) (q : reachRule s ≡ 0) (r : shapeRule s ≡ 0) (free : pathsRule s ≡ 0)
+module _ (s : Sections) (p : tablesRule s ≡ 0) (q : reachRule s ≡ 0) (r : shapeRule s ≡ 0) (free : pathsRule s ≡ 0)
     (paths lengths : ℕ) (room : 2 * length (textUses s (numbering s)) ≤ paths) (gap : paths ≤ lengths) (tab : List ℕ)
     (boxes : (k : ℕ) → k < length (byPath s (numbering s)) → getD tab (paths + k) 0 ≡ oldOf (numbering s) (getD (byPath s (numbering s)) k 0))
     (longs : (k : ℕ) → k < length (byPath s (numbering s))
@@ -189,7 +185,7 @@ module _ (s : Sections) (z : s .stride ≡ nodeWords) (p : tablesRule s ≡ 0) (
 
   key-of-text : (a : ℕ) → a < texts → key a ≡ getD (textUses s news) a []
   key-of-text a h =
-      let u = use-at s news p (olds-below s news p (once s z p q)) a h in
+      let u = use-at s news p (olds-below s news p (once s p q)) a h in
       let first : getD tab′ (a + a) 0 ≡ getD (useWords s news) (a + a) 0 = put-front (useWords s news) tab (a + a) (omega (arith, uses-length s news)) in
       let second : getD tab′ (a + a + 1) 0 ≡ getD (useWords s news) (a + a + 1) 0 = put-front (useWords s news) tab (a + a + 1) (omega (arith, uses-length s news)) in
       key-text (s .nodes) (s .strings) texts paths lengths tab′ a h (rw (first, second) (u .inside)) ∙ rw (first, second) (u .says)
@@ -197,7 +193,7 @@ module _ (s : Sections) (z : s .stride ≡ nodeWords) (p : tablesRule s ≡ 0) (
   key-of-path : (k : ℕ) → k < length (byPath s news) → key (texts + k) ≡ pathOf s news (getD (byPath s news) k 0)
   key-of-path k h =
       let x = oldOf news (getD (byPath s news) k 0) in
-      let known = rooted s z p q r in
+      let known = rooted s p q r in
       let names = every-container s z (known .whole) (λ y. goodOptional s (f s y 0) (f s y 1) ≡ true) (λ y l c. known .named y l c) in
       let box = path-box s z p q free k h in
       let e : paths + (texts + k - texts) ≡ paths + k = omega arith in

@@ -1,15 +1,18 @@
 // What a draft's image will hold, worked out in the work words before a byte of the output is written: the numbers of the nodes, the
 // paths in text order, the offset of every text. Rules 20 to 22, and 23 where the texts alone are too long.
 ghost use mathlib.Core.Path.{_≡_};
-ghost use Prim.Native.Nat.{_+_, _≤_};
+ghost use mathlib.Core.List.{List};
+ghost use Prim.Native.Nat.{ℕ, _+_, _≤_};
 ghost use lib.ListN.{length, drop};
 ghost use Rattle.write_sorting.specs.Sorted.{byKey};
 ghost use Rattle.write_interning.specs.Uses.{RisesFrom};
 ghost use Rattle.write_text_keys.specs.Keys.{keyIn, Placed};
 ghost use Rattle.draft.specs.Source.{draftOf};
 ghost use Rattle.draft.specs.Draft.{tablesRule, writeWords};
-ghost use Rattle.write_plan.specs.Planned.{layoutOf, StoredPlan, PlanOf};
+ghost use Rattle.write_plan.specs.Planned.{layoutOf, StoredPlan, Shaped, ShapedTables, PlanOf};
 use draft::shape;
+use draft::source::Source;
+use draft::source::node_count;
 use image::refusal::DRAFT_UNREACHED;
 use image::refusal::NO_ROOM;
 use write_interning::Stored;
@@ -38,10 +41,17 @@ pub enum Plan {
 }
 
 // Stores the texts and paths in use, each once.
-fn store(nodes: &[u32], strings: &[u8], w: &mut [u32], t: Tables, paths: usize) -> Plan
+fn store(
+    nodes: &[u32],
+    strings: &[u8],
+    w: &mut [u32],
+    t: Tables,
+    paths: usize,
+    source: Source,
+) -> Plan
     requires { ⌜ (t .texts + paths + (t .texts + paths) ≤ t .at) × Placed t (length (now w)) ⌝ }
-    requires { ⌜ RisesFrom (byKey (keyIn (now nodes) (now strings) t (now w))) (t .texts) (t .texts + paths) ⌝ }
-    ensures answer { λ r. ⌜ StoredPlan (keyIn (now (nodes .entry)) (now (strings .entry)) t (now (w .entry))) (t .texts) paths (now (w .exit)) r ⌝ }
+    requires { ⌜ RisesFrom (byKey (keyIn (source .version) (now nodes) (now strings) t (now w))) (t .texts) (t .texts + paths) ⌝ }
+    ensures answer { λ r. ⌜ StoredPlan (keyIn (source .version) (now (nodes .entry)) (now (strings .entry)) t (now (w .entry))) (t .texts) paths (now (w .exit)) r ⌝ }
     ensures tables { λ r. ⌜ drop (t .at) (now (w .exit)) ≡ drop (t .at) (now (w .entry)) ⌝ }
 {
     let texts = t.texts;
@@ -49,13 +59,63 @@ fn store(nodes: &[u32], strings: &[u8], w: &mut [u32], t: Tables, paths: usize) 
     if 4294967295 < n {
         return Plan::Refused(NO_ROOM);
     }
-    match write_interning::intern(nodes, strings, w, t, n) {
+    match write_interning::intern(nodes, strings, w, t, n, source) {
         Stored::Whole(strings) => Plan::Ready(Uses {
             texts,
             paths,
             strings,
         }),
         Stored::TooLong => Plan::Refused(NO_ROOM),
+    }
+}
+
+// Sorts the paths and stores the texts of a draft that keeps the rules 19 to 21 and whose nodes are numbered in the work words.
+pub fn plan_texts(
+    nodes: &[u32],
+    named: &[u32],
+    definitions: &[u32],
+    items: &[u32],
+    payload: &[u8],
+    strings: &[u8],
+    w: &mut [u32],
+    l: Layout,
+    source: Source,
+) -> Plan
+    requires { ⌜ ShapedTables (source .version) (now nodes) (now named) (now definitions) (now items) (now payload) (now strings) (now w) l ⌝ }
+    ensures { λ r. ⌜ ((children : List ℕ) → let s =
+        draftOf (source .version) (now (nodes .entry)) children (now (named .entry)) (now (definitions .entry)) (now (items .entry)) (now (payload .entry))
+        (now (strings .entry)) in
+        Shaped s (now (w .entry)) l → PlanOf s (now (w .exit)) r) ⌝ }
+{
+    let t = Tables {
+        at: l.at,
+        texts: 0,
+        paths: l.paths,
+        lengths: l.lengths,
+    };
+    let count = node_count(nodes, source);
+    match write_paths::sort_paths(nodes, strings, w, t, l.order, count, source) {
+        Indexed::Refused(number) => Plan::Refused(number),
+        Indexed::Paths(found) => {
+            let texts = write_text_uses::collect(
+                nodes,
+                named,
+                definitions,
+                items,
+                payload,
+                w,
+                l.order,
+                l.at,
+                source,
+            );
+            let t = Tables {
+                at: l.at,
+                texts,
+                paths: l.paths,
+                lengths: l.lengths,
+            };
+            store(nodes, strings, w, t, found, source)
+        }
     }
 }
 
@@ -70,45 +130,41 @@ pub fn prepare(
     strings: &[u8],
     w: &mut [u32],
     l: Layout,
+    source: Source,
 ) -> Plan
-    requires { ⌜ tablesRule (draftOf (now nodes) (now children) (now named) (now definitions) (now items) (now payload) (now strings)) ≡ 0 ⌝ }
-    requires { ⌜ length (now w) ≡ writeWords (draftOf (now nodes) (now children) (now named) (now definitions) (now items) (now payload) (now strings)) ⌝ }
-    requires { ⌜ l ≡ layoutOf (draftOf (now nodes) (now children) (now named) (now definitions) (now items) (now payload) (now strings)) ⌝ }
-    ensures { λ r. ⌜ PlanOf (draftOf (now (nodes .entry)) (now (children .entry)) (now (named .entry)) (now (definitions .entry)) (now (items .entry)) (now (payload .entry)) (now (strings .entry))) (now (w .exit)) r ⌝ }
+    requires { ⌜ (let s =
+        draftOf (source .version) (now nodes) (now children) (now named) (now definitions) (now items) (now payload) (now strings) in
+        (tablesRule s ≡ 0) × (length (now w) ≡ writeWords s) × (l ≡ layoutOf s)) ⌝ }
+    ensures { λ r. ⌜ (let s =
+        draftOf (source .version) (now (nodes .entry)) (now (children .entry)) (now (named .entry)) (now (definitions .entry)) (now (items .entry))
+        (now (payload .entry)) (now (strings .entry)) in
+        PlanOf s (now (w .exit)) r) ⌝ }
 {
-    if !write_numbering::number(nodes, children, named, w, l.order) {
+    if !write_numbering::number(nodes, children, named, w, l.order, source) {
         return Plan::Refused(DRAFT_UNREACHED);
     }
-    let refused = shape::shape_rule(nodes, children, named, definitions, items, payload, strings);
+    let refused = shape::shape_rule(
+        nodes,
+        children,
+        named,
+        definitions,
+        items,
+        payload,
+        strings,
+        source,
+    );
     if refused != 0 {
         return Plan::Refused(refused);
     }
-    let t = Tables {
-        at: l.at,
-        texts: 0,
-        paths: l.paths,
-        lengths: l.lengths,
-    };
-    match write_paths::sort_paths(nodes, strings, w, t, l.order, nodes.len() / 10) {
-        Indexed::Refused(number) => Plan::Refused(number),
-        Indexed::Paths(found) => {
-            let texts = write_text_uses::collect(
-                nodes,
-                named,
-                definitions,
-                items,
-                payload,
-                w,
-                l.order,
-                l.at,
-            );
-            let t = Tables {
-                at: l.at,
-                texts,
-                paths: l.paths,
-                lengths: l.lengths,
-            };
-            store(nodes, strings, w, t, found)
-        }
-    }
+    plan_texts(
+        nodes,
+        named,
+        definitions,
+        items,
+        payload,
+        strings,
+        w,
+        l,
+        source,
+    )
 }

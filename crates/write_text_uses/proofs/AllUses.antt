@@ -5,13 +5,13 @@ use mathlib.Core.List.{List, [], _∷_, _++_}
 use native.Mathlib.Omega.{arith}
 use lib.ListN.{length, length-append}
 use Rattle.laws.specs.Lists.{flatMap}
-use Rattle.image.specs.Sections.{Sections, nodeWord, namedWord, definitionWord, itemWord}
+use Rattle.image.specs.Sections.{Sections, nodeWords, definitionWords, nodeWord, namedWord, definitionWord, itemWord}
 use Rattle.records.specs.Fields.{Field, text, optional, command, operator, node, optionalNode, container, optionalContainer, plain, atMost, children, named, payload, wrong}
 use Rattle.records.specs.Records.{numberOfNamed, listWord}
-use Rattle.draft.specs.Source.{draftOf}
+use Rattle.draft.specs.Source.{draftOf, nodesOnly}
 use Rattle.draft.specs.Numbering.{oldOf}
 use Rattle.draft_image.proofs.Joins.{join-same}
-use Rattle.write_text_uses.specs.Uses.{listItemPairs, listOriginPairs, listPairs, fieldPairs, nodePairs, namedPairs, definitionPairs, allNodePairs, allNamedPairs, allDefinitionPairs, useWords, wordsFrom, Room, Put, nodesOnly, namedOnly, definitionsOnly, Olds, Readable, Collectable, Collected}
+use Rattle.write_text_uses.specs.Uses.{listItemPairs, listOriginPairs, listPairs, fieldPairs, nodePairs, namedPairs, definitionPairs, allNodePairs, allNamedPairs, allDefinitionPairs, useWords, wordsFrom, Room, Put, namedOnly, definitionsOnly, Olds, Readable, Collectable, Collected}
 use Rattle.write_text_uses.proofs.Pairs.{pairs-length, uses-pairs}
 use Rattle.write_text_uses.proofs.Puts.{put-long, put-both, order-kept}
 
@@ -21,11 +21,11 @@ flat-same g h e [] = refl
 flat-same g h e (x ∷ xs) = rw (e x, flat-same g h e xs) refl
 
 -- what a draft's other sections are says nothing of its texts' words
-module _ (nodes kids entries definitions items bytes strings : List ℕ) where
+module _ (version : ℕ) (nodes kids entries definitions items bytes strings : List ℕ) where
   abbrev s : Sections
-  s = draftOf nodes kids entries definitions items bytes strings
+  s = draftOf version nodes kids entries definitions items bytes strings
 
-  field-same : (i : ℕ) (x : Field) → fieldPairs s i x ≡ fieldPairs (nodesOnly nodes bytes) i x
+  field-same : (i : ℕ) (x : Field) → fieldPairs s i x ≡ fieldPairs (nodesOnly version nodes bytes) i x
   unfolding fieldPairs nodeWord listPairs listItemPairs listOriginPairs listWord
   field-same i (text k) = refl
   field-same i (optional k) = refl
@@ -42,11 +42,11 @@ module _ (nodes kids entries definitions items bytes strings : List ℕ) where
   field-same i named = refl
   field-same i wrong = refl
 
-  node-same : (i : ℕ) → nodePairs s i ≡ nodePairs (nodesOnly nodes bytes) i
+  node-same : (i : ℕ) → nodePairs s i ≡ nodePairs (nodesOnly version nodes bytes) i
   unfolding nodeWord
-  node-same i = flat-same (fieldPairs s i) (fieldPairs (nodesOnly nodes bytes) i) (field-same i) _
+  node-same i = flat-same (fieldPairs s i) (fieldPairs (nodesOnly version nodes bytes) i) (field-same i) _
 
-  named-same : (i : ℕ) → namedPairs s i ≡ namedPairs (namedOnly nodes entries) i
+  named-same : (i : ℕ) → namedPairs s i ≡ namedPairs (namedOnly version nodes entries) i
   unfolding namedPairs numberOfNamed nodeWord namedWord
   named-same i = refl
 
@@ -55,45 +55,45 @@ module _ (nodes kids entries definitions items bytes strings : List ℕ) where
   definition-same d = refl
 
   pub uses-are : (order : List ℕ) → useWords s order
-      ≡ allNodePairs (nodesOnly nodes bytes) order ++ allNamedPairs (namedOnly nodes entries) order ++ allDefinitionPairs (definitionsOnly definitions items)
+      ≡ allNodePairs (nodesOnly version nodes bytes) order ++ allNamedPairs (namedOnly version nodes entries) order ++ allDefinitionPairs (definitionsOnly definitions items)
   unfolding useWords allNodePairs allNamedPairs allDefinitionPairs
   uses-are order =
-      let a = join-same (length nodes / 10) (λ j. nodePairs s (oldOf order j)) (λ j. nodePairs (nodesOnly nodes bytes) (oldOf order j)) (λ j h. node-same (oldOf order j)) in
-      let b = join-same (length nodes / 10) (λ j. namedPairs s (oldOf order j)) (λ j. namedPairs (namedOnly nodes entries) (oldOf order j)) (λ j h. named-same (oldOf order j)) in
-      let c = join-same (length definitions / 4) (definitionPairs s) (definitionPairs (definitionsOnly definitions items)) (λ d h. definition-same d) in
+      let a = join-same (length nodes / nodeWords version) (λ j. nodePairs s (oldOf order j)) (λ j. nodePairs (nodesOnly version nodes bytes) (oldOf order j)) (λ j h. node-same (oldOf order j)) in
+      let b = join-same (length nodes / nodeWords version) (λ j. namedPairs s (oldOf order j)) (λ j. namedPairs (namedOnly version nodes entries) (oldOf order j)) (λ j h. named-same (oldOf order j)) in
+      let c = join-same (length definitions / definitionWords) (definitionPairs s) (definitionPairs (definitionsOnly definitions items)) (λ d h. definition-same d) in
       λ i. a i ++ b i ++ c i
 
 -- ---- the three calls
 
-module _ (nodes entries definitions items bytes w₀ : List ℕ) (order at : ℕ) where
+module _ (version : ℕ) (nodes entries definitions items bytes w₀ : List ℕ) (order at : ℕ) where
   abbrev n : ℕ
-  n = length nodes / 10
+  n = length nodes / nodeWords version
 
   abbrev olds : List ℕ
   olds = wordsFrom w₀ order n
 
   abbrev first : List ℕ
-  first = allNodePairs (nodesOnly nodes bytes) olds
+  first = allNodePairs (nodesOnly version nodes bytes) olds
 
   abbrev second : List ℕ
-  second = allNamedPairs (namedOnly nodes entries) olds
+  second = allNamedPairs (namedOnly version nodes entries) olds
 
   abbrev third : List ℕ
   third = allDefinitionPairs (definitionsOnly definitions items)
 
-  module _ (a : Collectable nodes entries definitions items bytes w₀ order at) where
+  module _ (a : Collectable version nodes entries definitions items bytes w₀ order at) where
     size : at + (length first + length second + length third) ≤ order
     size =
         omega (
           arith,
           a .below,
-          ap length (uses-are nodes [] entries definitions items bytes [] olds),
+          ap length (uses-are version nodes [] entries definitions items bytes [] olds),
           length-append (first ++ second) third,
           length-append first second,
         )
 
-    pub nodes-asked : Readable (nodesOnly nodes bytes) olds × ((order + n ≤ length w₀) × (at + length first ≤ order))
-    nodes-asked = (a .read, (a .numbers, omega (arith, size)))
+    pub nodes-asked : Readable (nodesOnly version nodes bytes) olds × (order + n ≤ length w₀) × (at + length first ≤ order)
+    nodes-asked = (a .read, a .numbers, omega (arith, size))
 
     module _ (w₁ : List ℕ) (k₁ : ℕ) (p : Put first w₀ at w₁ k₁) where
       long₁ : length w₁ ≡ length w₀
@@ -102,10 +102,10 @@ module _ (nodes entries definitions items bytes w₀ : List ℕ) (order at : ℕ
       kept : wordsFrom w₁ order n ≡ olds
       kept = order-kept w₀ order n (a .numbers) first at w₁ k₁ (omega (arith, size)) p
 
-      pub named-asked : Olds n (wordsFrom w₁ order n) × ((order + n ≤ length w₁) × (k₁ + length (allNamedPairs (namedOnly nodes entries) (wordsFrom w₁ order n)) ≤ order))
-      named-asked = rw kept (a .read .olds, (omega (arith, long₁, a .numbers), omega (arith, size, p .end)))
+      pub named-asked : Olds n (wordsFrom w₁ order n) × (order + n ≤ length w₁) × (k₁ + length (allNamedPairs (namedOnly version nodes entries) (wordsFrom w₁ order n)) ≤ order)
+      named-asked = rw kept (a .read .olds, omega (arith, long₁, a .numbers), omega (arith, size, p .end))
 
-      module _ (w₂ : List ℕ) (k₂ : ℕ) (q : Put (allNamedPairs (namedOnly nodes entries) (wordsFrom w₁ order n)) w₁ k₁ w₂ k₂) where
+      module _ (w₂ : List ℕ) (k₂ : ℕ) (q : Put (allNamedPairs (namedOnly version nodes entries) (wordsFrom w₁ order n)) w₁ k₁ w₂ k₂) where
         q′ : Put second w₁ k₁ w₂ k₂
         q′ = rw kept at q
 
@@ -135,10 +135,10 @@ module _ (nodes entries definitions items bytes w₀ : List ℕ) (order at : ℕ
           pub begins : at ≤ k₃
           begins = omega (arith, all .end)
 
-          pub collected : (kids strings : List ℕ) → Collected (draftOf nodes kids entries definitions items bytes strings) olds w₀ at w₃ ((k₃ - at) / 2)
+          pub collected : (kids strings : List ℕ) → Collected (draftOf version nodes kids entries definitions items bytes strings) olds w₀ at w₃ ((k₃ - at) / 2)
           collected kids strings =
-              let s = draftOf nodes kids entries definitions items bytes strings in
-              let e = uses-are nodes kids entries definitions items bytes strings olds in
+              let s = draftOf version nodes kids entries definitions items bytes strings in
+              let e = uses-are version nodes kids entries definitions items bytes strings olds in
               record {
                 count = omega (arith, all .end, ap length e, pairs-length (uses-pairs s olds));
                 is = rw e (all .is);

@@ -100,12 +100,12 @@ module _ (entries : List ℕ) (first j : ℕ) where
       ap (λ (m : ℕ). getD entries m 0 ∷ getD entries ((first + j) * 3 + 1) 0 ∷ []) e
 
 -- a container's named entries; another node has none
-module _ (nodes entries : List ℕ) (i : ℕ) (r : NodeRecord) (e : r ≡ recordOf nodes i) where
+module _ (version : ℕ) (nodes entries : List ℕ) (i : ℕ) (r : NodeRecord) (e : r ≡ recordOf version nodes i) where
   abbrev s : Sections
-  s = namedOnly nodes entries
+  s = namedOnly version nodes entries
 
   node : IsNode s i r
-  node = read-node s nodes i r refl refl e
+  node = read-node s version nodes i r refl refl e
 
   pub container-is : r .tag ≡ 1 → namedPairs s i ≡ joinOf (r .f6) (entryPairs entries (r .f5))
   unfolding namedPairs numberOfNamed namedWord entryPairs

@@ -1,5 +1,5 @@
 -- The pairs of a node's texts by its tag, over the record that the code reads.
-use Prim.Native.Nat.{ℕ, _+_, _*_, _/_, _≤_, _<_}
+use Prim.Native.Nat.{ℕ, _+_, _/_, _<_}
 use mathlib.Core.Path.{_≡_, refl, sym, ap, _∙_}
 use mathlib.Core.Logic.{_⊎_, inl, inr}
 use mathlib.Core.List.{List, [], _∷_, _++_, append-nil}
@@ -9,22 +9,19 @@ use native.Mathlib.Decide.{decLt}
 use lib.ListN.{length}
 use lib.Dec.{eqb}
 use borrow.Author.Tests.{ne-eqb}
+use Rattle.draft.specs.Source.{nodesOnly}
 use Rattle.laws.specs.Refusal.{unless, _▸_, firstOf}
 use Rattle.laws.specs.Lists.{flatMap}
 use Rattle.laws.proofs.First.{first-all, passed}
 use Rattle.image.specs.declared.NodeRecord.{NodeRecord}
 use Rattle.image.specs.Entries.{recordOf}
-use Rattle.image.specs.Sections.{Sections, tagOf, f}
+use Rattle.image.specs.Sections.{Sections, nodeWords, tagOf, f}
 use Rattle.image.proofs.Entries.{IsNode, read-node}
 use Rattle.records.specs.Fields.{Kind, kinds, kindOf, fields}
 use Rattle.records.specs.Records.{listWord}
 use Rattle.records.proofs.ByKind.{past-kinds}
 use Rattle.draft.specs.Numbering.{oldOf}
-use Rattle.write_text_uses.specs.Uses.{useIf, listItemPairs, listOriginPairs, listPairs, fieldPairs, nodePairs, payloadOnly, nodesOnly, ListInside, Olds, Readable}
-
--- a number below a count of nodes is an entry of their words
-pub node-fits : (nodes : List ℕ) (i : ℕ) → i < length nodes / 10 → i * 10 + 10 ≤ length nodes
-node-fits nodes i h = omega arith
+use Rattle.write_text_uses.specs.Uses.{useIf, listItemPairs, listOriginPairs, listPairs, fieldPairs, nodePairs, payloadOnly, ListInside, Olds, Readable}
 
 module _ (s : Sections) (i : ℕ) where
   -- the pairs of a node of tag t
@@ -83,12 +80,12 @@ module _ (s : Sections) (i : ℕ) where
 
 -- ---- over the record
 
-module _ (nodes bytes : List ℕ) (i : ℕ) (r : NodeRecord) (e : r ≡ recordOf nodes i) where
+module _ (version : ℕ) (nodes bytes : List ℕ) (i : ℕ) (r : NodeRecord) (e : r ≡ recordOf version nodes i) where
   abbrev s : Sections
-  s = nodesOnly nodes bytes
+  s = nodesOnly version nodes bytes
 
   node : IsNode s i r
-  node = read-node s nodes i r refl refl e
+  node = read-node s version nodes i r refl refl e
 
   by-tag : (t : ℕ) → r .tag ≡ t → nodePairs s i ≡ own s i t
   by-tag t h = ap (own s i) (sym (node .tag) ∙ h)
@@ -153,12 +150,15 @@ module _ (nodes bytes : List ℕ) (i : ℕ) (r : NodeRecord) (e : r ≡ recordOf
 
 -- ---- what the calls for the node at a place of the order need
 
-module _ (nodes bytes order : List ℕ) (read : Readable (nodesOnly nodes bytes) order) (i j : ℕ) (h : j < length nodes / 10) (e : i ≡ oldOf order j) where
-  pub node-needs : {R : Type 0} → R → (i * 10 + 10 ≤ length nodes) × ((tagOf (nodesOnly nodes bytes) i ≡ 12 → ListInside (nodesOnly nodes bytes) (f (nodesOnly nodes bytes) i 0)) × R)
+module _ (version : ℕ) (nodes bytes order : List ℕ) (read : Readable (nodesOnly version nodes bytes) order) (i j : ℕ)
+    (h : j < length nodes / nodeWords version) (e : i ≡ oldOf order j) where
+  pub node-needs : {R : Type 0} → R → (i < length nodes / nodeWords version)
+      × ((tagOf (nodesOnly version nodes bytes) i ≡ 12 → ListInside (nodesOnly version nodes bytes) (f (nodesOnly version nodes bytes) i 0)) × R)
   node-needs r =
-      let below : i < length nodes / 10 = omega (arith, read .olds .below j h) in
-      (node-fits nodes i below, (λ t. read .lists i below t, r))
+      let below : i < length nodes / nodeWords version = omega (arith, read .olds .below j h) in
+      (below, (λ t. read .lists i below t, r))
 
-module _ (nodes order : List ℕ) (olds : Olds (length nodes / 10) order) (i j : ℕ) (h : j < length nodes / 10) (e : i ≡ oldOf order j) where
-  pub container-needs : {R : Type 0} → R → (i * 10 + 10 ≤ length nodes) × R
-  container-needs r = (node-fits nodes i (omega (arith, olds .below j h)), r)
+module _ (version : ℕ) (nodes order : List ℕ) (olds : Olds (length nodes / nodeWords version) order) (i j : ℕ)
+    (h : j < length nodes / nodeWords version) (e : i ≡ oldOf order j) where
+  pub container-needs : {R : Type 0} → R → (i < length nodes / nodeWords version) × R
+  container-needs r = (omega (arith, olds .below j h), r)

@@ -7,13 +7,14 @@ use lib.ListN.{length, getD, take, drop}
 use Rattle.laws.specs.Counted.{joinOf, counted}
 use Rattle.laws.specs.Lists.{flatMap, lists}
 use Rattle.words.specs.Words.{wordAt}
-use Rattle.image.specs.Sections.{Sections, nodeCount, namedCount, definitionCount, itemCount, tagOf, f, absent, definitionWord, itemWord, sections}
+use Rattle.image.specs.Sections.{Sections, nodeWords, textEntryWords, nodeCount, namedCount, definitionCount, itemCount, tagOf, f, absent, definitionWord, itemWord, sections}
 use Rattle.records.specs.Fields.{Field, text, optional, command, operator, node, optionalNode, container, optionalContainer, plain, atMost, children, named, payload, wrong}
 use Rattle.records.specs.Records.{fieldsAt, numberOfNamed, listItems, listOrigins, listItemWord, listOriginWord, records}
 use Rattle.tree.specs.Tree.{namedAt}
 use Rattle.index.specs.Definitions.{firstItem, numberOfItems}
-use Rattle.draft.specs.Source.{draftOf}
-use Rattle.draft.specs.Numbering.{oldOf}
+use Rattle.draft.specs.Source.{draftOf, nodesOnly}
+use Rattle.draft.specs.Numbering.{numbering, oldOf}
+use Rattle.draft_image.specs.Strings.{storedTexts}
 use Rattle.draft_image.specs.Ready.{textUses}
 
 -- a text that may be absent
@@ -83,6 +84,10 @@ useWords s order = allNodePairs s order ++ allNamedPairs s order ++ allDefinitio
 abbrev pub usesMost : Sections → ℕ
 usesMost s = 2 * nodeCount s + namedCount s + definitionCount s + itemCount s + length (s .payload)
 
+-- the texts in use and the paths, each stored once, one after the other
+abbrev pub storedBytes : Sections → List ℕ
+storedBytes s = flatMap (λ t. t) (storedTexts s (numbering s))
+
 -- ---- the same of words and bytes, as the code reads them
 
 -- origin j of those that begin at a byte
@@ -91,7 +96,7 @@ originPairs bytes first j = wordAt bytes (first + j * 8) ∷ wordAt bytes (first
 
 -- entry j, counted from the first, of those of three words
 unfoldable pub entryPairs : List ℕ → ℕ → ℕ → List ℕ
-entryPairs entries first j = getD entries ((first + j) * 3) 0 ∷ getD entries ((first + j) * 3 + 1) 0 ∷ []
+entryPairs entries first j = getD entries ((first + j) * textEntryWords) 0 ∷ getD entries ((first + j) * textEntryWords + 1) 0 ∷ []
 
 -- ---- words that lie among others
 
@@ -114,18 +119,16 @@ pub record Put (ws w₀ : List ℕ) (at : ℕ) (w : List ℕ) (r : ℕ) : Type 0
 
 -- ---- what is read of a draft
 
--- a draft that has a payload alone; nodes and a payload; nodes and named entries; definitions and items
+-- a draft that has a payload alone; nodes and named entries; definitions and items. Where there are no nodes, the
+-- version says nothing
 abbrev pub payloadOnly : List ℕ → Sections
-payloadOnly bytes = draftOf [] [] [] [] [] bytes []
+payloadOnly bytes = draftOf 0 [] [] [] [] [] bytes []
 
-abbrev pub nodesOnly : List ℕ → List ℕ → Sections
-nodesOnly nodes bytes = draftOf nodes [] [] [] [] bytes []
-
-abbrev pub namedOnly : List ℕ → List ℕ → Sections
-namedOnly nodes entries = draftOf nodes [] entries [] [] [] []
+abbrev pub namedOnly : ℕ → List ℕ → List ℕ → Sections
+namedOnly version nodes entries = draftOf version nodes [] entries [] [] [] []
 
 abbrev pub definitionsOnly : List ℕ → List ℕ → Sections
-definitionsOnly definitions items = draftOf [] [] [] definitions items [] []
+definitionsOnly definitions items = draftOf 0 [] [] [] definitions items [] []
 
 -- the list whose payload starts at `at` lies inside
 abbrev pub ListInside : Sections → ℕ → Type 0
@@ -141,10 +144,10 @@ pub record Readable (s : Sections) (order : List ℕ) : Type 0 where
   pub lists : (i : ℕ) → i < nodeCount s → tagOf s i ≡ 12 → ListInside s (f s i 0)
 
 -- what is asked of the work words and the draft: the numbers of the nodes lie from `order` on, and the uses have room below them
-pub record Collectable (nodes entries definitions items bytes w : List ℕ) (order at : ℕ) : Type 0 where
-  pub read : Readable (nodesOnly nodes bytes) (wordsFrom w order (length nodes / 10))
-  pub numbers : order + length nodes / 10 ≤ length w
-  pub below : at + length (useWords (draftOf nodes [] entries definitions items bytes []) (wordsFrom w order (length nodes / 10))) ≤ order
+pub record Collectable (version : ℕ) (nodes entries definitions items bytes w : List ℕ) (order at : ℕ) : Type 0 where
+  pub read : Readable (nodesOnly version nodes bytes) (wordsFrom w order (length nodes / nodeWords version))
+  pub numbers : order + length nodes / nodeWords version ≤ length w
+  pub below : at + length (useWords (draftOf version nodes [] entries definitions items bytes []) (wordsFrom w order (length nodes / nodeWords version))) ≤ order
 
 -- the uses were written from `at` on, and r counts them
 pub record Collected (s : Sections) (order w₀ : List ℕ) (at : ℕ) (w : List ℕ) (r : ℕ) : Type 0 where

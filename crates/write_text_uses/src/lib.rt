@@ -1,15 +1,19 @@
 // The texts of a draft in the order of use, as words: two a use, its offset and its length.
 ghost use mathlib.Core.Path.{_≡_};
 ghost use mathlib.Core.List.{List, [], _∷_, _++_};
-ghost use Prim.Native.Nat.{ℕ, _+_, _*_, _/_, _≤_};
+ghost use Prim.Native.Nat.{ℕ, _+_, _*_, _/_, _≤_, _<_};
 ghost use lib.ListN.{length};
 ghost use Rattle.laws.specs.Counted.{joinOf};
-ghost use Rattle.image.specs.Sections.{absent, tagOf, f};
-ghost use Rattle.draft.specs.Source.{draftOf};
-ghost use Rattle.write_text_uses.specs.Uses.{useIf, listItemPairs, listPairs, nodePairs, namedPairs, definitionPairs, allNodePairs, allNamedPairs, allDefinitionPairs, originPairs, entryPairs, wordsFrom, Room, Put, payloadOnly, nodesOnly, namedOnly, definitionsOnly, ListInside, Olds, Readable, Collectable, Collected};
+ghost use Rattle.image.specs.Sections.{nodeWords, definitionWords, nodeCount, absent, tagOf, f};
+ghost use Rattle.draft.specs.Source.{draftOf, nodesOnly};
+ghost use Rattle.write_text_uses.specs.Uses.{useIf, listItemPairs, listPairs, nodePairs, namedPairs, definitionPairs, allNodePairs, allNamedPairs, allDefinitionPairs, originPairs, entryPairs, wordsFrom, Room, Put, payloadOnly, namedOnly, definitionsOnly, ListInside, Olds, Readable, Collectable, Collected};
+use draft::source::Source;
 use draft::source::definition_at;
 use draft::source::node_at;
+use draft::source::node_count;
+use draft::source::payload_word;
 use draft::source::word;
+use image::ImageView;
 use image::NONE;
 
 // Whether both words of a text say that it is absent.
@@ -50,10 +54,10 @@ fn put_list_item(payload: &[u8], start: usize, j: usize, w: &mut [u32], at: usiz
     ensures { λ r. ⌜ Put (listItemPairs (payloadOnly (now (payload .entry))) start j) (now (w .entry)) at (now (w .exit)) r ⌝ }
 {
     let item = start + (8 + j * 20);
-    let origin = words::word(payload, item);
-    let origin_len = words::word(payload, item + 4);
-    let name = words::word(payload, item + 8);
-    let name_len = words::word(payload, item + 12);
+    let origin = payload_word(payload, item);
+    let origin_len = payload_word(payload, item + 4);
+    let name = payload_word(payload, item + 8);
+    let name_len = payload_word(payload, item + 12);
     let behind = put_optional(w, at, origin, origin_len);
     put_use(w, behind, name, name_len)
 }
@@ -82,8 +86,8 @@ fn put_list_origins(payload: &[u8], first: usize, count: usize, w: &mut [u32], a
     let mut k = at;
     let mut j = 0;
     while j < count {
-        let offset = words::word(payload, first + j * 8);
-        let len = words::word(payload, first + j * 8 + 4);
+        let offset = payload_word(payload, first + j * 8);
+        let len = payload_word(payload, first + j * 8 + 4);
         k = put_use(w, k, offset, len);
         j += 1;
     }
@@ -96,8 +100,8 @@ fn put_list(payload: &[u8], start: usize, w: &mut [u32], at: usize) -> usize
     requires { ⌜ Room (listPairs (payloadOnly (now payload)) start) (now w) at ⌝ }
     ensures { λ r. ⌜ Put (listPairs (payloadOnly (now (payload .entry))) start) (now (w .entry)) at (now (w .exit)) r ⌝ }
 {
-    let items = words::word(payload, start) as usize;
-    let origins = words::word(payload, start + 4) as usize;
+    let items = payload_word(payload, start) as usize;
+    let origins = payload_word(payload, start + 4) as usize;
     let behind = put_list_items(payload, start, items, w, at);
     put_list_origins(payload, start + (8 + items * 20), origins, w, behind)
 }
@@ -128,13 +132,22 @@ fn put_reference(
 }
 
 // Of node `i`, in field order.
-fn put_node(nodes: &[u32], i: usize, payload: &[u8], w: &mut [u32], at: usize) -> usize
-    requires { ⌜ i * 10 + 10 ≤ length (now nodes) ⌝ }
-    requires { ⌜ (tagOf (nodesOnly (now nodes) (now payload)) i ≡ 12 → ListInside (nodesOnly (now nodes) (now payload)) (f (nodesOnly (now nodes) (now payload)) i 0)) ⌝ }
-    requires { ⌜ Room (nodePairs (nodesOnly (now nodes) (now payload)) i) (now w) at ⌝ }
-    ensures { λ r. ⌜ Put (nodePairs (nodesOnly (now (nodes .entry)) (now (payload .entry))) i) (now (w .entry)) at (now (w .exit)) r ⌝ }
+fn put_node(
+    nodes: &[u32],
+    i: usize,
+    payload: &[u8],
+    w: &mut [u32],
+    at: usize,
+    source: Source,
+) -> usize
+    requires { ⌜ i < length (now nodes) / nodeWords (source .version) ⌝ }
+    requires { ⌜ (let s = nodesOnly (source .version) (now nodes) (now payload) in
+        tagOf s i ≡ 12 → ListInside s (f s i 0)) ⌝ }
+    requires { ⌜ Room (nodePairs (nodesOnly (source .version) (now nodes) (now payload)) i) (now w) at ⌝ }
+    ensures { λ r. ⌜ (let s = nodesOnly (source .version) (now (nodes .entry)) (now (payload .entry)) in
+        Put (nodePairs s i) (now (w .entry)) at (now (w .exit)) r) ⌝ }
 {
-    let node = node_at(nodes, i);
+    let node = node_at(nodes, i, source);
     let tag = node.tag;
     match tag {
         1 => put_optional(w, at, node.f0, node.f1),
@@ -149,18 +162,26 @@ fn put_node(nodes: &[u32], i: usize, payload: &[u8], w: &mut [u32], at: usize) -
 }
 
 // Of all nodes, in the image's order: the words from `order` on are their numbers in the draft.
-fn put_nodes(nodes: &[u32], payload: &[u8], w: &mut [u32], order: usize, at: usize) -> usize
-    requires { ⌜ Readable (nodesOnly (now nodes) (now payload)) (wordsFrom (now w) order (length (now nodes) / 10)) ⌝ }
-    requires { ⌜ order + length (now nodes) / 10 ≤ length (now w) ⌝ }
-    requires { ⌜ at + length (allNodePairs (nodesOnly (now nodes) (now payload)) (wordsFrom (now w) order (length (now nodes) / 10))) ≤ order ⌝ }
-    ensures { λ r. ⌜ Put (allNodePairs (nodesOnly (now (nodes .entry)) (now (payload .entry))) (wordsFrom (now (w .entry)) order (length (now (nodes .entry)) / 10))) (now (w .entry)) at (now (w .exit)) r ⌝ }
+fn put_nodes(
+    nodes: &[u32],
+    payload: &[u8],
+    w: &mut [u32],
+    order: usize,
+    at: usize,
+    source: Source,
+) -> usize
+    requires { ⌜ (let s = nodesOnly (source .version) (now nodes) (now payload) in
+        let numbers = wordsFrom (now w) order (nodeCount s) in
+        Readable s numbers × (order + nodeCount s ≤ length (now w)) × (at + length (allNodePairs s numbers) ≤ order)) ⌝ }
+    ensures { λ r. ⌜ (let s = nodesOnly (source .version) (now (nodes .entry)) (now (payload .entry)) in
+        Put (allNodePairs s (wordsFrom (now (w .entry)) order (nodeCount s))) (now (w .entry)) at (now (w .exit)) r) ⌝ }
 {
-    let count = nodes.len() / 10;
+    let count = node_count(nodes, source);
     let mut k = at;
     let mut j = 0;
     while j < count {
         let i = w[order + j] as usize;
-        k = put_node(nodes, i, payload, w, k);
+        k = put_node(nodes, i, payload, w, k, source);
         j += 1;
     }
     k
@@ -176,7 +197,7 @@ fn put_entries(entries: &[u32], first: u32, count: u32, w: &mut [u32], at: usize
     let mut k = at;
     let mut j = 0;
     while j < end {
-        let entry = (start + j) * 3;
+        let entry = (start + j) * ImageView::TEXT_ENTRY_WORDS;
         let offset = word(entries, entry);
         let len = word(entries, entry + 1);
         k = put_use(w, k, offset, len);
@@ -186,12 +207,20 @@ fn put_entries(entries: &[u32], first: u32, count: u32, w: &mut [u32], at: usize
 }
 
 // Of the named entries of node `i`. A node that is no container has none.
-fn put_container(nodes: &[u32], i: usize, named: &[u32], w: &mut [u32], at: usize) -> usize
-    requires { ⌜ i * 10 + 10 ≤ length (now nodes) ⌝ }
-    requires { ⌜ Room (namedPairs (namedOnly (now nodes) (now named)) i) (now w) at ⌝ }
-    ensures { λ r. ⌜ Put (namedPairs (namedOnly (now (nodes .entry)) (now (named .entry))) i) (now (w .entry)) at (now (w .exit)) r ⌝ }
+fn put_container(
+    nodes: &[u32],
+    i: usize,
+    named: &[u32],
+    w: &mut [u32],
+    at: usize,
+    source: Source,
+) -> usize
+    requires { ⌜ i < length (now nodes) / nodeWords (source .version) ⌝ }
+    requires { ⌜ Room (namedPairs (namedOnly (source .version) (now nodes) (now named)) i) (now w) at ⌝ }
+    ensures { λ r. ⌜ (let s = namedOnly (source .version) (now (nodes .entry)) (now (named .entry)) in
+        Put (namedPairs s i) (now (w .entry)) at (now (w .exit)) r) ⌝ }
 {
-    let node = node_at(nodes, i);
+    let node = node_at(nodes, i, source);
     if node.tag != 1 {
         return at;
     }
@@ -199,18 +228,26 @@ fn put_container(nodes: &[u32], i: usize, named: &[u32], w: &mut [u32], at: usiz
 }
 
 // Of the named entries of all nodes, in the image's order.
-fn put_named(nodes: &[u32], named: &[u32], w: &mut [u32], order: usize, at: usize) -> usize
-    requires { ⌜ Olds (length (now nodes) / 10) (wordsFrom (now w) order (length (now nodes) / 10)) ⌝ }
-    requires { ⌜ order + length (now nodes) / 10 ≤ length (now w) ⌝ }
-    requires { ⌜ at + length (allNamedPairs (namedOnly (now nodes) (now named)) (wordsFrom (now w) order (length (now nodes) / 10))) ≤ order ⌝ }
-    ensures { λ r. ⌜ Put (allNamedPairs (namedOnly (now (nodes .entry)) (now (named .entry))) (wordsFrom (now (w .entry)) order (length (now (nodes .entry)) / 10))) (now (w .entry)) at (now (w .exit)) r ⌝ }
+fn put_named(
+    nodes: &[u32],
+    named: &[u32],
+    w: &mut [u32],
+    order: usize,
+    at: usize,
+    source: Source,
+) -> usize
+    requires { ⌜ (let s = namedOnly (source .version) (now nodes) (now named) in
+        let numbers = wordsFrom (now w) order (nodeCount s) in
+        Olds (nodeCount s) numbers × (order + nodeCount s ≤ length (now w)) × (at + length (allNamedPairs s numbers) ≤ order)) ⌝ }
+    ensures { λ r. ⌜ (let s = namedOnly (source .version) (now (nodes .entry)) (now (named .entry)) in
+        Put (allNamedPairs s (wordsFrom (now (w .entry)) order (nodeCount s))) (now (w .entry)) at (now (w .exit)) r) ⌝ }
 {
-    let count = nodes.len() / 10;
+    let count = node_count(nodes, source);
     let mut k = at;
     let mut j = 0;
     while j < count {
         let i = w[order + j] as usize;
-        k = put_container(nodes, i, named, w, k);
+        k = put_container(nodes, i, named, w, k, source);
         j += 1;
     }
     k
@@ -218,9 +255,10 @@ fn put_named(nodes: &[u32], named: &[u32], w: &mut [u32], order: usize, at: usiz
 
 // Of definition `d` and its items.
 fn put_definition(definitions: &[u32], items: &[u32], d: usize, w: &mut [u32], at: usize) -> usize
-    requires { ⌜ d * 4 + 4 ≤ length (now definitions) ⌝ }
+    requires { ⌜ d * definitionWords + definitionWords ≤ length (now definitions) ⌝ }
     requires { ⌜ Room (definitionPairs (definitionsOnly (now definitions) (now items)) d) (now w) at ⌝ }
-    ensures { λ r. ⌜ Put (definitionPairs (definitionsOnly (now (definitions .entry)) (now (items .entry))) d) (now (w .entry)) at (now (w .exit)) r ⌝ }
+    ensures { λ r. ⌜ (let s = definitionsOnly (now (definitions .entry)) (now (items .entry)) in
+        Put (definitionPairs s d) (now (w .entry)) at (now (w .exit)) r) ⌝ }
 {
     let definition = definition_at(definitions, d);
     let behind = put_use(w, at, definition.offset, definition.len);
@@ -230,9 +268,10 @@ fn put_definition(definitions: &[u32], items: &[u32], d: usize, w: &mut [u32], a
 // Of all definitions, each with its items.
 fn put_definitions(definitions: &[u32], items: &[u32], w: &mut [u32], at: usize) -> usize
     requires { ⌜ Room (allDefinitionPairs (definitionsOnly (now definitions) (now items))) (now w) at ⌝ }
-    ensures { λ r. ⌜ Put (allDefinitionPairs (definitionsOnly (now (definitions .entry)) (now (items .entry)))) (now (w .entry)) at (now (w .exit)) r ⌝ }
+    ensures { λ r. ⌜ (let s = definitionsOnly (now (definitions .entry)) (now (items .entry)) in
+        Put (allDefinitionPairs s) (now (w .entry)) at (now (w .exit)) r) ⌝ }
 {
-    let count = definitions.len() / 4;
+    let count = definitions.len() / ImageView::DEFINITION_WORDS;
     let mut k = at;
     let mut d = 0;
     while d < count {
@@ -253,12 +292,16 @@ pub fn collect(
     w: &mut [u32],
     order: usize,
     at: usize,
+    source: Source,
 ) -> usize
-    requires { ⌜ Collectable (now nodes) (now named) (now definitions) (now items) (now payload) (now w) order at ⌝ }
-    ensures { λ r. ⌜ ((children strings : List ℕ) → Collected (draftOf (now (nodes .entry)) children (now (named .entry)) (now (definitions .entry)) (now (items .entry)) (now (payload .entry)) strings) (wordsFrom (now (w .entry)) order (length (now (nodes .entry)) / 10)) (now (w .entry)) at (now (w .exit)) r) ⌝ }
+    requires { ⌜ Collectable (source .version) (now nodes) (now named) (now definitions) (now items) (now payload) (now w) order at ⌝ }
+    ensures { λ r. ⌜ ((children strings : List ℕ) → let s =
+        draftOf (source .version) (now (nodes .entry)) children (now (named .entry)) (now (definitions .entry)) (now (items .entry))
+        (now (payload .entry)) strings in
+        Collected s (wordsFrom (now (w .entry)) order (nodeCount s)) (now (w .entry)) at (now (w .exit)) r) ⌝ }
 {
-    let behind_nodes = put_nodes(nodes, payload, w, order, at);
-    let behind_named = put_named(nodes, named, w, order, behind_nodes);
+    let behind_nodes = put_nodes(nodes, payload, w, order, at, source);
+    let behind_named = put_named(nodes, named, w, order, behind_nodes, source);
     let end = put_definitions(definitions, items, w, behind_named);
     (end - at) / 2
 }

@@ -15,7 +15,7 @@ use Rattle.words.proofs.Words.{word-in}
 use Rattle.image.specs.Entries.{nodeIn}
 use Rattle.image.specs.Sections.{Sections, nodeCount, parentOf, placeOf, tagOf, f, textAt, absent, goodText, goodOptional, inside}
 use Rattle.image.proofs.Tests.{both-true}
-use Rattle.image.proofs.Parts.{good, optional-present, optional-half}
+use Rattle.image.proofs.Parts.{optional-present, optional-half}
 use Rattle.records.specs.Fields.{Kind, Container, Choice, Command, Divert, Glue, Operator, Tag, BoolValue, IntValue, FloatValue, StringValue, ListValue, TargetValue, PointerValue, Assignment, Reference, Void, Unknown, fields}
 use Rattle.records.specs.Records.{numberOfChildren, numberOfNamed, payloadLengthOf, firstField, listWord, listItems, listOrigins, listItemWord, listOriginWord}
 use Rattle.records.proofs.PassedRules.{node-of, text-passed, optional-passed, command-passed, operator-passed, node-passed, optional-node-passed, container-passed, optional-container-passed, payload-passed, ListPassed, list-passed}
@@ -84,7 +84,7 @@ module _ (s : Sections) (order w : List ℕ) (new : ℕ) (news : NewsAt order w 
     abbrev Fielded : Kind → Type 0
     Fielded k =
         firstField s i (fields k) ≡ 0 → OffsetsAt kept (flatMap (fieldTexts s i) (fields k)) w at
-        → recordWords (encodedBy w new at st (nodeIn s i) k)
+        → recordWords (s .version) (encodedBy w new at st (nodeIn s i) k)
         ≡ newOf order (parentOf s i) ∷ placeOf s i ∷ tagOf s i ∷ putFields s order kept i (replicate 7 NONE) (fields k)
 
     -- a text alone

@@ -2,7 +2,7 @@
 use Prim.Native.Nat.{ℕ, _+_, _*_, _/_, _≤_, _<_}
 use mathlib.Core.Path.{_≡_, refl, sym, ap, _∙_, subst}
 use mathlib.Core.Bool.{false}
-use mathlib.Core.List.{List, _∷_, append-nil}
+use mathlib.Core.List.{List, [], _∷_, _++_, append-nil}
 use native.Mathlib.Omega.{arith}
 use native.Mathlib.Nat.{add-zero}
 use native.Mathlib.Numerals.{add-one}
@@ -14,18 +14,19 @@ use Rattle.laws.specs.Counted.{joinOf, sumOf}
 use Rattle.laws.specs.Lists.{placeIn}
 use Rattle.words.specs.Words.{NONE, bytesOf}
 use Rattle.image.specs.declared.NodeRecord.{NodeRecord}
-use Rattle.image.specs.Header.{nodeWords}
 use Rattle.image.specs.Entries.{recordOf, nodeIn}
-use Rattle.image.specs.Sections.{Sections, nodeCount, nodeWord, parentOf, tagOf, placeOf}
+use Rattle.image.specs.Sections.{Sections, nodeWords, nodeSize, nodeCount, nodeWord, parentOf, tagOf, placeOf}
 use Rattle.image.proofs.Entries.{node-record}
+use Rattle.image.proofs.Widths.{size-words}
 use Rattle.records.specs.Fields.{kindOf}
 use Rattle.records.specs.Records.{numberOfChildren, numberOfNamed, payloadLengthOf, fieldsAt}
 use Rattle.records.proofs.PassedRules.{root}
 use Rattle.draft.specs.Draft.{tablesRule, shapeRule}
+use Rattle.draft.specs.Source.{nodesOnly}
 use Rattle.draft.specs.Numbering.{oldOf, newOf}
 use Rattle.draft.proofs.Rules.{tables, parent-node, shape}
 use Rattle.draft_image.specs.Strings.{nodeTexts}
-use Rattle.draft_image.specs.Written.{startIn, nodeOut, putFields, moreWords}
+use Rattle.draft_image.specs.Written.{startIn, nodeOut, putFields}
 use Rattle.draft_image.specs.Ready.{OldsAt, NewsAt, OffsetsAt, nodeUses}
 use Rattle.draft_image.proofs.Joins.{sum-below, join-length, even-len}
 use Rattle.draft_image.proofs.Offsets.{offsets-part}
@@ -33,12 +34,12 @@ use Rattle.tree.proofs.Members.{sum-ext}
 use Rattle.words.specs.Output.{over, putAt}
 use Rattle.words.proofs.EntryLoop.{Running, run-start, run-room, run-next, run-front}
 use Rattle.write_numbering.specs.declared.numbers.Numbers.{Numbers}
-use Rattle.write_tree_sections.specs.Held.{nodesOnly}
 use Rattle.write_numbering.specs.Numbers.{newIn}
 use Rattle.write_numbering.proofs.DraftWords.{join-same, retold, told, new-is, new-none}
 use Rattle.write_tree_sections.specs.declared.kinds.Starts.{Starts}
 use Rattle.write_tree_sections.specs.Encoded.{recordWords, encodedBy, textsBy}
 use Rattle.write_tree_sections.specs.Summed.{childrenIn, namedIn, payloadIn, StartsFit, startsAfter, textsAt, startsBy, usedBy, NodesFit}
+use Rattle.write_tree_sections.proofs.RecordWidth.{record-length, more-none}
 use Rattle.write_tree_sections.proofs.FieldWords.{fielded, texts-count}
 
 -- ---- the starts after a node
@@ -67,63 +68,75 @@ module _ (st : Starts) (r : NodeRecord) where
 
 -- ---- the loop
 
--- the words that are written for the image's node j
-abbrev pub entry : List ℕ → List ℕ → List ℕ → Numbers → ℕ → List ℕ
-entry nodes payload w n j =
-    recordWords
-    (encodedBy w (n .new) (n .offsets + usedBy nodes w (n .order) payload j) (startsBy nodes w (n .order) j) (recordOf nodes (getD w (n .order + j) 0))
-    (kindOf (recordOf nodes (getD w (n .order + j) 0) .tag)))
+-- the record that is written for the image's node j
+abbrev recordAt : ℕ → List ℕ → List ℕ → List ℕ → Numbers → ℕ → NodeRecord
+recordAt version nodes payload w n j =
+    encodedBy w (n .new) (n .offsets + usedBy version nodes w (n .order) payload j) (startsBy version nodes w (n .order) j)
+    (recordOf version nodes (getD w (n .order + j) 0)) (kindOf (recordOf version nodes (getD w (n .order + j) 0) .tag))
 
-pub record Going (nodes payload w : List ℕ) (n : Numbers) (out₀ out : List ℕ) (text : ℕ) (st : Starts) (at j : ℕ) : Type 0 where
-  pub running : Running 0 (length nodes / 10) (entry nodes payload w n) out₀ out j at
-  pub texts : text ≡ n .offsets + usedBy nodes w (n .order) payload j
-  pub starts : st ≡ startsBy nodes w (n .order) j
+-- its words
+abbrev pub entry : ℕ → List ℕ → List ℕ → List ℕ → Numbers → ℕ → List ℕ
+entry version nodes payload w n j = recordWords version (recordAt version nodes payload w n j)
 
-module _ (nodes payload w : List ℕ) (n : Numbers) (fit : NodesFit nodes payload w n) (out₀ : List ℕ) where
-  pub begin : 40 * (length nodes / 10) ≤ length out₀ → Going nodes payload w n out₀ out₀ (n .offsets) (record { children = 0; named = 0; payload = 0 }) 0 0
+pub record Going (version : ℕ) (nodes payload w : List ℕ) (n : Numbers) (out₀ out : List ℕ) (text : ℕ) (st : Starts) (at j : ℕ) : Type 0 where
+  pub running : Running 0 (length nodes / nodeWords version) (entry version nodes payload w n) out₀ out j at
+  pub texts : text ≡ n .offsets + usedBy version nodes w (n .order) payload j
+  pub starts : st ≡ startsBy version nodes w (n .order) j
+
+module _ (version : ℕ) (nodes payload w : List ℕ) (n : Numbers) (fit : NodesFit version nodes payload w n) (out₀ : List ℕ) where
+  pub begin : length nodes / nodeWords version * nodeSize version ≤ length out₀ → Going version nodes payload w n out₀ out₀ (n .offsets) (record { children = 0; named = 0; payload = 0 }) 0 0
   unfolding sumOf
   begin h =
       record {
         running =
-            run-start 0 (length nodes / 10) (entry nodes payload w n) out₀
-            (omega (arith, even-len (length nodes / 10) 10 (entry nodes payload w n) (λ m q. refl))) 0 refl;
+            run-start 0 (length nodes / nodeWords version) (entry version nodes payload w n) out₀
+            (omega (
+              arith,
+              size-words (length nodes / nodeWords version) version,
+              even-len (length nodes / nodeWords version) (nodeWords version) (entry version nodes payload w n) (λ m q. record-length version (recordAt version nodes payload w n m)),
+            )) 0 refl;
         texts = sym (add-zero (n .offsets));
         starts = refl;
       }
 
-  module _ (out : List ℕ) (text : ℕ) (st : Starts) (at j : ℕ) (g : Going nodes payload w n out₀ out text st at j) (h : j < length nodes / 10) where
+  module _ (out : List ℕ) (text : ℕ) (st : Starts) (at j : ℕ) (g : Going version nodes payload w n out₀ out text st at j) (h : j < length nodes / nodeWords version) where
     -- the record's words fit
-    pub step-room : at + 40 ≤ length out
-    step-room = run-room 0 (length nodes / 10) (entry nodes payload w n) out₀ out j at (g .running) h
+    pub step-room : at + nodeSize version ≤ length out
+    step-room =
+        omega (
+          arith,
+          record-length version (recordAt version nodes payload w n j),
+          run-room 0 (length nodes / nodeWords version) (entry version nodes payload w n) out₀ out j at (g .running) h,
+        )
 
     -- so does the offset of its first text
     pub step-text : text ≤ length w
-    step-text = omega (arith, g .texts, fit .texts, sum-below j (length nodes / 10) (λ m. textsAt nodes payload (getD w (n .order + m) 0)) h)
+    step-text = omega (arith, g .texts, fit .texts, sum-below j (length nodes / nodeWords version) (λ m. textsAt version nodes payload (getD w (n .order + m) 0)) h)
 
     -- the draft's number of the node, and its record
-    module _ (i : ℕ) (p : i ≡ getD w (n .order + j) 0) (r : NodeRecord) (e : r ≡ recordOf nodes i) where
-      here : r ≡ recordOf nodes (getD w (n .order + j) 0)
-      here = e ∙ ap (recordOf nodes) p
+    module _ (i : ℕ) (p : i ≡ getD w (n .order + j) 0) (r : NodeRecord) (e : r ≡ recordOf version nodes i) where
+      here : r ≡ recordOf version nodes (getD w (n .order + j) 0)
+      here = e ∙ ap (recordOf version nodes) p
 
-      more : (count : ℕ) → count ≡ textsBy payload r (kindOf (r .tag)) → count ≡ textsAt nodes payload (getD w (n .order + j) 0)
+      more : (count : ℕ) → count ≡ textsBy payload r (kindOf (r .tag)) → count ≡ textsAt version nodes payload (getD w (n .order + j) 0)
       unfolding textsAt
       more count q = q ∙ ap (λ (x : NodeRecord). textsBy payload x (kindOf (x .tag))) here
 
-      children-is : childrenIn r ≡ numberOfChildren (nodesOnly nodes) (getD w (n .order + j) 0)
+      children-is : childrenIn r ≡ numberOfChildren (nodesOnly version nodes []) (getD w (n .order + j) 0)
       unfolding numberOfChildren nodeWord recordOf
       children-is = λ t. childrenIn (here t)
 
-      named-is : namedIn r ≡ numberOfNamed (nodesOnly nodes) (getD w (n .order + j) 0)
+      named-is : namedIn r ≡ numberOfNamed (nodesOnly version nodes []) (getD w (n .order + j) 0)
       unfolding numberOfNamed nodeWord recordOf
       named-is = λ t. namedIn (here t)
 
-      payload-is : payloadIn r ≡ payloadLengthOf (nodesOnly nodes) (getD w (n .order + j) 0)
+      payload-is : payloadIn r ≡ payloadLengthOf (nodesOnly version nodes []) (getD w (n .order + j) 0)
       unfolding payloadLengthOf nodeWord recordOf
       payload-is = λ t. payloadIn (here t)
 
       pub step-texts : (count : ℕ) → count ≡ textsBy payload r (kindOf (r .tag)) → text + count ≤ length w
       step-texts count q =
-          omega (arith, g .texts, fit .texts, more count q, sum-below j (length nodes / 10) (λ m. textsAt nodes payload (getD w (n .order + m) 0)) h)
+          omega (arith, g .texts, fit .texts, more count q, sum-below j (length nodes / nodeWords version) (λ m. textsAt version nodes payload (getD w (n .order + m) 0)) h)
 
       pub step-starts : StartsFit st r
       step-starts =
@@ -134,7 +147,7 @@ module _ (nodes payload w : List ℕ) (n : Numbers) (fit : NodesFit nodes payloa
                   ap (λ (x : Starts). x .children) (g .starts),
                   children-is,
                   fit .children,
-                  sum-below j (length nodes / 10) (λ m. numberOfChildren (nodesOnly nodes) (getD w (n .order + m) 0)) h,
+                  sum-below j (length nodes / nodeWords version) (λ m. numberOfChildren (nodesOnly version nodes []) (getD w (n .order + m) 0)) h,
                 );
             named =
                 omega (
@@ -142,7 +155,7 @@ module _ (nodes payload w : List ℕ) (n : Numbers) (fit : NodesFit nodes payloa
                   ap (λ (x : Starts). x .named) (g .starts),
                   named-is,
                   fit .named,
-                  sum-below j (length nodes / 10) (λ m. numberOfNamed (nodesOnly nodes) (getD w (n .order + m) 0)) h,
+                  sum-below j (length nodes / nodeWords version) (λ m. numberOfNamed (nodesOnly version nodes []) (getD w (n .order + m) 0)) h,
                 );
             payload =
                 omega (
@@ -150,22 +163,22 @@ module _ (nodes payload w : List ℕ) (n : Numbers) (fit : NodesFit nodes payloa
                   ap (λ (x : Starts). x .payload) (g .starts),
                   payload-is,
                   fit .bytes,
-                  sum-below j (length nodes / 10) (λ m. payloadLengthOf (nodesOnly nodes) (getD w (n .order + m) 0)) h,
+                  sum-below j (length nodes / nodeWords version) (λ m. payloadLengthOf (nodesOnly version nodes []) (getD w (n .order + m) 0)) h,
                 );
           }
 
       -- the next node
-      pub step-next : (d : NodeRecord) → d ≡ encodedBy w (n .new) text st r (kindOf (r .tag)) → (out′ : List ℕ) → out′ ≡ putAt out at (recordWords d)
+      pub step-next : (d : NodeRecord) → d ≡ encodedBy w (n .new) text st r (kindOf (r .tag)) → (out′ : List ℕ) → out′ ≡ putAt out at (recordWords version d)
           → (count : ℕ) → count ≡ textsBy payload r (kindOf (r .tag)) → (st′ : Starts) → st′ ≡ startsAfter st r
-          → Going nodes payload w n out₀ out′ (text + count) st′ (at + 40) (j + 1)
+          → (at′ : ℕ) → at′ ≡ at + nodeSize version → Going version nodes payload w n out₀ out′ (text + count) st′ at′ (j + 1)
       unfolding sumOf
-      step-next d made out′ z count q st′ a =
+      step-next d made out′ z count q st′ a at′ l =
           record {
             running =
-                run-next 0 (length nodes / 10) (entry nodes payload w n) out₀ out j at (g .running) (recordWords d) out′ (at + 40) h
-                (ap recordWords
+                run-next 0 (length nodes / nodeWords version) (entry version nodes payload w n) out₀ out j at (g .running) (recordWords version d) out′ at′ h
+                (ap (recordWords version)
                 (made ∙ (λ t. encodedBy w (n .new) (g .texts t) (g .starts t) (here t) (kindOf (here t .tag)))))
-                z refl;
+                z (l ∙ ap (λ (k : ℕ). at + 4 * k) (sym (record-length version d)));
             texts = rw add-one (omega (arith, g .texts, more count q));
             starts =
                 rw add-one
@@ -175,11 +188,11 @@ module _ (nodes payload w : List ℕ) (n : Numbers) (fit : NodesFit nodes payloa
 
 -- ---- the section is the written one
 
-module _ (s : Sections) (nodes payload w : List ℕ) (n : Numbers) (order : List ℕ) (kept : List (List ℕ)) where
+module _ (s : Sections) (version : ℕ) (nodes payload w : List ℕ) (n : Numbers) (order : List ℕ) (kept : List (List ℕ)) where
   abbrev r : Sections
-  r = retold s nodes (s .children) (s .named) payload
+  r = retold s version nodes (s .children) (s .named) payload
 
-  module _ (below : (j : ℕ) → j < length nodes / 10 → getD w (n .order + j) 0 < length nodes / 10) (p : tablesRule r ≡ 0) (q : shapeRule r ≡ 0)
+  module _ (below : (j : ℕ) → j < length nodes / nodeWords version → getD w (n .order + j) 0 < length nodes / nodeWords version) (p : tablesRule r ≡ 0) (q : shapeRule r ≡ 0)
       (place : (j : ℕ) → j < nodeCount r → placeIn order (oldOf order j) ≡ j) (olds : OldsAt order w (nodeCount r) (n .order))
       (news : NewsAt order w (nodeCount r) (n .new)) where
     old-below : (j : ℕ) → j < nodeCount r → oldOf order j < nodeCount r
@@ -192,15 +205,15 @@ module _ (s : Sections) (nodes payload w : List ℕ) (n : Numbers) (order : List
         sum-ext j (λ m. a (getD w (n .order + m) 0)) (λ m. b (oldOf order m)) (λ m k. e (getD w (n .order + m) 0) ∙ ap b (olds m (omega arith)))
         ∙ ap (λ (k : ℕ). sumOf k (λ m. b (oldOf order m))) (sym (place j h))
 
-    texts-at : (i : ℕ) → i < nodeCount r → textsAt nodes payload i ≡ length (nodeTexts r i)
+    texts-at : (i : ℕ) → i < nodeCount r → textsAt version nodes payload i ≡ length (nodeTexts r i)
     unfolding textsAt
     texts-at i h =
-        ap (λ (x : NodeRecord). textsBy payload x (kindOf (x .tag))) (node-record r nodes i refl refl)
+        ap (λ (x : NodeRecord). textsBy payload x (kindOf (x .tag))) (node-record r version nodes i refl refl)
         ∙ texts-count r i (kindOf (tagOf r i)) (tables r p .fields i h)
 
-    used-is : (j : ℕ) → j ≤ nodeCount r → usedBy nodes w (n .order) payload j ≡ sumOf j (λ m. length (nodeTexts r (oldOf order m)))
+    used-is : (j : ℕ) → j ≤ nodeCount r → usedBy version nodes w (n .order) payload j ≡ sumOf j (λ m. length (nodeTexts r (oldOf order m)))
     used-is j h =
-        sum-ext j (λ m. textsAt nodes payload (getD w (n .order + m) 0)) (λ m. length (nodeTexts r (oldOf order m)))
+        sum-ext j (λ m. textsAt version nodes payload (getD w (n .order + m) 0)) (λ m. length (nodeTexts r (oldOf order m)))
         (λ m k. texts-at (getD w (n .order + m) 0) (below m (omega arith)) ∙ ap (λ (x : ℕ). length (nodeTexts r x)) (olds m (omega arith)))
 
     -- the root has no parent, and every other node's is a node
@@ -212,21 +225,22 @@ module _ (s : Sections) (nodes payload w : List ℕ) (n : Numbers) (order : List
         by (no d) = new-is order w (nodeCount r) (n .new) (parentOf r i) news (parent-node r (tables r p) i h (omega arith) .below)
 
     module _ (offs : OffsetsAt kept (nodeUses r order) w (n .offsets)) where
-      entry-is : (j : ℕ) → j < nodeCount r → entry nodes payload w n j ≡ nodeOut r order kept (oldOf order j)
-      unfolding nodeOut moreWords joinOf numberOfChildren numberOfNamed payloadLengthOf nodeWord
+      entry-is : (j : ℕ) → j < nodeCount r → entry version nodes payload w n j ≡ nodeOut r order kept (oldOf order j)
+      unfolding nodeOut numberOfChildren numberOfNamed payloadLengthOf nodeWord
       entry-is j h =
           let i = oldOf order j in
-          let text = n .offsets + usedBy nodes w (n .order) payload j in
-          let st = startsBy nodes w (n .order) j in
-          let same : recordOf nodes (getD w (n .order + j) 0) ≡ nodeIn r i = node-record r nodes (getD w (n .order + j) 0) refl refl ∙ ap (nodeIn r) (olds j h) in
+          let text = n .offsets + usedBy version nodes w (n .order) payload j in
+          let st = startsBy version nodes w (n .order) j in
+          let same : recordOf version nodes (getD w (n .order + j) 0) ≡ nodeIn r i = node-record r version nodes (getD w (n .order + j) 0) refl refl ∙ ap (nodeIn r) (olds j h) in
           let own : OffsetsAt kept (nodeTexts r i) w text =
           subst (λ (m : ℕ). OffsetsAt kept (nodeTexts r i) w (n .offsets + m)) (sym (used-is j (omega arith)))
           (offsets-part kept w (n .offsets) (nodeCount r) (λ m. nodeTexts r (oldOf order m)) offs j h) in
-          (λ t. recordWords (encodedBy w (n .new) text st (same t) (kindOf (same t .tag))))
-          ∙ fielded r order w (n .new) news kept text st i (parent-is i (old-below j h)) (start-is (numberOfChildren (nodesOnly nodes)) (numberOfChildren r) (λ x. refl) j h)
-          (start-is (numberOfNamed (nodesOnly nodes)) (numberOfNamed r) (λ x. refl) j h) (start-is (payloadLengthOf (nodesOnly nodes)) (payloadLengthOf r) (λ x. refl) j h) (kindOf (tagOf r i))
+          (λ t. recordWords version (encodedBy w (n .new) text st (same t) (kindOf (same t .tag))))
+          ∙ fielded r order w (n .new) news kept text st i (parent-is i (old-below j h)) (start-is (numberOfChildren (nodesOnly version nodes [])) (numberOfChildren r) (λ x. refl) j h)
+          (start-is (numberOfNamed (nodesOnly version nodes [])) (numberOfNamed r) (λ x. refl) j h) (start-is (payloadLengthOf (nodesOnly version nodes [])) (payloadLengthOf r) (λ x. refl) j h) (kindOf (tagOf r i))
           (tables r p .fields i (old-below j h)) own
-          ∙ ap (λ (l : List ℕ). newOf order (parentOf r i) ∷ placeOf r i ∷ tagOf r i ∷ l) (sym (append-nil (putFields r order kept i (replicate 7 NONE) (fieldsAt r i))))
+          ∙ ap (λ (l : List ℕ). newOf order (parentOf r i) ∷ placeOf r i ∷ tagOf r i ∷ l) (sym (append-nil (putFields r order kept i (replicate 7 NONE) (fieldsAt r i)))
+          ∙ ap (λ (l : List ℕ). putFields r order kept i (replicate 7 NONE) (fieldsAt r i) ++ l) (sym (more-none r order kept i)))
 
   -- what the section's writer says of sections that have these nodes and this payload
   abbrev Told : List ℕ → List ℕ → ℕ → Sections → Type 0
@@ -235,14 +249,14 @@ module _ (s : Sections) (nodes payload w : List ℕ) (n : Numbers) (order : List
       → NewsAt order w (nodeCount x) (n .new) → OffsetsAt kept (nodeUses x order) w (n .offsets)
       → (out ≡ over (bytesOf (joinOf (nodeCount x) (λ j. nodeOut x order kept (oldOf order j)))) out₀) × (text ≡ n .offsets + length (nodeUses x order))
 
-  pub finish : (fit : NodesFit nodes payload w n) (out₀ out : List ℕ) (text : ℕ) (st : Starts) (at j : ℕ) → Going nodes payload w n out₀ out text st at j
-      → length nodes / 10 ≤ j → s .nodes ≡ nodes → s .stride ≡ nodeWords → s .payload ≡ payload → Told out₀ out text s
+  pub finish : (fit : NodesFit version nodes payload w n) (out₀ out : List ℕ) (text : ℕ) (st : Starts) (at j : ℕ) → Going version nodes payload w n out₀ out text st at j
+      → length nodes / nodeWords version ≤ j → s .nodes ≡ nodes → s .version ≡ version → s .payload ≡ payload → Told out₀ out text s
   finish fit out₀ out text st at j g h e d b =
-      subst (Told out₀ out text) (sym (told s nodes (s .children) (s .named) payload d e refl refl b))
+      subst (Told out₀ out text) (sym (told s version nodes (s .children) (s .named) payload d e refl refl b))
       (λ p q place olds news offs. (
         subst (λ (ws : List ℕ). out ≡ over (bytesOf ws) out₀)
             (join-same (nodeCount r) _ _ (λ m k. entry-is (fit .order .olds) p q place olds news offs m k))
-            (run-front (length nodes / 10) (entry nodes payload w n) out₀ out j at (g .running) h),
+            (run-front (length nodes / nodeWords version) (entry version nodes payload w n) out₀ out j at (g .running) h),
         all p q place olds news,
       ))
     where
@@ -252,5 +266,5 @@ module _ (s : Sections) (nodes payload w : List ℕ) (n : Numbers) (order : List
           let last : j ≡ nodeCount r = omega (arith, g .running .within) in
           g .texts
           ∙ ap (λ (m : ℕ). n .offsets + m)
-          (ap (usedBy nodes w (n .order) payload) last ∙ used-is (fit .order .olds) p q place olds news (nodeCount r) (omega arith)
+          (ap (usedBy version nodes w (n .order) payload) last ∙ used-is (fit .order .olds) p q place olds news (nodeCount r) (omega arith)
           ∙ sym (join-length (nodeCount r) (λ m. nodeTexts r (oldOf order m))))

@@ -19,9 +19,9 @@ textCount offset = cond (isNone offset) 0 1
 abbrev pub optionalOffset : List ℕ → ℕ → ℕ → ℕ
 optionalOffset w at offset = cond (isNone offset) NONE (getD w at 0)
 
--- the words of a record
-abbrev pub recordWords : NodeRecord → List ℕ
-recordWords r =
+-- the words of a record, by the format version
+abbrev pub recordWords : ℕ → NodeRecord → List ℕ
+recordWords version r =
     r .parent ∷ r .place ∷ r .tag ∷ r .f0 ∷ r .f1 ∷ r .f2 ∷ r .f3 ∷ r .f4 ∷ r .f5 ∷ r .f6 ∷ []
 
 module _ (w : List ℕ) (new : ℕ) where

@@ -3,20 +3,16 @@ use Prim.Native.Nat.{ℕ, _+_, _*_, _/_, _≤_, _<_}
 use mathlib.Core.List.{List, [], _∷_}
 use lib.ListN.{length, getD}
 use Rattle.laws.specs.Counted.{joinOf, sumOf}
-use Rattle.image.specs.Sections.{Sections, f}
+use Rattle.image.specs.Sections.{nodeWords, textEntryWords, f}
 use Rattle.records.specs.Records.{numberOfChildren, numberOfNamed, payloadLengthOf}
-use Rattle.draft.specs.Source.{draftOf}
+use Rattle.draft.specs.Source.{nodesOnly}
 use Rattle.write_numbering.specs.declared.numbers.Numbers.{Numbers}
 use Rattle.write_numbering.specs.Numbers.{newIn}
 
--- a draft that has nodes alone
-abbrev pub nodesOnly : List ℕ → Sections
-nodesOnly nodes = draftOf nodes [] [] [] [] [] []
-
 -- the words hold a number of a node for each node of the image
-pub record OrderFits (nodes w : List ℕ) (n : Numbers) : Type 0 where
-  pub olds : (j : ℕ) → j < length nodes / 10 → getD w (n .order + j) 0 < length nodes / 10
-  pub order-end : n .order + length nodes / 10 ≤ length w
+pub record OrderFits (version : ℕ) (nodes w : List ℕ) (n : Numbers) : Type 0 where
+  pub olds : (j : ℕ) → j < length nodes / nodeWords version → getD w (n .order + j) 0 < length nodes / nodeWords version
+  pub order-end : n .order + length nodes / nodeWords version ≤ length w
   pub new-start : n .new ≤ length w
 
 -- ---- ordered children
@@ -26,8 +22,8 @@ abbrev pub childWords : List ℕ → List ℕ → ℕ → ℕ → ℕ → List �
 childWords children w new first count = joinOf count (λ j. newIn w new (getD children (first + j) 0) ∷ [])
 
 -- of draft's node i
-unfoldable pub childWordsOf : List ℕ → List ℕ → List ℕ → ℕ → ℕ → List ℕ
-childWordsOf nodes children w new i = childWords children w new (f (nodesOnly nodes) i 3) (numberOfChildren (nodesOnly nodes) i)
+unfoldable pub childWordsOf : ℕ → List ℕ → List ℕ → List ℕ → ℕ → ℕ → List ℕ
+childWordsOf version nodes children w new i = childWords children w new (f (nodesOnly version nodes []) i 3) (numberOfChildren (nodesOnly version nodes []) i)
 
 -- ---- named children
 
@@ -35,26 +31,26 @@ childWordsOf nodes children w new i = childWords children w new (f (nodesOnly no
 abbrev pub namedWords : List ℕ → List ℕ → ℕ → ℕ → ℕ → ℕ → List ℕ
 namedWords named w new text first count =
     joinOf count
-    (λ j. getD w (text + j) 0 ∷ getD named ((first + j) * 3 + 1) 0 ∷ newIn w new (getD named ((first + j) * 3 + 2) 0) ∷ [])
+    (λ j. getD w (text + j) 0 ∷ getD named ((first + j) * textEntryWords + 1) 0 ∷ newIn w new (getD named ((first + j) * textEntryWords + 2) 0) ∷ [])
 
 -- of draft's node i
-unfoldable pub namedWordsOf : List ℕ → List ℕ → List ℕ → ℕ → ℕ → ℕ → List ℕ
-namedWordsOf nodes named w new text i = namedWords named w new text (f (nodesOnly nodes) i 5) (numberOfNamed (nodesOnly nodes) i)
+unfoldable pub namedWordsOf : ℕ → List ℕ → List ℕ → List ℕ → ℕ → ℕ → ℕ → List ℕ
+namedWordsOf version nodes named w new text i = namedWords named w new text (f (nodesOnly version nodes []) i 5) (numberOfNamed (nodesOnly version nodes []) i)
 
 -- ---- the image's nodes before node j, whose numbers in the draft the words from `order` on hold
 
-module _ (nodes w : List ℕ) (order : ℕ) where
+module _ (version : ℕ) (nodes w : List ℕ) (order : ℕ) where
   -- their ordered children, their named children, their bytes of payload
   abbrev pub childrenBy : ℕ → ℕ
-  childrenBy j = sumOf j (λ m. numberOfChildren (nodesOnly nodes) (getD w (order + m) 0))
+  childrenBy j = sumOf j (λ m. numberOfChildren (nodesOnly version nodes []) (getD w (order + m) 0))
 
   abbrev pub namedBy : ℕ → ℕ
-  namedBy j = sumOf j (λ m. numberOfNamed (nodesOnly nodes) (getD w (order + m) 0))
+  namedBy j = sumOf j (λ m. numberOfNamed (nodesOnly version nodes []) (getD w (order + m) 0))
 
   abbrev pub payloadBy : ℕ → ℕ
-  payloadBy j = sumOf j (λ m. payloadLengthOf (nodesOnly nodes) (getD w (order + m) 0))
+  payloadBy j = sumOf j (λ m. payloadLengthOf (nodesOnly version nodes []) (getD w (order + m) 0))
 
 -- what a section of named children needs of the words: numbers of nodes, and an offset for each text
-pub record NamedFit (nodes w : List ℕ) (n : Numbers) : Type 0 where
-  pub order : OrderFits nodes w n
-  pub texts : n .offsets + namedBy nodes w (n .order) (length nodes / 10) ≤ length w
+pub record NamedFit (version : ℕ) (nodes w : List ℕ) (n : Numbers) : Type 0 where
+  pub order : OrderFits version nodes w n
+  pub texts : n .offsets + namedBy version nodes w (n .order) (length nodes / nodeWords version) ≤ length w

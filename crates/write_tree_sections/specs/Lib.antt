@@ -1,3 +1,4 @@
 pub mod Held
 pub mod Encoded
 pub mod Summed
+pub mod Put

@@ -6,6 +6,7 @@ use lib.ListN.{length, getD}
 use lib.Dec.{eqb}
 use Rattle.laws.specs.Counted.{sumOf}
 use Rattle.words.specs.Words.{NONE}
+use Rattle.image.specs.Sections.{nodeWords}
 use Rattle.image.specs.declared.NodeRecord.{NodeRecord}
 use Rattle.image.specs.Entries.{recordOf}
 use Rattle.records.specs.Fields.{kindOf}
@@ -35,22 +36,22 @@ abbrev pub startsAfter : Starts → NodeRecord → Starts
 startsAfter st r = record { children = st .children + childrenIn r; named = st .named + namedIn r; payload = st .payload + payloadIn r }
 
 -- the texts of the draft's node i
-unfoldable pub textsAt : List ℕ → List ℕ → ℕ → ℕ
-textsAt nodes payload i = textsBy payload (recordOf nodes i) (kindOf (recordOf nodes i .tag))
+unfoldable pub textsAt : ℕ → List ℕ → List ℕ → ℕ → ℕ
+textsAt version nodes payload i = textsBy payload (recordOf version nodes i) (kindOf (recordOf version nodes i .tag))
 
 -- ---- the image's nodes before node j, whose numbers in the draft the words from `order` on hold
 
-module _ (nodes w : List ℕ) (order : ℕ) where
+module _ (version : ℕ) (nodes w : List ℕ) (order : ℕ) where
   abbrev pub startsBy : ℕ → Starts
-  startsBy j = record { children = childrenBy nodes w order j; named = namedBy nodes w order j; payload = payloadBy nodes w order j }
+  startsBy j = record { children = childrenBy version nodes w order j; named = namedBy version nodes w order j; payload = payloadBy version nodes w order j }
 
   abbrev pub usedBy : List ℕ → ℕ → ℕ
-  usedBy payload j = sumOf j (λ m. textsAt nodes payload (getD w (order + m) 0))
+  usedBy payload j = sumOf j (λ m. textsAt version nodes payload (getD w (order + m) 0))
 
 -- numbers of nodes are there, starts are words, and there is an offset for each text
-pub record NodesFit (nodes payload w : List ℕ) (n : Numbers) : Type 0 where
-  pub order : OrderFits nodes w n
-  pub children : childrenBy nodes w (n .order) (length nodes / 10) ≤ NONE
-  pub named : namedBy nodes w (n .order) (length nodes / 10) ≤ NONE
-  pub bytes : payloadBy nodes w (n .order) (length nodes / 10) ≤ NONE
-  pub texts : n .offsets + usedBy nodes w (n .order) payload (length nodes / 10) ≤ length w
+pub record NodesFit (version : ℕ) (nodes payload w : List ℕ) (n : Numbers) : Type 0 where
+  pub order : OrderFits version nodes w n
+  pub children : childrenBy version nodes w (n .order) (length nodes / nodeWords version) ≤ NONE
+  pub named : namedBy version nodes w (n .order) (length nodes / nodeWords version) ≤ NONE
+  pub bytes : payloadBy version nodes w (n .order) (length nodes / nodeWords version) ≤ NONE
+  pub texts : n .offsets + usedBy version nodes w (n .order) payload (length nodes / nodeWords version) ≤ length w

@@ -1,22 +1,18 @@
 // Section 1: the ordered children of the image's nodes, by their numbers in the image.
 ghost use mathlib.Core.Path.{_≡_};
-ghost use mathlib.Core.List.{List};
 ghost use mathlib.Core.Bool.{cond};
-ghost use Prim.Native.Nat.{ℕ, _+_, _*_, _/_, _≤_};
+ghost use Prim.Native.Nat.{_+_, _*_, _/_, _≤_};
 ghost use lib.ListN.{length};
 ghost use lib.Dec.{eqb};
-ghost use Rattle.laws.specs.Counted.{joinOf};
-ghost use Rattle.words.specs.Words.{bytesOf};
-ghost use Rattle.image.specs.Header.{nodeWords};
-ghost use Rattle.image.specs.Sections.{Sections, nodeCount};
-ghost use Rattle.draft.specs.Draft.{tablesRule};
-ghost use Rattle.draft.specs.Numbering.{oldOf};
-ghost use Rattle.draft_image.specs.Written.{childrenOut};
-ghost use Rattle.draft_image.specs.Ready.{OldsAt, NewsAt};
-ghost use Rattle.words.specs.Output.{over, putAt};
+ghost use Rattle.words.specs.Output.{putAt};
 ghost use Rattle.write_tree_sections.specs.Held.{childWords, OrderFits, childrenBy};
+ghost use Rattle.image.specs.Sections.{nodeWords, childSize};
+ghost use Rattle.write_tree_sections.specs.Put.{ChildrenPut};
+use draft::source::Source;
 use draft::source::node_at;
+use draft::source::node_count;
 use draft::source::word;
+use image::ImageView;
 use image::NodeRecord;
 use words::put_word;
 use write_numbering::numbers::Numbers;
@@ -39,7 +35,7 @@ fn put_children_of(
     out: &mut [u8],
     at: usize,
 )
-    requires { ⌜ (new ≤ length (now work)) × (at + 4 * count ≤ length (now out)) ⌝ }
+    requires { ⌜ (new ≤ length (now work)) × (at + childSize * count ≤ length (now out)) ⌝ }
     ensures { λ r. ⌜ now (out .exit) ≡ putAt (now (out .entry)) at (childWords (now (children .entry)) (now (work .entry)) new first count) ⌝ }
 {
     let start = first as usize;
@@ -50,26 +46,34 @@ fn put_children_of(
         let old = word(children, start + j);
         let child = new_number(work, new, old);
         put_word(out, place, child);
-        place += 4;
+        place += ImageView::WORD_BYTES;
         j += 1;
     }
 }
 
 // Writes the section at the start of the output.
-pub fn put_children(nodes: &[u32], children: &[u32], work: &[u32], numbers: Numbers, out: &mut [u8])
-    requires { ⌜ OrderFits (now nodes) (now work) numbers ⌝ }
-    requires { ⌜ 4 * childrenBy (now nodes) (now work) (numbers .order) (length (now nodes) / 10) ≤ length (now out) ⌝ }
-    ensures { λ r. ⌜ ((s : Sections) (order : List ℕ) (kept : List (List ℕ)) → s .nodes ≡ now (nodes .entry) → s .stride ≡ nodeWords → s .children ≡ now (children .entry) → tablesRule s ≡ 0 → OldsAt order (now (work .entry)) (nodeCount s) (numbers .order) → NewsAt order (now (work .entry)) (nodeCount s) (numbers .new) → now (out .exit) ≡ over (bytesOf (joinOf (nodeCount s) (λ j. childrenOut s order kept (oldOf order j)))) (now (out .entry))) ⌝ }
+pub fn put_children(
+    nodes: &[u32],
+    children: &[u32],
+    work: &[u32],
+    numbers: Numbers,
+    out: &mut [u8],
+    source: Source,
+)
+    requires { ⌜ OrderFits (source .version) (now nodes) (now work) numbers ⌝ }
+    requires { ⌜ (let count = length (now nodes) / nodeWords (source .version) in
+        childSize * childrenBy (source .version) (now nodes) (now work) (numbers .order) count ≤ length (now out)) ⌝ }
+    ensures { λ r. ⌜ ChildrenPut (source .version) (now (nodes .entry)) (now (children .entry)) (now (work .entry)) numbers (now (out .entry)) (now (out .exit)) ⌝ }
 {
     let order = numbers.order;
-    let count = nodes.len() / 10;
+    let count = node_count(nodes, source);
     let mut at = 0;
     let mut j = 0;
     while j < count {
-        let node = node_at(nodes, word(work, order + j) as usize);
+        let node = node_at(nodes, word(work, order + j) as usize, source);
         let own = child_count(node);
         put_children_of(children, work, numbers.new, node.f3, own, out, at);
-        at += 4 * own as usize;
+        at += ImageView::WORD_BYTES * own as usize;
         j += 1;
     }
 }

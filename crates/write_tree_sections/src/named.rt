@@ -1,22 +1,18 @@
 // Section 2: the named children of the image's nodes, each a text and a node by its number in the image.
 ghost use mathlib.Core.Path.{_≡_};
-ghost use mathlib.Core.List.{List};
 ghost use mathlib.Core.Bool.{cond};
-ghost use Prim.Native.Nat.{ℕ, _+_, _*_, _/_, _≤_};
+ghost use Prim.Native.Nat.{_+_, _*_, _/_, _≤_};
 ghost use lib.ListN.{length};
 ghost use lib.Dec.{eqb};
-ghost use Rattle.laws.specs.Counted.{joinOf};
-ghost use Rattle.words.specs.Words.{bytesOf};
-ghost use Rattle.image.specs.Header.{nodeWords};
-ghost use Rattle.image.specs.Sections.{Sections, nodeCount};
-ghost use Rattle.draft.specs.Draft.{tablesRule};
-ghost use Rattle.draft.specs.Numbering.{oldOf};
-ghost use Rattle.draft_image.specs.Written.{namedOut};
-ghost use Rattle.draft_image.specs.Ready.{OldsAt, NewsAt, OffsetsAt, namedUses};
-ghost use Rattle.words.specs.Output.{over, putAt};
+ghost use Rattle.words.specs.Output.{putAt};
 ghost use Rattle.write_tree_sections.specs.Held.{namedWords, NamedFit, namedBy};
+ghost use Rattle.image.specs.Sections.{nodeWords, textEntrySize};
+ghost use Rattle.write_tree_sections.specs.Put.{NamedPut};
+use draft::source::Source;
 use draft::source::node_at;
+use draft::source::node_count;
 use draft::source::word;
+use image::ImageView;
 use image::NodeRecord;
 use words::output::put_words;
 use write_numbering::numbers::Numbers;
@@ -41,7 +37,7 @@ fn put_named_of(
     out: &mut [u8],
     at: usize,
 )
-    requires { ⌜ (new ≤ length (now work)) × (text ≤ length (now work)) × (at + 12 * count ≤ length (now out)) ⌝ }
+    requires { ⌜ (new ≤ length (now work)) × (text ≤ length (now work)) × (at + textEntrySize * count ≤ length (now out)) ⌝ }
     ensures { λ r. ⌜ now (out .exit) ≡ putAt (now (out .entry)) at (namedWords (now (named .entry)) (now (work .entry)) new text first count) ⌝ }
 {
     let start = first as usize;
@@ -49,32 +45,40 @@ fn put_named_of(
     let mut place = at;
     let mut j = 0;
     while j < all {
-        let entry = (start + j) * 3;
+        let entry = (start + j) * ImageView::TEXT_ENTRY_WORDS;
         let node = new_number(work, new, word(named, entry + 2));
         let words = [word(work, text + j), word(named, entry + 1), node];
         put_words(out, place, &words);
-        place += 12;
+        place += ImageView::TEXT_ENTRY_BYTES;
         j += 1;
     }
 }
 
 // Writes the section at the start of the output.
-pub fn put_named(nodes: &[u32], named: &[u32], work: &[u32], numbers: Numbers, out: &mut [u8])
-    requires { ⌜ NamedFit (now nodes) (now work) numbers ⌝ }
-    requires { ⌜ 12 * namedBy (now nodes) (now work) (numbers .order) (length (now nodes) / 10) ≤ length (now out) ⌝ }
-    ensures { λ r. ⌜ ((s : Sections) (order : List ℕ) (kept : List (List ℕ)) → s .nodes ≡ now (nodes .entry) → s .stride ≡ nodeWords → s .named ≡ now (named .entry) → tablesRule s ≡ 0 → OldsAt order (now (work .entry)) (nodeCount s) (numbers .order) → NewsAt order (now (work .entry)) (nodeCount s) (numbers .new) → OffsetsAt kept (namedUses s order) (now (work .entry)) (numbers .offsets) → now (out .exit) ≡ over (bytesOf (joinOf (nodeCount s) (λ j. namedOut s order kept (oldOf order j)))) (now (out .entry))) ⌝ }
+pub fn put_named(
+    nodes: &[u32],
+    named: &[u32],
+    work: &[u32],
+    numbers: Numbers,
+    out: &mut [u8],
+    source: Source,
+)
+    requires { ⌜ NamedFit (source .version) (now nodes) (now work) numbers ⌝ }
+    requires { ⌜ (let count = length (now nodes) / nodeWords (source .version) in
+        textEntrySize * namedBy (source .version) (now nodes) (now work) (numbers .order) count ≤ length (now out)) ⌝ }
+    ensures { λ r. ⌜ NamedPut (source .version) (now (nodes .entry)) (now (named .entry)) (now (work .entry)) numbers (now (out .entry)) (now (out .exit)) ⌝ }
 {
     let order = numbers.order;
-    let count = nodes.len() / 10;
+    let count = node_count(nodes, source);
     let mut text = numbers.offsets;
     let mut at = 0;
     let mut j = 0;
     while j < count {
-        let node = node_at(nodes, word(work, order + j) as usize);
+        let node = node_at(nodes, word(work, order + j) as usize, source);
         let own = named_count(node);
         put_named_of(named, work, numbers.new, text, node.f5, own, out, at);
         text += own as usize;
-        at += 12 * own as usize;
+        at += ImageView::TEXT_ENTRY_BYTES * own as usize;
         j += 1;
     }
 }

@@ -1,33 +1,29 @@
 // Section 0: the records of the image's nodes.
 ghost use mathlib.Core.Path.{_≡_};
-ghost use mathlib.Core.List.{List};
-ghost use Prim.Native.Nat.{ℕ, _+_, _*_, _/_, _≤_, _<_};
+ghost use Prim.Native.Nat.{_+_, _*_, _/_, _≤_, _<_};
 ghost use lib.ListN.{length};
-ghost use Rattle.laws.specs.Counted.{joinOf};
-ghost use Rattle.laws.specs.Lists.{placeIn};
-ghost use Rattle.words.specs.Words.{bytesOf};
-ghost use Rattle.image.specs.Header.{nodeWords};
-ghost use Rattle.image.specs.Sections.{Sections, nodeCount};
-ghost use Rattle.draft.specs.Draft.{tablesRule, shapeRule};
-ghost use Rattle.draft.specs.Numbering.{oldOf};
-ghost use Rattle.draft_image.specs.Written.{nodeOut};
-ghost use Rattle.draft_image.specs.Ready.{OldsAt, NewsAt, OffsetsAt, nodeUses};
-ghost use Rattle.words.specs.Output.{over, putAt};
+ghost use Rattle.words.specs.Output.{putAt};
 ghost use Rattle.write_tree_sections.specs.Encoded.{recordWords};
 ghost use Rattle.write_tree_sections.specs.Summed.{StartsFit, startsAfter, NodesFit};
+ghost use Rattle.image.specs.Sections.{nodeWords, nodeSize};
+ghost use Rattle.write_tree_sections.specs.Put.{NodesPut};
 use crate::kinds::Starts;
 use crate::kinds::encode_kind;
 use crate::texts_used::texts_of;
+use draft::source::Source;
 use draft::source::node_at;
+use draft::source::node_count;
+use draft::source::node_words;
 use draft::source::word;
+use image::ImageView;
 use image::NodeRecord;
 use words::output::put_words;
 use write_numbering::numbers::Numbers;
 
 // Writes a record's words at `at`.
-fn put_record(node: NodeRecord, out: &mut [u8], at: usize)
-    requires { ⌜ at + 40 ≤ length (now out) ⌝ }
-    ensures { λ r. ⌜ now (out .exit) ≡ putAt (now (out .entry)) at (recordWords node) ⌝ }
+fn put_record(node: NodeRecord, out: &mut [u8], at: usize, source: Source)
+    requires { ⌜ at + nodeSize (source .version) ≤ length (now out) ⌝ }
+    ensures { λ r. ⌜ now (out .exit) ≡ putAt (now (out .entry)) at (recordWords (source .version) node) ⌝ }
 {
     let words = [
         node.parent,
@@ -72,13 +68,15 @@ pub fn put_nodes(
     work: &[u32],
     numbers: Numbers,
     out: &mut [u8],
+    source: Source,
 ) -> usize
-    requires { ⌜ NodesFit (now nodes) (now payload) (now work) numbers ⌝ }
-    requires { ⌜ 40 * (length (now nodes) / 10) ≤ length (now out) ⌝ }
-    ensures { λ r. ⌜ ((s : Sections) (order : List ℕ) (kept : List (List ℕ)) → s .nodes ≡ now (nodes .entry) → s .stride ≡ nodeWords → s .payload ≡ now (payload .entry) → tablesRule s ≡ 0 → shapeRule s ≡ 0 → ((j : ℕ) → j < nodeCount s → placeIn order (oldOf order j) ≡ j) → OldsAt order (now (work .entry)) (nodeCount s) (numbers .order) → NewsAt order (now (work .entry)) (nodeCount s) (numbers .new) → OffsetsAt kept (nodeUses s order) (now (work .entry)) (numbers .offsets) → (now (out .exit) ≡ over (bytesOf (joinOf (nodeCount s) (λ j. nodeOut s order kept (oldOf order j)))) (now (out .entry))) × (r ≡ numbers .offsets + length (nodeUses s order))) ⌝ }
+    requires { ⌜ NodesFit (source .version) (now nodes) (now payload) (now work) numbers ⌝ }
+    requires { ⌜ length (now nodes) / nodeWords (source .version) * nodeSize (source .version) ≤ length (now out) ⌝ }
+    ensures { λ r. ⌜ NodesPut (source .version) (now (nodes .entry)) (now (payload .entry)) (now (work .entry)) numbers (now (out .entry)) (now (out .exit)) r ⌝ }
 {
     let order = numbers.order;
-    let count = nodes.len() / 10;
+    let count = node_count(nodes, source);
+    let size = ImageView::WORD_BYTES * node_words(source);
     let mut next_text = numbers.offsets;
     let mut starts = Starts {
         children: 0,
@@ -88,15 +86,16 @@ pub fn put_nodes(
     let mut at = 0;
     let mut j = 0;
     while j < count {
-        let node = node_at(nodes, word(work, order + j) as usize);
+        let node = node_at(nodes, word(work, order + j) as usize, source);
         put_record(
             encode_kind(node, work, numbers.new, next_text, starts),
             out,
             at,
+            source,
         );
         next_text += texts_of(node, payload);
         starts = after(starts, node);
-        at += 40;
+        at += size;
         j += 1;
     }
     next_text

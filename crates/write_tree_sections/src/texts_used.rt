@@ -3,6 +3,7 @@ ghost use mathlib.Core.Path.{_≡_};
 ghost use Rattle.records.specs.Fields.{kindOf};
 ghost use Rattle.write_tree_sections.specs.Encoded.{textsBy, listTextsIn};
 use crate::kinds::text_count;
+use draft::source::payload_get;
 use image::NodeRecord;
 
 // How many texts the list has whose payload starts at `start`: a name an item, a text an origin, and the origins that items have.
@@ -10,12 +11,12 @@ fn list_texts(payload: &[u8], start: u32) -> usize
     ensures { λ r. ⌜ r ≡ listTextsIn (now (payload .entry)) start ⌝ }
 {
     let at = start as usize;
-    let items = words::get(payload, at) as usize;
-    let origins = words::get(payload, at + 4) as usize;
+    let items = payload_get(payload, at) as usize;
+    let origins = payload_get(payload, at + 4) as usize;
     let mut present = 0;
     let mut j = 0;
     while j < items {
-        present += text_count(words::get(payload, at + 8 + j * 20));
+        present += text_count(payload_get(payload, at + 8 + j * 20));
         j += 1;
     }
     present + items + origins

@@ -5,17 +5,17 @@ use mathlib.Core.Bool.{Bool, true, false, _&&_}
 use native.Mathlib.Omega.{arith}
 use lib.ListN.{length}
 use lib.Dec.{leb}
-use borrow.Author.Tests.{le-leb, lt-leb, leb-true, leb-false}
+use borrow.Author.Tests.{lt-leb, leb-false}
 use Rattle.laws.specs.Refusal.{unless, _▸_}
-use Rattle.laws.proofs.First.{both, first, second, pass, passed, fail}
+use Rattle.laws.proofs.First.{both, first, second, pass, fail}
 use Rattle.words.specs.Words.{NONE}
-use Rattle.image.specs.Header.{inkRight, nodeWords}
+use Rattle.image.specs.Header.{inkRight}
 use Rattle.image.specs.Sections.{Sections}
 use Rattle.draft.specs.Draft.{tablesRule, writeWords, reachRule, shapeRule, pathsRule}
 use Rattle.draft.specs.Numbering.{numbering}
 use Rattle.draft_image.specs.Strings.{uses}
 use Rattle.draft_image.specs.Encode.{imageFor, draftRule, encodeRule, untouched}
-use Rattle.write_image.specs.Length.{storedBytes, imageLength}
+use Rattle.write_text_uses.specs.Uses.{storedBytes}
 use Rattle.write_image.proofs.SectionLengths.{length-is}
 use Rattle.write_image.proofs.Premises.{uses-fewer}
 use Rattle.writer.specs.Answer.{fitsOutput}
@@ -95,23 +95,22 @@ module _ (ink : ℕ) (s : Sections) (work room : ℕ) where
             ap untouched after-words
             ∙ both-clear _ _ (reach-clears s) (both-clear _ _ (shape-clears s) (both-clear _ _ (paths-clear s) (room-clears (fitsOutput ink s room))))
 
-        module _ (ten : s .stride ≡ nodeWords) where
-          -- an image has more bytes than it uses texts, and is longer than its strings
-          too-long : reachRule s ≡ 0 → (b c : Bool) → leb (length (uses s (numbering s))) NONE ≡ b → leb (length (storedBytes s)) NONE ≡ c
-              → ((unless b 23 ▸ unless c 23) ≡ 0 → ⊥) → unless (fitsOutput ink s room) 23 ≡ (unless b 23 ▸ unless c 23)
-          unfolding unless _▸_
-          too-long r true true e f d = absurd (d refl)
-          too-long r false c e f d =
-              no-room (omega (arith, leb-false (length (uses s (numbering s))) NONE e, uses-fewer s ten p r, length-is ink s ten p r))
-          too-long r true false e f d = no-room (omega (arith, leb-false (length (storedBytes s)) NONE f, length-is ink s ten p r))
+        -- an image has more bytes than it uses texts, and is longer than its strings
+        too-long : reachRule s ≡ 0 → (b c : Bool) → leb (length (uses s (numbering s))) NONE ≡ b → leb (length (storedBytes s)) NONE ≡ c
+            → ((unless b 23 ▸ unless c 23) ≡ 0 → ⊥) → unless (fitsOutput ink s room) 23 ≡ (unless b 23 ▸ unless c 23)
+        unfolding unless _▸_
+        too-long r true true e f d = absurd (d refl)
+        too-long r false c e f d =
+            no-room (omega (arith, leb-false (length (uses s (numbering s))) NONE e, uses-fewer s p r, length-is ink s p r))
+        too-long r true false e f d = no-room (omega (arith, leb-false (length (storedBytes s)) NONE f, length-is ink s p r))
 
-          -- the plan's refusal
-          pub plan-wrong : (planned s ≡ 0 → ⊥) → encodeRule ink s work room ≡ planned s
-          plan-wrong d =
-              after-words ∙ sym (rows (unless (fitsOutput ink s room) 23))
-              ∙ alike (reachRule s ▸ shapeRule s ▸ pathsRule s) (lengthsRule s) (unless (fitsOutput ink s room) 23) (λ e. d (sym (rows _) ∙ e))
-              (λ e. too-long (both _ _ e .0) (leb (length (uses s (numbering s))) NONE) (leb (length (storedBytes s)) NONE) refl refl)
-              ∙ rows (lengthsRule s)
+        -- the plan's refusal
+        pub plan-wrong : (planned s ≡ 0 → ⊥) → encodeRule ink s work room ≡ planned s
+        plan-wrong d =
+            after-words ∙ sym (rows (unless (fitsOutput ink s room) 23))
+            ∙ alike (reachRule s ▸ shapeRule s ▸ pathsRule s) (lengthsRule s) (unless (fitsOutput ink s room) 23) (λ e. d (sym (rows _) ∙ e))
+            (λ e. too-long (both _ _ e .0) (leb (length (uses s (numbering s))) NONE) (leb (length (storedBytes s)) NONE) refl refl)
+            ∙ rows (lengthsRule s)
 
         -- the plan is made: what is left is the room
         pub room-decides : planned s ≡ 0 → encodeRule ink s work room ≡ unless (fitsOutput ink s room) 23

@@ -1,19 +1,16 @@
 -- The image that was planned is put into the output, or does not fit.
 use Prim.Native.Nat.{ℕ, _+_, _≤_, _<_}
-use mathlib.Core.Path.{_≡_, refl, sym, ap, _∙_, subst}
+use mathlib.Core.Path.{_≡_, sym, ap, _∙_, subst}
 use mathlib.Core.List.{List}
 use native.Mathlib.Omega.{arith}
 use lib.ListN.{length}
 use Rattle.laws.specs.Refusal.{unless}
 use Rattle.words.specs.Words.{NONE}
-use Rattle.image.specs.Header.{nodeWords}
 use Rattle.image.specs.Sections.{Sections}
-use Rattle.draft.specs.Draft.{tablesRule, writeWords}
 use Rattle.draft_image.specs.Encode.{imageFor}
 use Rattle.words.specs.Output.{over}
 use Rattle.write_plan.specs.declared.Layout.{Layout}
 use Rattle.write_plan.specs.declared.Uses.{Uses}
-use Rattle.write_plan.specs.Planned.{layoutOf}
 use Rattle.write_image.specs.declared.size.Entries.{Entries}
 use Rattle.write_image.specs.declared.size.Size.{Size}
 use Rattle.write_image.specs.declared.size.Size.the-variants.{Bytes, TooLong}
@@ -25,32 +22,32 @@ use Rattle.writer.specs.Planned.{numbersBy, tablesBy, entriesBy, Drawn}
 use Rattle.writer.proofs.PlanToImage.{rules, most, entries-known, ready}
 use Rattle.writer.proofs.Outcomes.{size-bytes, size-long, image-long, image-short, image-put}
 
-module _ (ink : ℕ) (s : Sections) (z : s .stride ≡ nodeWords) (w : List ℕ) (l : Layout) (u : Uses) (d : Drawn s w l u) (out₀ : List ℕ) where
+module _ (ink : ℕ) (s : Sections) (w : List ℕ) (l : Layout) (u : Uses) (d : Drawn s w l u) (out₀ : List ℕ) where
   -- the offsets lie in the work words
   pub offsets-room : u .texts + u .paths ≤ length w
-  offsets-room = omega (arith, most s z (d .tables) (d .planned) w (d .long) u (d .prepared), d .long)
+  offsets-room = omega (arith, most s (d .tables) (d .planned) w (d .long) u (d .prepared), d .long)
 
-  module _ (a : Size) (e : a ≡ sizeOf (lengthBy (entriesBy s u))) where
+  module _ (a : Size) (e : a ≡ sizeOf (lengthBy (s .version) (entriesBy s u))) where
     known : a ≡ sizeOf (imageLength s)
-    known = e ∙ ap (λ (x : Entries). sizeOf (lengthBy x)) (entries-known s z (d .tables) (d .planned) w (d .long) u (d .prepared))
+    known = e ∙ ap (λ (x : Entries). sizeOf (lengthBy (s .version) x)) (entries-known s (d .tables) (d .planned) w (d .long) u (d .prepared))
 
     pub put-long : a ≡ TooLong → Answered ink s (unless (fitsOutput ink s (length out₀)) 23) out₀ out₀ (Refused 23)
-    put-long q = image-long ink s z (d .tables) (rules s z (d .tables) (d .planned) .0) out₀ (size-long (imageLength s) a known q)
+    put-long q = image-long ink s (d .tables) (rules s (d .tables) (d .planned) .0) out₀ (size-long (imageLength s) a known q)
 
     module _ (m : ℕ) (q : a ≡ Bytes m) where
       sized : (m ≡ imageLength s) × (imageLength s ≤ NONE)
       sized = size-bytes (imageLength s) m a known q
 
       pub put-short : length out₀ < m → Answered ink s (unless (fitsOutput ink s (length out₀)) 23) out₀ out₀ (Refused 23)
-      put-short h = image-short ink s z (d .tables) (rules s z (d .tables) (d .planned) .0) out₀ (sized .1) (omega (arith, sized .0))
+      put-short h = image-short ink s (d .tables) (rules s (d .tables) (d .planned) .0) out₀ (sized .1) (omega (arith, sized .0))
 
       module _ (h : m ≤ length out₀) where
         pub fill-asks : Ready s w (numbersBy l u) (tablesBy l u) (entriesBy s u) × (imageLength s ≤ length out₀)
         fill-asks = (
           subst (λ (x : Layout). Ready s w (numbersBy x u) (tablesBy x u) (entriesBy s u)) (sym (d .layout))
-              (ready s z (d .tables) (d .planned) w (d .long) u (d .prepared) (sized .1)),
+              (ready s (d .tables) (d .planned) w (d .long) u (d .prepared) (sized .1)),
           omega (arith, sized .0),
         )
 
         pub put-done : (out : List ℕ) → out ≡ over (imageFor ink s) out₀ → Answered ink s (unless (fitsOutput ink s (length out₀)) 23) out₀ out (Written m)
-        put-done out o = image-put ink s z (d .tables) (rules s z (d .tables) (d .planned) .0) out₀ m out (sized .1) (omega (arith, sized .0)) (sized .0) o
+        put-done out o = image-put ink s (d .tables) (rules s (d .tables) (d .planned) .0) out₀ m out (sized .1) (omega (arith, sized .0)) (sized .0) o

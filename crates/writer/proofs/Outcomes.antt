@@ -1,25 +1,24 @@
 -- What each end of the writer comes to: the answer, the output and the work words.
 use Prim.Native.Nat.{ℕ, zero, suc, _+_, _≤_, _<_}
 use mathlib.Core.Path.{_≡_, refl, sym, ap, _∙_, subst}
-use mathlib.Core.List.{List, [], _++_}
+use mathlib.Core.List.{List, _++_}
 use mathlib.Core.Bool.{Bool, true, false, cond, _&&_}
 use native.Mathlib.Omega.{arith}
 use lib.ListN.{length, drop, replicate}
-use lib.Dec.{leb, eqb}
+use lib.Dec.{leb}
 use borrow.Author.Tests.{le-leb, lt-leb, leb-true, leb-false, ne-eqb}
-use Rattle.laws.specs.Refusal.{unless, _▸_}
+use Rattle.laws.specs.Refusal.{unless}
 use Rattle.laws.proofs.First.{pass, fail}
 use Rattle.words.specs.Words.{NONE}
-use Rattle.image.specs.Header.{inkRight, nodeWords}
+use Rattle.image.specs.Header.{inkRight}
 use Rattle.image.specs.Sections.{Sections}
 use Rattle.draft.specs.Draft.{tablesRule, writeWords, reachRule}
 use Rattle.draft_image.specs.Encode.{imageFor, encodeRule, outAfter, untouched, encodeWorkAfter}
 use Rattle.words.specs.Output.{over}
-use Rattle.write_plan.specs.declared.Uses.{Uses}
-use Rattle.write_plan.specs.Planned.{planRule, Prepared}
+use Rattle.write_plan.specs.Planned.{planRule}
 use Rattle.write_image.specs.declared.size.Size.{Size}
 use Rattle.write_image.specs.declared.size.Size.the-variants.{Bytes, TooLong}
-use Rattle.write_image.specs.Length.{lengthBy, sizeOf, imageLength, entriesOf}
+use Rattle.write_image.specs.Length.{sizeOf, imageLength}
 use Rattle.write_image.proofs.SectionLengths.{length-is}
 use Rattle.writer.specs.declared.Encoded.{Encoded}
 use Rattle.writer.specs.declared.Encoded.the-variants.{Written, Refused}
@@ -63,7 +62,7 @@ unfolding encodedBy outAfter
 refused ink s r zero out e d = absurd (d refl)
 refused ink s r (suc k) out e d = record { answer = rw e refl; output = rw (e, ne-eqb (suc k) 0 (λ q. omega arith)) refl }
 
-module _ (ink : ℕ) (s : Sections) (z : s .stride ≡ nodeWords) (p : tablesRule s ≡ 0) (q : reachRule s ≡ 0) (out₀ : List ℕ) where
+module _ (ink : ℕ) (s : Sections) (p : tablesRule s ≡ 0) (q : reachRule s ≡ 0) (out₀ : List ℕ) where
   abbrev image : List ℕ
   image = imageFor ink s
 
@@ -76,7 +75,7 @@ module _ (ink : ℕ) (s : Sections) (z : s .stride ≡ nodeWords) (p : tablesRul
   image-long h = by (leb (length image) (length out₀)) refl
     where
       long : leb (length image) NONE ≡ false
-      long = lt-leb (length image) NONE (omega (arith, length-is ink s z p q))
+      long = lt-leb (length image) NONE (omega (arith, length-is ink s p q))
 
       by : (a : Bool) → leb (length image) (length out₀) ≡ a → Answered ink s (unless (fitsOutput ink s (length out₀)) 23) out₀ out₀ (Refused 23)
       by true e = no-room true false e long refl
@@ -84,21 +83,21 @@ module _ (ink : ℕ) (s : Sections) (z : s .stride ≡ nodeWords) (p : tablesRul
 
   pub image-short : imageLength s ≤ NONE → length out₀ < imageLength s → Answered ink s (unless (fitsOutput ink s (length out₀)) 23) out₀ out₀ (Refused 23)
   image-short g h =
-      no-room false true (lt-leb (length image) (length out₀) (omega (arith, length-is ink s z p q))) (le-leb (length image) NONE (omega (arith, length-is ink s z p q)))
+      no-room false true (lt-leb (length image) (length out₀) (omega (arith, length-is ink s p q))) (le-leb (length image) NONE (omega (arith, length-is ink s p q)))
       refl
 
   pub image-put : (m : ℕ) (out : List ℕ) → imageLength s ≤ NONE → imageLength s ≤ length out₀ → m ≡ imageLength s → out ≡ over image out₀
       → Answered ink s (unless (fitsOutput ink s (length out₀)) 23) out₀ out (Written m)
   unfolding encodedBy outAfter
   image-put m out g h e o =
-      let room : leb (length image) (length out₀) ≡ true = le-leb (length image) (length out₀) (omega (arith, length-is ink s z p q)) in
-      let word : leb (length image) NONE ≡ true = le-leb (length image) NONE (omega (arith, length-is ink s z p q)) in
+      let room : leb (length image) (length out₀) ≡ true = le-leb (length image) (length out₀) (omega (arith, length-is ink s p q)) in
+      let word : leb (length image) NONE ≡ true = le-leb (length image) NONE (omega (arith, length-is ink s p q)) in
       let r : unless (fitsOutput ink s (length out₀)) 23 ≡ 0 = pass (fitsOutput ink s (length out₀)) 23 (rw (room, word) refl) in
-      record { answer = rw r (ap Written (e ∙ sym (length-is ink s z p q))); output = rw r o }
+      record { answer = rw r (ap Written (e ∙ sym (length-is ink s p q))); output = rw r o }
 
 -- ---- with the work words that a draft needs
 
-module _ (ink : ℕ) (s : Sections) (z : s .stride ≡ nodeWords) (p : tablesRule s ≡ 0) (i : inkRight ink ≡ true) (out₀ : List ℕ) where
+module _ (ink : ℕ) (s : Sections) (p : tablesRule s ≡ 0) (i : inkRight ink ≡ true) (out₀ : List ℕ) where
   enough : (work : ℕ) → writeWords s ≤ work → leb (writeWords s) work ≡ true
   enough work h = le-leb (writeWords s) work h
 
@@ -106,7 +105,7 @@ module _ (ink : ℕ) (s : Sections) (z : s .stride ≡ nodeWords) (p : tablesRul
   pub plan-refused : (k : ℕ) → planRule s ≡ k → (k ≡ 0 → ⊥) → WrittenWith ink s out₀ out₀ (Refused k)
   unfolding planRule
   plan-refused k e d work h =
-      refused ink s (encodeRule ink s work (length out₀)) k out₀ (plan-wrong ink s work (length out₀) i p (enough work h) z (λ q. d (sym e ∙ q)) ∙ e) d
+      refused ink s (encodeRule ink s work (length out₀)) k out₀ (plan-wrong ink s work (length out₀) i p (enough work h) (λ q. d (sym e ∙ q)) ∙ e) d
 
   -- the room decides
   pub plan-made : planRule s ≡ 0 → (out : List ℕ) (a : Encoded) → Answered ink s (unless (fitsOutput ink s (length out₀)) 23) out₀ out a → WrittenWith ink s out₀ out a

@@ -1,37 +1,30 @@
 -- From the plan to what writing the image asks for.
-use Prim.Native.Nat.{ℕ, zero, suc, _+_, _*_, _-_, _^_, _≤_, _<_}
+use Prim.Native.Nat.{ℕ, _+_, _-_, _≤_, _<_}
 use mathlib.Core.Path.{_≡_, refl, sym, ap, _∙_}
-use mathlib.Core.List.{List, []}
+use mathlib.Core.List.{List}
 use native.Mathlib.Omega.{arith}
 use lib.ListN.{length, getD, drop}
 use lib.Seq.{getD-drop}
-use Rattle.laws.specs.Refusal.{unless, _▸_}
 use Rattle.laws.proofs.First.{both}
 use Rattle.words.specs.Words.{NONE}
-use Rattle.image.specs.Header.{nodeWords}
-use Rattle.image.specs.Sections.{Sections, nodeCount, childCount, namedCount, definitionCount, itemCount}
+use Rattle.image.specs.Sections.{Sections, nodeCount}
 use Rattle.records.proofs.PassedRules.{within}
 use Rattle.draft.proofs.Rules.{tables}
 use Rattle.draft.specs.Draft.{tablesRule, writeWords, reachRule, shapeRule, pathsRule}
 use Rattle.draft.specs.Numbering.{numbering, oldOf}
 use Rattle.draft_image.specs.Strings.{uses, byPath, pathOf, storedTexts}
-use Rattle.draft_image.specs.Ready.{textUses}
 use Rattle.written.proofs.Texts.{stored, offset-inside}
-use Rattle.write_text_uses.specs.Uses.{usesMost}
+use Rattle.write_text_uses.specs.Uses.{usesMost, storedBytes}
 use Rattle.write_text_uses.proofs.Bounds.{uses-bound}
-use Rattle.write_text_keys.specs.declared.Tables.{Tables}
-use Rattle.write_numbering.specs.declared.numbers.Numbers.{Numbers}
-use Rattle.write_plan.specs.declared.Layout.{Layout}
 use Rattle.write_plan.specs.declared.Uses.{Uses}
 use Rattle.write_plan.specs.Planned.{layoutOf, planRule, Prepared}
 use Rattle.write_plan.proofs.Premises.{once}
 use Rattle.write_plan.proofs.UseTexts.{boxes-long, uses-long}
-use Rattle.write_image.specs.declared.size.Entries.{Entries}
-use Rattle.write_image.specs.Length.{storedBytes, entriesOf, imageLength}
-use Rattle.write_image.specs.Given.{Told, Indexed, Keyed, Ready, pathsOf}
+use Rattle.write_image.specs.Length.{entriesOf, imageLength}
+use Rattle.write_image.specs.Given.{Told, Ready}
 use Rattle.writer.specs.Planned.{numbersBy, tablesBy, entriesBy}
 
-module _ (s : Sections) (z : s .stride ≡ nodeWords) (p : tablesRule s ≡ 0) (e : planRule s ≡ 0) where
+module _ (s : Sections) (p : tablesRule s ≡ 0) (e : planRule s ≡ 0) where
   -- the rules that the plan tests, one by one
   pub rules : (reachRule s ≡ 0) × (shapeRule s ≡ 0) × (pathsRule s ≡ 0)
   unfolding planRule
@@ -52,10 +45,10 @@ module _ (s : Sections) (z : s .stride ≡ nodeWords) (p : tablesRule s ≡ 0) (
     all = sym (uses-long s ∙ omega (arith, known .texts, known .paths))
 
     pub most : u .texts + u .paths ≤ usesMost s
-    most = omega (arith, known .texts, known .paths, uses-bound s order p (once s z p (rules .0)), boxes-long s z p (rules .0) (rules .2))
+    most = omega (arith, known .texts, known .paths, uses-bound s order p (once s p (rules .0)), boxes-long s p (rules .0) (rules .2))
 
     few : u .paths ≤ nodeCount s
-    few = omega (arith, known .paths, boxes-long s z p (rules .0) (rules .2), within s (nodeCount s) (tables s p .fields) .containers)
+    few = omega (arith, known .paths, boxes-long s p (rules .0) (rules .2), within s (nodeCount s) (tables s p .fields) .containers)
 
     pub entries-known : entriesBy s u ≡ entriesOf s
     entries-known = rw (known .paths, known .strings) refl
@@ -72,7 +65,6 @@ module _ (s : Sections) (z : s .stride ≡ nodeWords) (p : tablesRule s ≡ 0) (
       told : Told s w (numbersBy (layoutOf s) u)
       told =
           record {
-            wide = z;
             tables = p;
             reach = rules .0;
             shape = rules .1;

@@ -1,11 +1,10 @@
 -- The promises of every draft that `encode` has written.
 use Prim.Native.Nat.{ℕ, zero, suc}
-use mathlib.Core.Path.{_≡_, refl, sym, ap, _∙_, subst}
-use mathlib.Core.List.{List, _++_}
+use mathlib.Core.Path.{_≡_, refl, sym, ap, subst}
+use mathlib.Core.List.{List}
 use native.Mathlib.Omega.{arith}
 use lib.ListN.{length, take, drop}
 use lib.Seq.{take-at}
-use Rattle.image.specs.Sections.{Sections}
 use Rattle.draft_image.specs.Encode.{imageFor, encodeRule, outAfter}
 use Rattle.written.proofs.Loads.{written-loads, same-paths}
 use Rattle.written.proofs.Sound.{written-sound, written-index-once}

@@ -1,19 +1,18 @@
 -- The work words lent for writing, and given back cleared.
 use Prim.Native.Nat.{ℕ, _+_, _≤_, _<_}
 use mathlib.Core.Path.{_≡_, refl, sym, ap, _∙_}
-use mathlib.Core.List.{List, [], _++_}
+use mathlib.Core.List.{List, _++_}
 use mathlib.Core.Bool.{Bool, true, false, cond}
 use native.Mathlib.Omega.{arith}
 use lib.ListN.{length, take, drop, replicate, length-append}
 use lib.Dec.{leb}
 use borrow.Author.Tests.{leb-false}
 use lib.Seq.{length-take-le, drop-at}
-use Rattle.image.specs.Header.{inkRight}
 use Rattle.image.specs.Sections.{Sections}
 use Rattle.draft.specs.declared.Needed.{Needed}
 use Rattle.draft.specs.declared.Needed.the-variants.{Words, TooMany}
 use Rattle.draft.specs.Needs.{neededOf}
-use Rattle.draft.specs.Draft.{tablesRule, writeWords}
+use Rattle.draft.specs.Draft.{writeWords}
 use Rattle.draft.proofs.WorkWords.{needed-words}
 use Rattle.draft_image.specs.Encode.{imageFor, encodeRule, outAfter, encodeWorkAfter}
 use Rattle.writer.specs.declared.Encoded.{Encoded}

@@ -1,5 +1,5 @@
 -- What is handed from the plan to the writing of an image.
-use Prim.Native.Nat.{ℕ, _+_, _*_, _-_}
+use Prim.Native.Nat.{ℕ, _+_}
 use mathlib.Core.Path.{_≡_}
 use mathlib.Core.List.{List}
 use lib.ListN.{length}
@@ -11,17 +11,6 @@ use Rattle.write_plan.specs.declared.Uses.{Uses}
 use Rattle.draft.specs.Draft.{tablesRule, writeWords}
 use Rattle.write_plan.specs.Planned.{layoutOf, planRule, Prepared}
 use Rattle.write_image.specs.declared.size.Entries.{Entries}
-
--- where the tables lie, by a draft's counts and the work words that it needs
-abbrev pub layoutBy : ℕ → ℕ → ℕ → ℕ → ℕ → ℕ → Layout
-layoutBy nodes named definitions items payload needed =
-    record {
-      at = 2 * (2 * nodes + named + definitions + items + payload);
-      paths = 2 * (2 * nodes + named + definitions + items + payload);
-      lengths = 2 * (2 * nodes + named + definitions + items + payload) + nodes;
-      order = needed - 2 * nodes;
-      new = needed - nodes;
-    }
 
 -- where numbers and offsets lie; offsets are behind the sorted uses
 abbrev pub numbersBy : Layout → Uses → Numbers

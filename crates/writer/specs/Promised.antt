@@ -6,7 +6,7 @@ use mathlib.Core.List.{List}
 use mathlib.Core.Bool.{true}
 use lib.ListN.{length, take}
 use Rattle.image.specs.Sections.{Sections, nodeCount, isContainer}
-use Rattle.image.specs.Header.{nodeWords, sectionsOf}
+use Rattle.image.specs.Header.{version, sectionsOf}
 use Rattle.index.specs.Paths.{canonicalPath}
 use Rattle.load.specs.Load.{loadRule, loadWords}
 use Rattle.draft.specs.Numbering.{numbering, oldOf}
@@ -33,7 +33,7 @@ pub record Promised (s : Sections) (image : List ℕ) : Type 0 where
 -- of every answer `Written n` of `encode`, by its contract: the output is that of the clause `output`
 abbrev pub EncodedKeeps : Type 0
 EncodedKeeps =
-    (ink : ℕ) (s : Sections) (work n : ℕ) (out : List ℕ) → s .stride ≡ nodeWords → DraftWords s → encodedOf ink s work (length out) ≡ Written n
+    (ink : ℕ) (s : Sections) (work n : ℕ) (out : List ℕ) → s .version ≡ version → DraftWords s → encodedOf ink s work (length out) ≡ Written n
     → (take n (outAfter (encodeRule ink s work (length out)) (imageFor ink s) out) ≡ imageFor ink s)
     × Promised s (take n (outAfter (encodeRule ink s work (length out)) (imageFor ink s) out))
 

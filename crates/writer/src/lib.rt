@@ -6,12 +6,17 @@ ghost use Prim.Native.Nat.{_+_, _*_, _≤_};
 ghost use Rattle.writer.specs.Answer.{encodedOf, fitsOutput, Answered, WrittenWith};
 ghost use mathlib.Core.Bool.{true};
 ghost use Rattle.draft.specs.Draft.{tablesRule, writeWords};
-ghost use Rattle.image.specs.Header.{inkRight};
+ghost use Rattle.draft.specs.Needs.{wordsFor};
+ghost use Rattle.image.specs.Header.{inkRight, version};
 ghost use Rattle.draft_image.specs.Encode.{imageFor, encodeRule, outAfter, encodeWorkAfter};
 ghost use Rattle.laws.specs.Refusal.{unless};
-ghost use Rattle.writer.specs.Planned.{layoutBy, Drawn};
+ghost use Rattle.write_plan.specs.Planned.{layoutBy};
+ghost use Rattle.writer.specs.Planned.{Drawn};
+use draft::EntryCounts;
 use draft::Needed;
+use draft::source::Source;
 use draft::tables;
+use image::ImageView;
 use image::refusal::BAD_INK_VERSION;
 use image::refusal::NO_ROOM;
 use image::refusal::TOO_FEW_WORDS;
@@ -31,24 +36,17 @@ pub enum Encoded {
 }
 
 // Where the tables lie, by a draft's counts and the work words that it needs.
-fn layout_of(
-    nodes: usize,
-    named: usize,
-    definitions: usize,
-    items: usize,
-    payload: usize,
-    needed: usize,
-) -> Layout
-    requires { ⌜ 16 * nodes + 4 * (named + definitions + items + payload) ≤ needed ⌝ }
-    ensures { λ r. ⌜ r ≡ layoutBy nodes named definitions items payload needed ⌝ }
+fn layout_of(counts: EntryCounts, needed: usize) -> Layout
+    requires { ⌜ wordsFor counts ≤ needed ⌝ }
+    ensures { λ r. ⌜ r ≡ layoutBy counts needed ⌝ }
 {
-    let uses = 2 * nodes + named + definitions + items + payload;
+    let uses = 2 * counts.nodes + counts.named + counts.definitions + counts.items + counts.payload;
     Layout {
         at: 2 * uses,
         paths: 2 * uses,
-        lengths: 2 * uses + nodes,
-        order: needed - 2 * nodes,
-        new: needed - nodes,
+        lengths: 2 * uses + counts.nodes,
+        order: needed - 2 * counts.nodes,
+        new: needed - counts.nodes,
     }
 }
 
@@ -66,21 +64,28 @@ fn put_image(
     l: Layout,
     uses: Uses,
     out: &mut [u8],
+    source: Source,
 ) -> Encoded
-    requires { ⌜ Drawn (draftOf (now nodes) (now children) (now named) (now definitions) (now items) (now payload) (now strings)) (now work) l uses ⌝ }
-    ensures { λ r. ⌜ Answered ink (draftOf (now (nodes .entry)) (now (children .entry)) (now (named .entry)) (now (definitions .entry)) (now (items .entry)) (now (payload .entry)) (now (strings .entry))) (unless (fitsOutput ink (draftOf (now (nodes .entry)) (now (children .entry)) (now (named .entry)) (now (definitions .entry)) (now (items .entry)) (now (payload .entry)) (now (strings .entry))) (length (now (out .entry)))) 23) (now (out .entry)) (now (out .exit)) r ⌝ }
+    requires { ⌜ (let s =
+        draftOf (source .version) (now nodes) (now children) (now named) (now definitions) (now items) (now payload) (now strings) in
+        Drawn s (now work) l uses) ⌝ }
+    ensures { λ r. ⌜ (let s =
+        draftOf (source .version) (now (nodes .entry)) (now (children .entry)) (now (named .entry)) (now (definitions .entry)) (now (items .entry))
+        (now (payload .entry)) (now (strings .entry)) in
+        Answered ink s (unless (fitsOutput ink s (length (now (out .entry)))) 23) (now (out .entry)) (now (out .exit)) r) ⌝ }
 {
+    let counts = draft::entry_counts(nodes, children, named, definitions, items, payload, source);
     let entries = Entries {
-        nodes: nodes.len() / 10,
-        children: children.len(),
-        named: named.len() / 3,
-        definitions: definitions.len() / 4,
-        items: items.len() / 3,
+        nodes: counts.nodes,
+        children: counts.children,
+        named: counts.named,
+        definitions: counts.definitions,
+        items: counts.items,
         index: uses.paths,
-        payload: payload.len(),
+        payload: counts.payload,
         strings: uses.strings,
     };
-    match size::image_length(entries) {
+    match size::image_length(entries, source) {
         Size::TooLong => Encoded::Refused(NO_ROOM),
         Size::Bytes(length) => {
             if out.len() < length as usize {
@@ -111,6 +116,7 @@ fn put_image(
                 tables,
                 entries,
                 out,
+                source,
             );
             Encoded::Written(length)
         }
@@ -129,19 +135,21 @@ fn write(
     strings: &[u8],
     out: &mut [u8],
     work: &mut [u32],
+    source: Source,
 ) -> Encoded
-    requires { ⌜ (inkRight ink ≡ true) × (tablesRule (draftOf (now nodes) (now children) (now named) (now definitions) (now items) (now payload) (now strings)) ≡ 0) ⌝ }
-    requires { ⌜ length (now work) ≡ writeWords (draftOf (now nodes) (now children) (now named) (now definitions) (now items) (now payload) (now strings)) ⌝ }
-    ensures { λ r. ⌜ WrittenWith ink (draftOf (now (nodes .entry)) (now (children .entry)) (now (named .entry)) (now (definitions .entry)) (now (items .entry)) (now (payload .entry)) (now (strings .entry))) (now (out .entry)) (now (out .exit)) r ⌝ }
+    requires { ⌜ (let s =
+        draftOf (source .version) (now nodes) (now children) (now named) (now definitions) (now items) (now payload) (now strings) in
+        (inkRight ink ≡ true) × (tablesRule s ≡ 0)) ⌝ }
+    requires { ⌜ (let s =
+        draftOf (source .version) (now nodes) (now children) (now named) (now definitions) (now items) (now payload) (now strings) in
+        length (now work) ≡ writeWords s) ⌝ }
+    ensures { λ r. ⌜ (let s =
+        draftOf (source .version) (now (nodes .entry)) (now (children .entry)) (now (named .entry)) (now (definitions .entry))
+        (now (items .entry)) (now (payload .entry)) (now (strings .entry)) in
+        WrittenWith ink s (now (out .entry)) (now (out .exit)) r) ⌝ }
 {
-    let l = layout_of(
-        nodes.len() / 10,
-        named.len() / 3,
-        definitions.len() / 4,
-        items.len() / 3,
-        payload.len(),
-        work.len(),
-    );
+    let counts = draft::entry_counts(nodes, children, named, definitions, items, payload, source);
+    let l = layout_of(counts, work.len());
     match write_plan::prepare(
         nodes,
         children,
@@ -152,6 +160,7 @@ fn write(
         strings,
         work,
         l,
+        source,
     ) {
         Plan::Refused(number) => Encoded::Refused(number),
         Plan::Ready(uses) => put_image(
@@ -167,6 +176,7 @@ fn write(
             l,
             uses,
             out,
+            source,
         ),
     }
 }
@@ -186,26 +196,42 @@ pub fn encode(
     out: &mut [u8],
     work: &mut [u32],
 ) -> Encoded
-    ensures answer { λ r. ⌜ r ≡ encodedOf ink (draftOf (now (nodes .entry)) (now (children .entry)) (now (named .entry)) (now (definitions .entry)) (now (items .entry)) (now (payload .entry)) (now (strings .entry))) (length (now (work .entry))) (length (now (out .entry))) ⌝ }
-    ensures output { λ r. ⌜ now (out .exit) ≡ outAfter (encodeRule ink (draftOf (now (nodes .entry)) (now (children .entry)) (now (named .entry)) (now (definitions .entry)) (now (items .entry)) (now (payload .entry)) (now (strings .entry))) (length (now (work .entry))) (length (now (out .entry)))) (imageFor ink (draftOf (now (nodes .entry)) (now (children .entry)) (now (named .entry)) (now (definitions .entry)) (now (items .entry)) (now (payload .entry)) (now (strings .entry)))) (now (out .entry)) ⌝ }
-    ensures words { λ r. ⌜ now (work .exit) ≡ encodeWorkAfter (writeWords (draftOf (now (nodes .entry)) (now (children .entry)) (now (named .entry)) (now (definitions .entry)) (now (items .entry)) (now (payload .entry)) (now (strings .entry)))) (encodeRule ink (draftOf (now (nodes .entry)) (now (children .entry)) (now (named .entry)) (now (definitions .entry)) (now (items .entry)) (now (payload .entry)) (now (strings .entry))) (length (now (work .entry))) (length (now (out .entry)))) (now (work .entry)) ⌝ }
+    ensures answer { λ r. ⌜ (let s =
+        draftOf version (now (nodes .entry)) (now (children .entry)) (now (named .entry)) (now (definitions .entry)) (now (items .entry))
+        (now (payload .entry)) (now (strings .entry)) in
+        r ≡ encodedOf ink s (length (now (work .entry))) (length (now (out .entry)))) ⌝ }
+    ensures output { λ r. ⌜ (let s =
+        draftOf version (now (nodes .entry)) (now (children .entry)) (now (named .entry)) (now (definitions .entry)) (now (items .entry))
+        (now (payload .entry)) (now (strings .entry)) in
+        now (out .exit) ≡ outAfter (encodeRule ink s (length (now (work .entry))) (length (now (out .entry)))) (imageFor ink s)
+        (now (out .entry))) ⌝ }
+    ensures words { λ r. ⌜ (let s =
+        draftOf version (now (nodes .entry)) (now (children .entry)) (now (named .entry)) (now (definitions .entry)) (now (items .entry))
+        (now (payload .entry)) (now (strings .entry)) in
+        now (work .exit) ≡ encodeWorkAfter (writeWords s) (encodeRule ink s (length (now (work .entry))) (length (now (out .entry))))
+        (now (work .entry))) ⌝ }
 {
     if !draft::ink_right(ink) {
         return Encoded::Refused(BAD_INK_VERSION);
     }
-    let broken = tables::tables_rule(nodes, children, named, definitions, items, payload, strings);
-    if broken != 0 {
-        return Encoded::Refused(broken);
-    }
-    match draft::work_words_fit(
+    let source = Source {
+        version: ImageView::VERSION,
+    };
+    let broken = tables::tables_rule(
         nodes,
         children,
         named,
         definitions,
         items,
         payload,
-        work.len(),
-    ) {
+        strings,
+        source,
+    );
+    if broken != 0 {
+        return Encoded::Refused(broken);
+    }
+    let counts = draft::entry_counts(nodes, children, named, definitions, items, payload, source);
+    match draft::work_words_fit(counts, work.len()) {
         Needed::TooMany => Encoded::Refused(TOO_FEW_WORDS),
         Needed::Words(needed) => {
             let answer = write(
@@ -219,6 +245,7 @@ pub fn encode(
                 strings,
                 out,
                 &mut work[..needed],
+                source,
             );
             tree::clear(work, needed);
             answer

@@ -49,7 +49,7 @@ module _ {s : Sections} {order : List ℕ} {kept : List (List ℕ)} (g : Given s
     -- the items are inside, and start where those before end
     pub items-right : (firstItem s d + numberOfItems s d ≤ itemCount s) × (firstItem s d ≡ itemsBefore s d)
     items-right =
-        let p = both-true (leb (firstItem s d + numberOfItems s d) (itemCount s)) _ (g .taken .definitions d h .1) in
+        let p = both-true (leb (firstItem s d + numberOfItems s d) (itemCount s)) _ (g .taken .tables .definitions d h .1) in
         (leb-true _ _ (p .0), eqb-true _ _ (p .1))
 
   items-before : (d : ℕ) → d ≤ definitionCount s → itemsBefore v d ≡ itemsBefore s d
@@ -82,21 +82,21 @@ module _ {s : Sections} {order : List ℕ} {kept : List (List ℕ)} (g : Given s
       item-good : goodItem v (firstItem v d + j) ≡ true
       item-good =
           ap (goodItem v) item-at
-          ∙ good-at g (itemTextOf s d j) (itemWord v at 0) (itemWord v at 1) (g .stored .item d h j q) (good-utf8 s _ _ (g .taken .items at item-inside)) item-at-word item-len-word
+          ∙ good-at g (itemTextOf s d j) (itemWord v at 0) (itemWord v at 1) (g .stored .item d h j q) (good-utf8 s _ _ (g .taken .tables .items at item-inside)) item-at-word item-len-word
 
     item-kept : (j : ℕ) → j < numberOfItems s d → itemRule v d j ≡ 0
     unfolding itemRuleFrom
     item-kept j q =
         then _ _ (pass _ 17 (item-good j q))
-        (pass _ 17 (rising-same j (itemTextOf v d) (itemTextOf s d) (λ k l. item-text k (omega arith)) (g .taken .rising-items d h j q)))
+        (pass _ 17 (rising-same j (itemTextOf v d) (itemTextOf s d) (λ k l. item-text k (omega arith)) (g .taken .shape .rising-items d h j q)))
 
     definition-kept : definitionRule v d ≡ 0
     unfolding definitionRule
     definition-kept =
         then _ _
         (pass _ 10 (good-at g (definitionText s d) (definitionWord v d 0) (definitionWord v d 1) (g .stored .definition d h)
-        (good-utf8 s _ _ (g .taken .definitions d h .0)) (at-word d h) (len-word d h)))
-        (then _ _ (pass _ 17 (rising-same d (definitionText v) (definitionText s) (λ k l. definition-text k (omega arith)) (g .taken .rising-definitions d h)))
+        (good-utf8 s _ _ (g .taken .tables .definitions d h .0)) (at-word d h) (len-word d h)))
+        (then _ _ (pass _ 17 (rising-same d (definitionText v) (definitionText s) (λ k l. definition-text k (omega arith)) (g .taken .shape .rising-definitions d h)))
         (then _ _
         (pass _ 11 (and-true _ _
         (le-leb (firstItem v d + numberOfItems v d) (itemCount v) (omega (arith, first-item d h, items-of d h, item-count s order kept, items-right d h .0)))
@@ -108,7 +108,7 @@ module _ {s : Sections} {order : List ℕ} {kept : List (List ℕ)} (g : Given s
   items-used =
       eq-eqb _ _
       (ap (itemsBefore v) (definition-count s order kept) ∙ items-before (definitionCount s) (omega arith)
-      ∙ eqb-true (itemsBefore s (definitionCount s)) (itemCount s) (unfold itemsUsedUp in g .taken .items-used) ∙ sym (item-count s order kept))
+      ∙ eqb-true (itemsBefore s (definitionCount s)) (itemCount s) (unfold itemsUsedUp in g .taken .tables .items-used) ∙ sym (item-count s order kept))
 
   pub definitions-pass : definitionsRule v ≡ 0
   unfolding definitionsRule

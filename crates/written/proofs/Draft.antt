@@ -1,5 +1,5 @@
 -- What the rules say of a draft that the writer takes, and of its numbering.
-use Prim.Native.Nat.{ℕ, zero, _≤_, _<_}
+use Prim.Native.Nat.{ℕ, _≤_, _<_}
 use mathlib.Core.Path.{_≡_}
 use mathlib.Core.Bool.{true}
 use lib.ListN.{length}
@@ -8,33 +8,22 @@ use borrow.Author.Tests.{leb-true}
 use Rattle.laws.specs.Lists.{has}
 use Rattle.laws.proofs.First.{both, passed, first-all}
 use Rattle.words.specs.Words.{NONE}
-use Rattle.texts.specs.Text.{rising}
-use Rattle.image.specs.Sections.{Sections, nodeCount, definitionCount, itemCount}
+use Rattle.image.specs.Sections.{Sections, nodeCount}
 use Rattle.image.specs.Header.{inkRight}
-use Rattle.records.specs.Records.{fieldsRule, parentRule, rootRight, usedUp}
-use Rattle.tree.specs.Tree.{entriesRule, readWalk}
+use Rattle.tree.specs.Tree.{readWalk}
 use Rattle.tree.proofs.Members.{both-true}
 use Rattle.tree.proofs.Numbers.{EachOnce}
-use Rattle.index.specs.Definitions.{goodDefinition, goodItem, itemsRight, numberOfItems, itemsUsedUp, definitionText, itemTextOf}
 use Rattle.draft.specs.Draft.{newPath, pathRule, pathsRule, tablesRule, reachRule, shapeRule}
 use Rattle.draft.specs.Numbering.{numbering}
-use Rattle.draft.proofs.Rules.{tables, shape}
+use Rattle.draft.proofs.Rules.{Tables, Shape, tables, shape}
 use Rattle.draft.proofs.ReachedNodes.{reached, numbered as draft-numbered}
 use Rattle.draft_image.specs.Encode.{imageFor, draftRule, encodeRule}
 
+-- the rules 19 to 22, one by one
 pub record Taken (s : Sections) : Type 0 where
-  pub some : zero < nodeCount s
-  pub fields : (i : ℕ) → i < nodeCount s → fieldsRule s i ≡ 0
-  pub definitions : (d : ℕ) → d < definitionCount s → (goodDefinition s d ≡ true) × (itemsRight s d ≡ true)
-  pub items : (j : ℕ) → j < itemCount s → goodItem s j ≡ true
-  pub items-used : itemsUsedUp s ≡ true
-  pub used : usedUp s ≡ true
+  pub tables : Tables s
+  pub shape : Shape s
   pub reached : (i : ℕ) → i < nodeCount s → has i (readWalk s .seen) ≡ true
-  pub root : rootRight s ≡ true
-  pub parents : (i : ℕ) → i < nodeCount s → parentRule s i ≡ 0
-  pub entries : (i : ℕ) → i < nodeCount s → entriesRule s i ≡ 0
-  pub rising-definitions : (d : ℕ) → d < definitionCount s → rising (definitionText s) d ≡ true
-  pub rising-items : (d : ℕ) → d < definitionCount s → (j : ℕ) → j < numberOfItems s d → rising (itemTextOf s d) j ≡ true
   pub paths : (i : ℕ) → i < nodeCount s → newPath s i ≡ true
 
 module _ (ink : ℕ) (s : Sections) (work room : ℕ) (p : encodeRule ink s work room ≡ 0) where
@@ -46,7 +35,6 @@ module _ (ink : ℕ) (s : Sections) (work room : ℕ) (p : encodeRule ink s work
   unfolding encodeRule
   image-fits = leb-true _ _ (both-true (leb (length (imageFor ink s)) room) _ (passed _ 22 (both _ _ p .1)) .1)
 
-  -- the rules 19 to 22, one by one
   drafted : (tablesRule s ≡ 0) × (reachRule s ≡ 0) × (shapeRule s ≡ 0) × (pathsRule s ≡ 0)
   unfolding encodeRule draftRule
   drafted =
@@ -58,21 +46,10 @@ module _ (ink : ℕ) (s : Sections) (work room : ℕ) (p : encodeRule ink s work
   pub taken : Taken s
   unfolding pathsRule pathRule
   taken =
-      let t = tables s (drafted .0) in
-      let u = shape s (drafted .2) in
       record {
-        some = t .some;
-        fields = t .fields;
-        definitions = t .definitions;
-        items = t .items;
-        items-used = t .items-used;
-        used = t .used;
+        tables = tables s (drafted .0);
+        shape = shape s (drafted .2);
         reached = reached s (drafted .1);
-        root = u .root;
-        parents = u .parents;
-        entries = u .entries;
-        rising-definitions = u .rising-definitions;
-        rising-items = u .rising-items;
         paths = λ i h. passed _ 21 (both _ _ (first-all _ _ (drafted .3) i h) .1);
       }
 

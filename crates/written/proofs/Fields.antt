@@ -13,7 +13,7 @@ use Rattle.laws.specs.Lists.{placeIn}
 use Rattle.words.specs.Words.{NONE}
 use Rattle.words.proofs.Words.{length-bytes}
 use Rattle.image.specs.Sections.{Sections, nodeCount, parentOf, placeOf, tagOf, f, inside, isContainer}
-use Rattle.image.specs.Header.{nodeWords}
+use Rattle.image.proofs.Widths.{words-some}
 use Rattle.image.specs.Encoding.{startOf, sectionOut, imageOf}
 use Rattle.records.specs.Fields.{Kind, Container, Choice, Command, Divert, Glue, Operator, Tag, BoolValue, IntValue, FloatValue, StringValue, ListValue, TargetValue, PointerValue, Assignment, Reference, Void, Unknown, kinds, kindOf, fields, Field}
 use Rattle.records.specs.Records.{fieldsAt, numberOfChildren, numberOfNamed, payloadLengthOf}
@@ -56,7 +56,6 @@ roomy ink v h =
     }
 
 pub record Given (s : Sections) (order : List ℕ) (kept : List (List ℕ)) : Type 0 where
-  pub wide : nodeWords ≤ s .stride
   pub words : DraftWords s
   pub taken : Taken s
   pub numbered : EachOnce (nodeCount s) order
@@ -70,10 +69,10 @@ module _ {s : Sections} {order : List ℕ} {kept : List (List ℕ)} (g : Given s
   -- ---- numbers
 
   pub counted : nodeCount v ≡ nodeCount s
-  counted = node-count s order kept (g .wide)
+  counted = node-count s order kept
 
   pub few : nodeCount s < NONE
-  few = omega (arith, g .room .nodes, nodes-length s order kept (g .wide), mul-le-mul-left (nodeCount s) (g .wide))
+  few = omega (arith, g .room .nodes, nodes-length s order kept, mul-le-mul-left (nodeCount s) (words-some (s .version)))
 
   pub old-in : (j : ℕ) → j < nodeCount s → oldOf order j < nodeCount s
   old-in = get-below (g .numbered)
@@ -92,7 +91,7 @@ module _ {s : Sections} {order : List ℕ} {kept : List (List ℕ)} (g : Given s
   old-zero = g .numbered .first
 
   pub new-zero : placeIn order 0 ≡ 0
-  new-zero = ap (placeIn order) (sym old-zero) ∙ new-old 0 (g .taken .some)
+  new-zero = ap (placeIn order) (sym old-zero) ∙ new-old 0 (g .taken .tables .some)
 
   pub zero-old : (j : ℕ) → j < nodeCount s → oldOf order j ≡ 0 → j ≡ 0
   zero-old j h e = sym (new-old j h) ∙ ap (placeIn order) e ∙ new-zero
@@ -114,13 +113,13 @@ module _ {s : Sections} {order : List ℕ} {kept : List (List ℕ)} (g : Given s
   -- ---- the words of a node
 
   pub parent-word : (j : ℕ) → j < nodeCount s → parentOf v j ≡ newOf order (parentOf s (oldOf order j))
-  parent-word j h = node-word s order kept (g .wide) j 0 h (omega (arith, g .wide)) ∙ (unfold nodeOut in refl)
+  parent-word j h = node-word s order kept j 0 h (omega (arith, words-some (s .version))) ∙ (unfold nodeOut in refl)
 
   pub place-word : (j : ℕ) → j < nodeCount s → placeOf v j ≡ placeOf s (oldOf order j)
-  place-word j h = node-word s order kept (g .wide) j 1 h (omega (arith, g .wide)) ∙ (unfold nodeOut in refl)
+  place-word j h = node-word s order kept j 1 h (omega (arith, words-some (s .version))) ∙ (unfold nodeOut in refl)
 
   pub tag-word : (j : ℕ) → j < nodeCount s → tagOf v j ≡ tagOf s (oldOf order j)
-  tag-word j h = node-word s order kept (g .wide) j 2 h (omega (arith, g .wide)) ∙ (unfold nodeOut in refl)
+  tag-word j h = node-word s order kept j 2 h (omega (arith, words-some (s .version))) ∙ (unfold nodeOut in refl)
 
   -- the words from f k of node j are xs
   abbrev pub Reads : ℕ → ℕ → List ℕ → Type 0
@@ -160,7 +159,7 @@ module _ {s : Sections} {order : List ℕ} {kept : List (List ℕ)} (g : Given s
   pub reads : (j : ℕ) → j < nodeCount s → ReadsAll j (oldOf order j) (fieldsAt s (oldOf order j))
   reads j h =
       reads-kind j (oldOf order j) (kindOf (tagOf s (oldOf order j)))
-      (λ m q. node-word s order kept (g .wide) j (3 + m) h (omega (arith, g .wide)) ∙ shift m q)
+      (λ m q. node-word s order kept j (3 + m) h (omega (arith, words-some (s .version))) ∙ shift m q)
     where
       put : List ℕ
       put = putFields s order kept (oldOf order j) (replicate 7 NONE) (fieldsAt s (oldOf order j))

@@ -4,7 +4,7 @@ use mathlib.Core.Path.{_≡_, refl, sym, ap, _∙_}
 use mathlib.Core.List.{List, _++_}
 use mathlib.Core.Bool.{true}
 use native.Mathlib.Omega.{arith}
-use native.Mathlib.Nat.{le-trans}
+use native.Mathlib.Nat.{le-trans, mul-le-mul-left}
 use lib.ListN.{length, getD, take, length-append}
 use lib.Seq.{drop-append-add}
 use borrow.Author.Tests.{eq-eqb, le-leb, ne-eqb}
@@ -15,9 +15,10 @@ use Rattle.words.specs.Words.{wordAt, wordsOf, bytesOf}
 use Rattle.words.proofs.Words.{word-back, words-of-bytes, length-bytes}
 use Rattle.texts.specs.Text.{ascii, orderOf, same}
 use Rattle.checksum.specs.Crc.{checksumOf, crc32}
-use Rattle.image.specs.Sections.{Sections, partAt, nodeCount, namedCount, definitionCount, itemCount, indexCount}
-use Rattle.image.specs.Header.{magic, headerLength, version, nodeWords, sectionAt, viewOf, sectionBytes, sectionsIn, sectionsOf, sizes, startBy, sectionRight, laidOut, inkRight, headerRule}
+use Rattle.image.specs.Sections.{Sections, nodeWords, textEntryWords, definitionWords, partAt, nodeCount, namedCount, definitionCount, itemCount, indexCount}
+use Rattle.image.specs.Header.{magic, headerLength, version, sectionAt, viewOf, sectionBytes, sectionsBy, sectionsOf, sizes, startBy, sectionRight, laidOut, inkRight, headerRule}
 use Rattle.image.specs.Encoding.{countOf, sectionOut, startOf, bodyOf, headerWith, imageOf}
+use Rattle.image.proofs.Widths.{words-some, size-words}
 use Rattle.load.specs.Load.{checksumRule}
 use Rattle.tree.proofs.Members.{and-true, all-so, sum-ext}
 use Rattle.draft_image.proofs.Joins.{sum-below, join-length, join-part}
@@ -37,13 +38,13 @@ eight P a b c d e f g h (suc (suc (suc (suc (suc (suc (suc (suc k)))))))) q = ab
 
 -- sections of whole entries, whose words are words and whose bytes fit an image
 pub record Whole (s : Sections) : Type 0 where
-  pub stride : s .stride ≡ nodeWords
+  pub versioned : s .version ≡ version
   pub some : zero < nodeCount s
-  pub nodes : length (s .nodes) ≡ nodeCount s * nodeWords
-  pub named : length (s .named) ≡ namedCount s * 3
-  pub definitions : length (s .definitions) ≡ definitionCount s * 4
-  pub items : length (s .items) ≡ itemCount s * 3
-  pub index : length (s .index) ≡ indexCount s * 3
+  pub nodes : length (s .nodes) ≡ nodeCount s * nodeWords (s .version)
+  pub named : length (s .named) ≡ namedCount s * textEntryWords
+  pub definitions : length (s .definitions) ≡ definitionCount s * definitionWords
+  pub items : length (s .items) ≡ itemCount s * textEntryWords
+  pub index : length (s .index) ≡ indexCount s * textEntryWords
   pub node-words : Below (2 ^ 32) (s .nodes)
   pub child-words : Below (2 ^ 32) (s .children)
   pub named-words : Below (2 ^ 32) (s .named)
@@ -67,10 +68,11 @@ unfolding imageOf
 image-length ink s = length-with ink s _
 
 module _ (ink : ℕ) (s : Sections) (o : Whole s) (small : ink < 2 ^ 32) where
-  section-size : (k : ℕ) → k < 8 → countOf s k * getD sizes k 0 ≡ length (sectionOut s k)
+  section-size : (k : ℕ) → k < 8 → countOf s k * getD (sizes (s .version)) k 0 ≡ length (sectionOut s k)
   unfolding countOf sectionOut sizes
   section-size =
-      eight (λ k. countOf s k * getD sizes k 0 ≡ length (sectionOut s k)) (omega (arith, length-bytes (s .nodes), o .nodes)) (omega (arith, length-bytes (s .children)))
+      eight (λ k. countOf s k * getD (sizes (s .version)) k 0 ≡ length (sectionOut s k))
+      (omega (arith, length-bytes (s .nodes), o .nodes, size-words (nodeCount s) (s .version))) (omega (arith, length-bytes (s .children)))
       (omega (arith, length-bytes (s .named), o .named)) (omega (arith, length-bytes (s .definitions), o .definitions))
       (omega (arith, length-bytes (s .items), o .items)) (omega (arith, length-bytes (s .index), o .index)) (omega arith) (omega arith)
 
@@ -85,7 +87,14 @@ module _ (ink : ℕ) (s : Sections) (o : Whole s) (small : ink < 2 ^ 32) where
   unfolding sizes
   count-small =
       eight (λ k. countOf s k < 2 ^ 32)
-      (omega (arith, section-size 0 (omega arith), section-end 0 (omega arith), o .fits))
+      (omega (
+        arith,
+        section-size 0 (omega arith),
+        section-end 0 (omega arith),
+        o .fits,
+        size-words (countOf s 0) (s .version),
+        mul-le-mul-left (countOf s 0) (words-some (s .version)),
+      ))
       (omega (arith, section-size 1 (omega arith), section-end 1 (omega arith), o .fits))
       (omega (arith, section-size 2 (omega arith), section-end 2 (omega arith), o .fits))
       (omega (arith, section-size 3 (omega arith), section-end 3 (omega arith), o .fits))
@@ -120,9 +129,9 @@ module _ (ink : ℕ) (s : Sections) (o : Whole s) (small : ink < 2 ^ 32) where
 
     -- magic, version, ink version, total length, checksum
     words-with : c < 2 ^ 32
-        → (same (take 8 bytes) magic ≡ true) × (wordAt bytes 8 ≡ version) × (wordAt bytes 12 ≡ ink) × (wordAt bytes 16 ≡ startOf s 8) × (wordAt bytes 84 ≡ c)
+        → (same (take 8 bytes) magic ≡ true) × (wordAt bytes 8 ≡ s .version) × (wordAt bytes 12 ≡ ink) × (wordAt bytes 16 ≡ startOf s 8) × (wordAt bytes 84 ≡ c)
     unfolding wordAt headerWith magic ascii bytesOf joinOf orderOf same
-    words-with q = (refl, refl, word-back ink small, word-back (startOf s 8) (o .fits), word-back c q)
+    words-with q = (refl, word-back (s .version) (omega (arith, o .versioned)), word-back ink small, word-back (startOf s 8) (o .fits), word-back c q)
 
     -- the checksum does not see itself
     sum-with : checksumOf bytes ≡ checksumOf (headerWith ink s 0 ++ b)
@@ -150,7 +159,7 @@ module _ (ink : ℕ) (s : Sections) (o : Whole s) (small : ink < 2 ^ 32) where
   unfolding checksumOf crc32
   sum-small b = omega arith
 
-  image-words : (same (take 8 (imageOf ink s)) magic ≡ true) × (wordAt (imageOf ink s) 8 ≡ version) × (wordAt (imageOf ink s) 12 ≡ ink)
+  image-words : (same (take 8 (imageOf ink s)) magic ≡ true) × (wordAt (imageOf ink s) 8 ≡ s .version) × (wordAt (imageOf ink s) 12 ≡ ink)
       × (wordAt (imageOf ink s) 16 ≡ startOf s 8) × (wordAt (imageOf ink s) 84 ≡ checksumOf (imageOf ink s))
   unfolding imageOf
   image-words =
@@ -164,10 +173,11 @@ module _ (ink : ℕ) (s : Sections) (o : Whole s) (small : ink < 2 ^ 32) where
   unfolding imageOf
   section-found k h = found-with _ k h
 
-  section-bytes : (k : ℕ) → k < 8 → sectionBytes (imageOf ink s) (sectionAt (imageOf ink s) k) (getD sizes k 0) ≡ sectionOut s k
+  section-bytes : (k : ℕ) → k < 8 → sectionBytes (imageOf ink s) (sectionAt (imageOf ink s) k) (getD (sizes (wordAt (imageOf ink s) 8)) k 0) ≡ sectionOut s k
   unfolding sectionBytes
   section-bytes k h =
       rw (
+        image-words .1,
         offset-is k h,
         count-is k h,
         section-size k h,
@@ -177,8 +187,8 @@ module _ (ink : ℕ) (s : Sections) (o : Whole s) (small : ink < 2 ^ 32) where
 
   pub round-trip : sectionsOf (imageOf ink s) ≡ s
   round-trip =
-      unfold sectionsIn viewOf sectionOut sizes in (λ i. record {
-        stride = sym (o .stride) i;
+      unfold sectionsBy viewOf sectionOut sizes in (λ i. record {
+        version = image-words .1 i;
         nodes = (ap wordsOf (section-bytes 0 (omega arith)) ∙ words-of-bytes (s .nodes) (o .node-words)) i;
         children = (ap wordsOf (section-bytes 1 (omega arith)) ∙ words-of-bytes (s .children) (o .child-words)) i;
         named = (ap wordsOf (section-bytes 2 (omega arith)) ∙ words-of-bytes (s .named) (o .named-words)) i;
@@ -195,8 +205,8 @@ module _ (ink : ℕ) (s : Sections) (o : Whole s) (small : ink < 2 ^ 32) where
   unfolding startBy startOf
   start-by k h =
       ap (λ (n : ℕ). headerLength + n)
-      (sum-ext k (λ j. sectionAt (imageOf ink s) j .count * getD sizes j 0) (λ j. length (sectionOut s j))
-      (λ j q. rw (count-is j (le-trans q h)) (section-size j (le-trans q h))))
+      (sum-ext k (λ j. sectionAt (imageOf ink s) j .count * getD (sizes (wordAt (imageOf ink s) 8)) j 0) (λ j. length (sectionOut s j))
+      (λ j q. rw (image-words .1, count-is j (le-trans q h)) (section-size j (le-trans q h))))
 
   start-next : (k : ℕ) → startOf s (suc k) ≡ startOf s k + length (sectionOut s k)
   unfolding startOf sumOf
@@ -220,7 +230,7 @@ module _ (ink : ℕ) (s : Sections) (o : Whole s) (small : ink < 2 ^ 32) where
   unfolding headerRule
   header-passes h =
       then _ _ (pass _ _ (and-true _ _ (le-leb headerLength (length (imageOf ink s)) (omega (arith, image-length ink s, over))) (image-words .0)))
-      (then _ _ (pass _ _ (eq-eqb _ _ (image-words .1)))
+      (then _ _ (pass _ _ (eq-eqb _ _ (image-words .1 ∙ o .versioned)))
       (then _ _ (pass _ _ (ap inkRight (image-words .2) ∙ h))
       (then _ _ (pass _ _ (eq-eqb _ _ (image-words .3 ∙ sym (image-length ink s))))
       (pass _ _ laid-out))))

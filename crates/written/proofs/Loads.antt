@@ -11,7 +11,7 @@ use Rattle.laws.proofs.First.{pass, then, first-of}
 use Rattle.words.specs.Words.{NONE}
 use Rattle.texts.specs.Dots.{dot}
 use Rattle.image.specs.Sections.{Sections, nodeCount}
-use Rattle.image.specs.Header.{nodeWords, inkRight, headerRule, sectionsOf}
+use Rattle.image.specs.Header.{version, inkRight, headerRule, sectionsOf}
 use Rattle.image.specs.Encoding.{imageOf}
 use Rattle.records.specs.Records.{nodeRule}
 use Rattle.tree.proofs.Members.{both-true, and-true}
@@ -51,7 +51,7 @@ module _ {s : Sections} {order : List ℕ} {kept : List (List ℕ)} (g : Given s
 
 -- ---- the theorems
 
-module _ (ink : ℕ) (s : Sections) (work room : ℕ) (ten : s .stride ≡ nodeWords) (words : DraftWords s) (p : encodeRule ink s work room ≡ 0) where
+module _ (ink : ℕ) (s : Sections) (work room : ℕ) (two : s .version ≡ version) (words : DraftWords s) (p : encodeRule ink s work room ≡ 0) where
   abbrev order : List ℕ
   order = numbering s
 
@@ -73,7 +73,6 @@ module _ (ink : ℕ) (s : Sections) (work room : ℕ) (ten : s .stride ≡ nodeW
   given =
       let t = taken ink s work room p in
       record {
-        wide = omega arith;
         words = words;
         taken = t;
         numbered = numbered ink s work room p;
@@ -88,7 +87,7 @@ module _ (ink : ℕ) (s : Sections) (work room : ℕ) (ten : s .stride ≡ nodeW
   small = omega (arith, leb-true ink 21 (both-true (leb 18 ink) (leb ink 21) right .1))
 
   all-whole : Whole (w s order kept)
-  all-whole = whole given ten (omega (arith, image-length ink (w s order kept), fits))
+  all-whole = whole given two (omega (arith, image-length ink (w s order kept), fits))
 
   pub back : sectionsOf (imageFor ink s) ≡ w s order kept
   back = ap sectionsOf image ∙ round-trip ink (w s order kept) all-whole small
@@ -104,30 +103,30 @@ module _ (ink : ℕ) (s : Sections) (work room : ℕ) (ten : s .stride ≡ nodeW
 
 pub written-loads : WrittenLoads
 unfolding loadRule
-written-loads ink s work room ten words p enough h =
-    then _ _ (header ink s work room ten words p)
-    (then _ _ (checksum ink s work room ten words p) (then _ _ (pass _ 7 (le-leb (loadWords (sectionsOf (imageFor ink s))) enough h)) (sections ink s work room ten words p)))
+written-loads ink s work room two words p enough h =
+    then _ _ (header ink s work room two words p)
+    (then _ _ (checksum ink s work room two words p) (then _ _ (pass _ 7 (le-leb (loadWords (sectionsOf (imageFor ink s))) enough h)) (sections ink s work room two words p)))
 
 pub written-accepted : WrittenAccepted
-written-accepted ink s work room ten words p =
-    then _ _ (header ink s work room ten words p) (then _ _ (checksum ink s work room ten words p) (sections ink s work room ten words p))
+written-accepted ink s work room two words p =
+    then _ _ (header ink s work room two words p) (then _ _ (checksum ink s work room two words p) (sections ink s work room two words p))
 
 pub header-right : HeaderPasses
-header-right ink s work room ten words p = header ink s work room ten words p
+header-right ink s work room two words p = header ink s work room two words p
 
 pub sections-back : RoundTrip
-sections-back ink s work room ten words p = back ink s work room ten words p ∙ sym (same-one ink s work room ten words p)
+sections-back ink s work room two words p = back ink s work room two words p ∙ sym (same-one ink s work room two words p)
 
 pub same-paths : SamePaths
-same-paths ink s work room ten words p j h c =
-    ap (λ (v : Sections). canonicalPath v j) (back ink s work room ten words p) ∙ path-same (given ink s work room ten words p) j h c
+same-paths ink s work room two words p j h c =
+    ap (λ (v : Sections). canonicalPath v j) (back ink s work room two words p) ∙ path-same (given ink s work room two words p) j h c
 
 pub index-paths : IndexPaths
-index-paths ink s work room ten words p =
-    rw (back ink s work room ten words p) (λ k h. index-path (given ink s work room ten words p) k (omega (arith, index-count s (numbering s) (storedTexts s (numbering s)))))
+index-paths ink s work room two words p =
+    rw (back ink s work room two words p) (λ k h. index-path (given ink s work room two words p) k (omega (arith, index-count s (numbering s) (storedTexts s (numbering s)))))
 
 pub no-dot : IndexHasNoDot
-no-dot ink s work room ten words p k h e = longer (sym (index-paths ink s work room ten words p k h) ∙ e)
+no-dot ink s work room two words p k h e = longer (sym (index-paths ink s work room two words p k h) ∙ e)
   where
     longer : {t : List ℕ} → t ≡ dot ∷ t → ⊥
     longer {t} q = omega (arith, ap length q)

@@ -59,7 +59,7 @@ module _ {s : Sections} {order : List ℕ} {kept : List (List ℕ)} (g : Given s
   unfolding kinds fields firstField fieldRule
   name-good i h c e =
       or-else (absent (f s i 0) (f s i 1)) (goodText s (f s i 0) (f s i 1))
-      (passed _ 9 (both _ _ (subst (λ (tag : ℕ). firstField s i (fields (kindOf tag)) ≡ 0) (eqb-true (tagOf s i) 1 c) (g .taken .fields i h)) .0)) e
+      (passed _ 9 (both _ _ (subst (λ (tag : ℕ). firstField s i (fields (kindOf tag)) ≡ 0) (eqb-true (tagOf s i) 1 c) (g .taken .tables .fields i h)) .0)) e
 
   piece-utf8 : (i : ℕ) → i < nodeCount s → isContainer s i ≡ true → utf8 (piece s i) ≡ true
   unfolding piece pieceOf nameless

@@ -124,7 +124,7 @@ module _ {s : Sections} {order : List ℕ} {kept : List (List ℕ)} (g : Given s
   module _ (i : ℕ) (h : i < nodeCount s) (e : eqb (tagOf s i) 12 ≡ true) where
     pub list-right : payloadRule s (f s i 0) (f s i 1) ≡ 0
     unfolding kinds fields firstField fieldRule
-    list-right = both _ _ (both _ _ (subst (λ (tag : ℕ). firstField s i (fields (kindOf tag)) ≡ 0) (eqb-true (tagOf s i) 12 e) (g .taken .fields i h)) .0) .1
+    list-right = both _ _ (both _ _ (subst (λ (tag : ℕ). firstField s i (fields (kindOf tag)) ≡ 0) (eqb-true (tagOf s i) 12 e) (g .taken .tables .fields i h)) .0) .1
 
     pub list-size : f s i 1 ≡ 8 + listItems s (f s i 0) * 20 + listOrigins s (f s i 0) * 8
     unfolding payloadRule

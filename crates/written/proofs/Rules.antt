@@ -212,7 +212,7 @@ module _ {s : Sections} {order : List ℕ} {kept : List (List ℕ)} (g : Given s
   pub parent-draft : (i : ℕ) → i < nodeCount s → (i ≡ 0 → ⊥) → (insideContainer s (parentOf s i) ≡ true) × (parentOf s i ≡ i → ⊥)
   unfolding parentRule
   parent-draft i h d =
-      let q = both-true (insideContainer s (parentOf s i)) _ (passed _ 8 (rw (ne-eqb i 0 d) at (g .taken .parents i h))) in
+      let q = both-true (insideContainer s (parentOf s i)) _ (passed _ 8 (rw (ne-eqb i 0 d) at (g .taken .shape .parents i h))) in
       (q .0, eqb-false (parentOf s i) i (not-true (eqb (parentOf s i) i) (q .1)))
 
   pub parent-lt : (i : ℕ) → i < nodeCount s → (i ≡ 0 → ⊥) → parentOf s i < nodeCount s
@@ -323,7 +323,7 @@ module _ {s : Sections} {order : List ℕ} {kept : List (List ℕ)} (g : Given s
     pub node-fields : fieldsRule v j ≡ 0
     node-fields =
         ap (λ (tag : ℕ). firstField v j (fields (kindOf tag))) (tag-word g j h)
-        ∙ fields-kept (fieldsAt s i) (suited (tagOf s i)) (reads g j h) (g .stored .nodes j h) (g .taken .fields i (old-in g j h))
+        ∙ fields-kept (fieldsAt s i) (suited (tagOf s i)) (reads g j h) (g .stored .nodes j h) (g .taken .tables .fields i (old-in g j h))
 
     pub node-kept : nodeRule v j ≡ 0
     unfolding nodeRule
@@ -334,8 +334,8 @@ module _ {s : Sections} {order : List ℕ} {kept : List (List ℕ)} (g : Given s
   pub root-kept : rootRight v ≡ true
   unfolding rootRight
   root-kept =
-      let z = g .taken .some in
-      let r = both-true (isNone (parentOf s 0) && isNone (placeOf s 0)) (isContainer s 0) (unfold rootRight in g .taken .root) in
+      let z = g .taken .tables .some in
+      let r = both-true (isNone (parentOf s 0) && isNone (placeOf s 0)) (isContainer s 0) (unfold rootRight in g .taken .shape .root) in
       let q = both-true (isNone (parentOf s 0)) (isNone (placeOf s 0)) (r .0) in
       let back = old-zero g in
       and-true _ _

@@ -10,10 +10,10 @@ use Rattle.written.proofs.Loads.{written-loads, no-dot}
 use Rattle.written.proofs.Bytes.{image-bytes}
 
 pub written-sound : WrittenSound
-written-sound ink s work room ten words p =
+written-sound ink s work room two words p =
     let needed = loadWords (sectionsOf (imageFor ink s)) in
     let enough : loadWords (sectionsOf (imageFor ink s)) ≤ loadWords (sectionsOf (imageFor ink s)) = omega arith in
-    accepted-sound (imageFor ink s) needed (image-bytes ink s words) (written-loads ink s work room ten words p needed enough)
+    accepted-sound (imageFor ink s) needed (image-bytes ink s words) (written-loads ink s work room two words p needed enough)
 
 pub written-index-once : WrittenIndexOnce
-written-index-once ink s work room ten words p = written-sound ink s work room ten words p .index (no-dot ink s work room ten words p)
+written-index-once ink s work room two words p = written-sound ink s work room two words p .index (no-dot ink s work room two words p)

@@ -69,7 +69,7 @@ module _ {s : Sections} {order : List ℕ} {kept : List (List ℕ)} (g : Given s
     unfolding childRule
     child-kept m q =
         let x = childAt s i m in
-        let r = children-pass s i (g .taken .entries i (old-in g j h)) m q in
+        let r = children-pass s i (g .taken .shape .entries i (old-in g j h)) m q in
         pass _ 14
         (and-true _ _
         (and-true _ _ (node-at g x (childAt v j m) (r .within) (child-at m q)) (eq-eqb _ _ (parent-is x (childAt v j m) (r .below) (r .parent) (child-at m q))))
@@ -81,7 +81,7 @@ module _ {s : Sections} {order : List ℕ} {kept : List (List ℕ)} (g : Given s
     unfolding namedRule
     named-kept m q =
         let x = namedAt s i m 2 in
-        let r = named-pass s i (g .taken .entries i (old-in g j h)) m q in
+        let r = named-pass s i (g .taken .shape .entries i (old-in g j h)) m q in
         let target = named-at m 2 q (omega arith) in
         then _ _
         (pass _ 14 (good-at g (namedText s i m) (namedAt v j m 0) (namedAt v j m 1) (g .stored .named j h m q) (good-utf8 s _ _ (r .text))
@@ -111,19 +111,19 @@ module _ {s : Sections} {order : List ℕ} {kept : List (List ℕ)} (g : Given s
       (sym (named-at (placeIn order i) k j 2 z (omega arith) ∙ ap (λ (x : ℕ). newOf order (namedAt s x j 2)) back))
 
   reached-new : (x : ℕ) → Reached s x → (x < nodeCount s) × Reached v (placeIn order x)
-  reached-new x root = (g .taken .some, subst (Reached v) (sym (new-zero g)) root)
+  reached-new x root = (g .taken .tables .some, subst (Reached v) (sym (new-zero g)) root)
   reached-new x (child i j r q e) = go (reached-new i r)
     where
       go : (i < nodeCount s) × Reached v (placeIn order i) → (x < nodeCount s) × Reached v (placeIn order x)
       go up =
-          let h = children-pass s i (g .taken .entries i (up .0)) j q .below in
+          let h = children-pass s i (g .taken .shape .entries i (up .0)) j q .below in
           subst (λ (y : ℕ). (y < nodeCount s) × Reached v (placeIn order y)) (sym e)
           (h, subst (Reached v) (new-is g (childAt s i j) h) (child-reached i j (up .0) q (up .1)))
   reached-new x (named i j r q e) = go (reached-new i r)
     where
       go : (i < nodeCount s) × Reached v (placeIn order i) → (x < nodeCount s) × Reached v (placeIn order x)
       go up =
-          let h = named-pass s i (g .taken .entries i (up .0)) j q .below in
+          let h = named-pass s i (g .taken .shape .entries i (up .0)) j q .below in
           subst (λ (y : ℕ). (y < nodeCount s) × Reached v (placeIn order y)) (sym e)
           (h, subst (Reached v) (new-is g (namedAt s i j 2) h) (named-reached i j (up .0) q (up .1)))
 
@@ -134,5 +134,5 @@ module _ {s : Sections} {order : List ℕ} {kept : List (List ℕ)} (g : Given s
 
   pub tree-kept : treeRule v ≡ 0
   tree-kept =
-      right-tree v (record { some = omega (arith, counted g, g .taken .some); children = children-used g; named = named-used g })
+      right-tree v (record { some = omega (arith, counted g, g .taken .tables .some); children = children-used g; named = named-used g })
       (λ j h. entries-kept j (omega (arith, counted g))) (λ j h. reached j (omega (arith, counted g)))

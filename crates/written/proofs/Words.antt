@@ -1,6 +1,6 @@
 -- The words of the written sections are words, and the sections are whole entries.
 use Prim.Native.Nat.{ℕ, _+_, _*_, _^_, _≤_, _<_}
-use mathlib.Core.Path.{_≡_, sym, ap, _∙_}
+use mathlib.Core.Path.{_≡_, sym, _∙_}
 use mathlib.Core.List.{List, [], _∷_}
 use native.Mathlib.Omega.{arith}
 use lib.ListN.{length, getD, replicate}
@@ -9,8 +9,8 @@ use Rattle.laws.specs.Counted.{sumOf}
 use Rattle.laws.specs.Lists.{placeIn}
 use Rattle.words.specs.Words.{NONE, isNone}
 use Rattle.words.proofs.Words.{below-at}
-use Rattle.image.specs.Sections.{Sections, nodeCount, definitionCount, itemCount, nodeWord, parentOf, f, namedWord, definitionWord, itemWord, absent}
-use Rattle.image.specs.Header.{nodeWords}
+use Rattle.image.specs.Sections.{Sections, nodeWords, textEntryWords, definitionWords, nodeCount, definitionCount, itemCount, nodeWord, parentOf, f, namedWord, definitionWord, itemWord, absent}
+use Rattle.image.specs.Header.{version}
 use Rattle.image.specs.Encoding.{startOf}
 use Rattle.records.specs.Fields.{Field, text, optional, command, operator, node, optionalNode, container, optionalContainer, plain, atMost, children, named, payload, wrong}
 use Rattle.records.specs.Records.{fieldsAt, numberOfChildren, numberOfNamed, payloadLengthOf}
@@ -36,19 +36,19 @@ module _ {s : Sections} {order : List ℕ} {kept : List (List ℕ)} (g : Given s
 
   node-small : (i k : ℕ) → Small (nodeWord s i k)
   unfolding nodeWord
-  node-small i k = below-at (2 ^ 32) (i * s .stride + k) (s .nodes) (omega arith) (g .words .nodes)
+  node-small i k = below-at (2 ^ 32) (i * nodeWords (s .version) + k) (s .nodes) (omega arith) (g .words .nodes)
 
   named-small : (j k : ℕ) → Small (namedWord s j k)
   unfolding namedWord
-  named-small j k = below-at (2 ^ 32) (j * 3 + k) (s .named) (omega arith) (g .words .named)
+  named-small j k = below-at (2 ^ 32) (j * textEntryWords + k) (s .named) (omega arith) (g .words .named)
 
   definition-small : (j k : ℕ) → Small (definitionWord s j k)
   unfolding definitionWord
-  definition-small j k = below-at (2 ^ 32) (j * 4 + k) (s .definitions) (omega arith) (g .words .definitions)
+  definition-small j k = below-at (2 ^ 32) (j * definitionWords + k) (s .definitions) (omega arith) (g .words .definitions)
 
   item-small : (j k : ℕ) → Small (itemWord s j k)
   unfolding itemWord
-  item-small j k = below-at (2 ^ 32) (j * 3 + k) (s .items) (omega arith) (g .words .items)
+  item-small j k = below-at (2 ^ 32) (j * textEntryWords + k) (s .items) (omega arith) (g .words .items)
 
   new-small : (i : ℕ) → Small (newOf order i)
   unfolding newOf
@@ -88,7 +88,7 @@ module _ {s : Sections} {order : List ℕ} {kept : List (List ℕ)} (g : Given s
 
     more-small : All Small (moreWords s order kept i)
     unfolding moreWords
-    more-small = all-joined Small _ _ (λ k q. (node-small i (nodeWords + k), tt))
+    more-small = all-joined Small _ _ (λ k q. (node-small i _, tt))
 
     out-small : All Small (nodeOut s order kept i)
     unfolding nodeOut
@@ -113,13 +113,16 @@ module _ {s : Sections} {order : List ℕ} {kept : List (List ℕ)} (g : Given s
 
   -- ---- the sections are whole
 
-  pub whole : s .stride ≡ nodeWords → startOf v 8 ≤ NONE → Whole v
-  whole ten fit =
-      let n10 : length (v .nodes) ≡ nodeCount s * nodeWords = nodes-length s order kept (g .wide) ∙ ap (λ (c : ℕ). nodeCount s * c) ten in
+  version-kept : v .version ≡ s .version
+  unfolding w writtenWith
+  version-kept = refl
+
+  pub whole : s .version ≡ version → startOf v 8 ≤ NONE → Whole v
+  whole two fit =
       record {
-        stride = unfold w writtenWith in ten;
-        some = omega (arith, counted g, g .taken .some);
-        nodes = n10 ∙ ap (λ (n : ℕ). n * nodeWords) (sym (counted g));
+        versioned = version-kept ∙ two;
+        some = omega (arith, counted g, g .taken .tables .some);
+        nodes = nodes-length s order kept ∙ (λ i. sym (counted g) i * nodeWords (sym version-kept i));
         named = omega (arith, named-whole s order kept);
         definitions = omega (arith, definitions-whole s order kept);
         items = omega (arith, items-whole s order kept);

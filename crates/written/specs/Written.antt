@@ -6,7 +6,7 @@ use mathlib.Core.Bool.{true}
 use Rattle.laws.specs.Lists.{Below}
 use Rattle.texts.specs.Dots.{dot}
 use Rattle.image.specs.Sections.{Sections, nodeCount, indexCount, indexWord, isContainer}
-use Rattle.image.specs.Header.{nodeWords, headerRule, sectionsOf}
+use Rattle.image.specs.Header.{version, headerRule, sectionsOf}
 use Rattle.index.specs.Paths.{canonicalPath}
 use Rattle.index.specs.Index.{indexText}
 use Rattle.load.specs.Load.{loadRule, loadWords, Accepted}
@@ -28,7 +28,7 @@ pub record DraftWords (s : Sections) : Type 0 where
 -- P holds of every ink version and draft that the writer takes, with whatever counts of work words and output bytes
 abbrev pub Written : (ℕ → Sections → Type 0) → Type 0
 Written P =
-    (ink : ℕ) (s : Sections) (work room : ℕ) → s .stride ≡ nodeWords → DraftWords s → encodeRule ink s work room ≡ 0 → P ink s
+    (ink : ℕ) (s : Sections) (work room : ℕ) → s .version ≡ version → DraftWords s → encodeRule ink s work room ≡ 0 → P ink s
 
 -- ---- the image loads
 

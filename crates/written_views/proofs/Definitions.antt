@@ -80,7 +80,7 @@ module _ {s : Sections} {order : List ℕ} {kept : List (List ℕ)} (g : Given s
       let k = firstItem s d + j in
       let inside = item-inside g d h j q in
       let name : SameText s t (span (itemWord s k 0) (itemWord s k 1)) (span (itemWord t k 0) (itemWord t k 1))
-      = text-same g (itemWord s k 0) (itemWord s k 1) (itemWord t k 0) (itemWord t k 1) (g .taken .items k inside) (g .stored .item d h j q)
+      = text-same g (itemWord s k 0) (itemWord s k 1) (itemWord t k 0) (itemWord t k 1) (g .taken .tables .items k inside) (g .stored .item d h j q)
       (item-at-word g d h j q) (item-len-word g d h j q) in
       record {
         draft = itemIn s k;
@@ -95,7 +95,7 @@ module _ {s : Sections} {order : List ℕ} {kept : List (List ℕ)} (g : Given s
   pub each-item-same : (k : ℕ) → k < itemCount s → SameItem s t (itemEntry s k) (itemEntry t k)
   unfolding itemsUsedUp
   each-item-same k h =
-      let used = eqb-true (itemsBefore s (definitionCount s)) (itemCount s) (g .taken .items-used) in
+      let used = eqb-true (itemsBefore s (definitionCount s)) (itemCount s) (g .taken .tables .items-used) in
       let l = located (definitionCount s) (numberOfItems s) k (omega arith) in
       subst (λ (m : ℕ). SameItem s t (itemEntry s m) (itemEntry t m)) (omega (arith, l .at, items-right g (l .term) (l .below) .1))
       (item-same (l .term) (l .below) (l .rest) (l .within))
@@ -123,7 +123,7 @@ module _ {s : Sections} {order : List ℕ} {kept : List (List ℕ)} (g : Given s
     pub definition-same : SameDefinition s t d
     definition-same =
         let name : SameText s t (span (definitionWord s d 0) (definitionWord s d 1)) (span (definitionWord t d 0) (definitionWord t d 1))
-        = text-same g (definitionWord s d 0) (definitionWord s d 1) (definitionWord t d 0) (definitionWord t d 1) (g .taken .definitions d h .0)
+        = text-same g (definitionWord s d 0) (definitionWord s d 1) (definitionWord t d 0) (definitionWord t d 1) (g .taken .tables .definitions d h .0)
         (g .stored .definition d h) (at-word g d h) (len-word g d h) in
         record {
           draft = definitionAt s d;

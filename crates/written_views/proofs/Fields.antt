@@ -65,7 +65,7 @@ module _ {s : Sections} {order : List ℕ} {kept : List (List ℕ)} (g : Given s
       )
 
   pub fields-same : SameAll s t order i j (fieldsAt s i)
-  fields-same = all-same (fieldsAt s i) (suited (tagOf s i)) (reads g j h) (g .stored .nodes j h) (g .taken .fields i (old-in g j h))
+  fields-same = all-same (fieldsAt s i) (suited (tagOf s i)) (reads g j h) (g .stored .nodes j h) (g .taken .tables .fields i (old-in g j h))
 
   each-same : (xs : List Field) → SameAll s t order i j xs → (x : Field) → List·Memᴰ x xs → SameField s t order i j x
   each-same [] a x m = absurd (List·Memᴰ·not-nil m)

@@ -77,7 +77,7 @@ module _ {s : Sections} {order : List ℕ} {kept : List (List ℕ)} (g : Given s
   image-node = record { below = omega (arith, counted g); given = λ e. omega (arith, few g) }
 
   draft-seen : Seen s i
-  draft-seen = seen s i draft-node (fields-right s i (g .taken .fields i (old-in g j h)))
+  draft-seen = seen s i draft-node (fields-right s i (g .taken .tables .fields i (old-in g j h)))
 
   image-seen : Seen t j
   image-seen = seen t j image-node (fields-right t j (node-fields g j h))
@@ -115,7 +115,7 @@ module _ {s : Sections} {order : List ℕ} {kept : List (List ℕ)} (g : Given s
     child-same : k < f s i 4 → SameChild s t order i j k
     unfolding fields fieldWords
     child-same q =
-        let from = ranges s i (is-container c) (g .taken .fields i (old-in g j h)) in
+        let from = ranges s i (is-container c) (g .taken .tables .fields i (old-in g j h)) in
         let to = ranges t j (both-true (inside t j) (isContainer t j) there .1) (node-fields g j h) in
         record {
           child = childAt s i k;
@@ -128,11 +128,11 @@ module _ {s : Sections} {order : List ℕ} {kept : List (List ℕ)} (g : Given s
     named-same : k < f s i 6 → SameNamed s t order i j k
     unfolding fields fieldWords
     named-same q =
-        let from = ranges s i (is-container c) (g .taken .fields i (old-in g j h)) in
+        let from = ranges s i (is-container c) (g .taken .tables .fields i (old-in g j h)) in
         let to = ranges t j (both-true (inside t j) (isContainer t j) there .1) (node-fields g j h) in
         let z : k < numberOfNamed s i = omega (arith, named-are g j h (is-container c)) in
         let name : SameText s t (span (namedAt s i k 0) (namedAt s i k 1)) (span (namedAt t j k 0) (namedAt t j k 1))
-        = text-same g (namedAt s i k 0) (namedAt s i k 1) (namedAt t j k 0) (namedAt t j k 1) (named-pass s i (g .taken .entries i (old-in g j h)) k z .text)
+        = text-same g (namedAt s i k 0) (namedAt s i k 1) (namedAt t j k 0) (namedAt t j k 1) (named-pass s i (g .taken .shape .entries i (old-in g j h)) k z .text)
         (g .stored .named j h k z) (named-at g j h k 0 z (omega arith)) (named-at g j h k 1 z (omega arith)) in
         record {
           draft = namedChild s i c k;

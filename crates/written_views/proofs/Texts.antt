@@ -88,7 +88,7 @@ module _ {s : Sections} {order : List ℕ} {kept : List (List ℕ)} (g : Given s
   pub numbers-same : Renumbers s order
   numbers-same =
       record {
-        root = new-is g 0 (g .taken .some) ∙ new-zero g;
+        root = new-is g 0 (g .taken .tables .some) ∙ new-zero g;
         new-inside = λ i h. omega (arith, new-is g i h, new-in g i h);
         old-inside = old-in g;
         there-and-back = λ i h. ap (λ (x : ℕ). oldOf order x) (new-is g i h) ∙ old-new g i h;

@@ -29,10 +29,10 @@ views-same {s} {order} {kept} g =
     }
 
 pub written-views : WrittenViews
-written-views ink s work room ten words p =
-    subst (λ (t : Sections). SameViews s t (numbering s)) (sym (back ink s work room ten words p)) (views-same (given ink s work room ten words p))
+written-views ink s work room two words p =
+    subst (λ (t : Sections). SameViews s t (numbering s)) (sym (back ink s work room two words p)) (views-same (given ink s work room two words p))
 
 pub written-reads : WrittenReads
 unfolding loadedOf
-written-reads ink s work room ten words p enough h =
-    (viewOf (imageFor ink s), rw (written-loads ink s work room ten words p enough h) refl, written-views ink s work room ten words p)
+written-reads ink s work room two words p enough h =
+    (viewOf (imageFor ink s), rw (written-loads ink s work room two words p enough h) refl, written-views ink s work room two words p)

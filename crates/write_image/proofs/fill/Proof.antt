@@ -2,13 +2,13 @@
 use mathlib.Core.Path.{refl, sym}
 use native.Mathlib.Omega.{arith}
 use lib.Seq.{length-take-le}
-use Rattle.write_image.proofs.SectionRuns.{long-enough, end-small, body-end, sectioned, image-put}
+use Rattle.write_image.proofs.SectionRuns.{long-enough, counts-small, end-small, body-end, sectioned, image-put}
 use borrow.Author.Needs.{needs}
 use Rattle.write_image.proofs.fill.Statement.{statement}
 use Rattle.write_image.proofs.fill.Tie as tie
 
 counts-of-requires : tie.Need-counts-of-requires
-counts-of-requires c κs = long-enough _ _ _ _ _ (c .before .before .before .before .before .before .before .before .before .pre .0)
+counts-of-requires c κs = counts-small _ _ _ _ _ (c .before .before .before .before .before .before .before .before .before .pre .0)
 
 put-header-requires : tie.Need-put-header-requires
 put-header-requires c κs =
@@ -22,7 +22,8 @@ places-of-requires c κs = long-enough _ _ _ _ _ (c .before .before .before .bef
 
 add-end : tie.Need-add-end
 add-end c =
-    let p = c .before .before .before .before .before .before .before .before .before .before .before .before .before .before .before .before .before .pre in omega (arith, p .1, body-end _ _ _ _ _ (p .0) _ (c .before .places-of .ensures))
+    let p = c .before .before .before .before .before .before .before .before .before .before .before .before .before .before .before .before .before .pre in
+    omega (arith, p .1, body-end _ _ _ _ _ (p .0) _ (c .before .places-of .ensures))
 
 sub-put-sections : tie.Need-sub-put-sections
 sub-put-sections c = search needs
@@ -41,7 +42,9 @@ put-sections-requires c κs =
 
 slice-relend-prefix-put-checksum : tie.Need-slice-relend-prefix-put-checksum
 slice-relend-prefix-put-checksum c =
-    let p = c .before .before .before .before .before .before .before .before .before .before .before .before .before .before .before .before .before .before .before .before .before .pre in omega (arith, p .1, body-end _ _ _ _ _ (p .0) _ (c .before .before .before .before .before .places-of .ensures))
+    let p = c .before .before .before .before .before .before .before .before .before .before .before .before .before .before .before .before .before .before .before .before .before .pre in
+    let places-of = c .before .before .before .before .before .places-of in
+    omega (arith, p .1, body-end _ _ _ _ _ (p .0) _ (places-of .ensures))
 
 slice-aggregate-put-checksum : tie.Need-slice-aggregate-put-checksum
 slice-aggregate-put-checksum c = sym (length-take-le _ _ (slice-relend-prefix-put-checksum (c .before)))
@@ -55,7 +58,12 @@ same-length c = search needs
 returns : tie.Need-returns
 returns c =
     let p = c .before .before .before .before .before .before .before .before .before .before .before .before .before .before .before .before .before .before .before .before .before .before .before .before .before .pre in
-    image-put _ _ _ _ _ (p .0) _ _ _ _ _ _ _ _ (c .before .before .before .before .before .before .before .before .before .before .before .before .before .before .before .counts-of .ensures) (c .before .before .before .before .before .before .before .before .before .places-of .ensures) (p .1) (c .before .before .before .before .before .before .before .before .before .before .before .before .before .put-header .ensures) (c .before .before .before .before .before .before .put-sections .ensures) refl (c .before .before .put-checksum .ensures)
+    let counts-of = c .before .before .before .before .before .before .before .before .before .before .before .before .before .before .before .counts-of in
+    let put-header = c .before .before .before .before .before .before .before .before .before .before .before .before .before .put-header in
+    let places-of = c .before .before .before .before .before .before .before .before .before .places-of in
+    let put-sections = c .before .before .before .before .before .before .put-sections in
+    image-put _ _ _ _ _ (p .0) _ _ _ _ _ _ _ _ (counts-of .ensures) (places-of .ensures) (p .1) (put-header .ensures)
+    (put-sections .ensures) refl (c .before .before .put-checksum .ensures)
 
 pub fill-spec : {M : Type 1} → statement M
 fill-spec =

@@ -11,7 +11,9 @@ add-n : tie.Need-add-n
 add-n c = search needs
 
 returns : tie.Need-returns
-returns c = (stored-many (keyIn (c .before .before .before .before .args .nodes .now) (c .before .before .before .before .args .strings .now) (c .before .before .before .before .args .t) (c .before .before .before .before .args .w .now)) (c .before .before .before .before .args .t .texts) (c .before .before .before .before .args .paths) [] (c .if1 .taken), refl)
+returns c =
+    let to = c .before .before .before .before .args in
+    (stored-many (keyIn (to .source .version) (to .nodes .now) (to .strings .now) (to .t) (to .w .now)) (to .t .texts) (to .paths) [] (c .if1 .taken), refl)
 
 intern-requires : tie.Need-intern-requires
 intern-requires c κs = search needs
@@ -26,13 +28,27 @@ same-length : tie.Need-same-length
 same-length c = search needs
 
 returns-2 : tie.Need-returns-2
-returns-2 c = (stored-whole (keyIn (c .before .before .before .before .before .before .before .before .before .before .before .args .nodes .now) (c .before .before .before .before .before .before .before .before .before .before .before .args .strings .now) (c .before .before .before .before .before .before .before .before .before .before .before .args .t) (c .before .before .before .before .before .before .before .before .before .before .before .args .w .now)) (c .before .before .before .before .before .before .before .before .before .before .before .args .t .texts) (c .before .before .before .before .before .before .before .before .before .before .before .args .paths) _ _ (c .before .before .before .before .before .intern .last .1 .1 .0) (c .before .before .before .before .before .before .before .if1 .left) (c .before .before .before .before .before .intern .ensures .0) (c .before .before .before .before .before .intern .ensures .1 .0) (c .before .strings .given .1), c .before .before .before .before .before .intern .ensures .1 .1)
+returns-2 c =
+    let to = c .before .before .before .before .before .before .before .before .before .before .before .args in
+    let if1 = c .before .before .before .before .before .before .before .if1 in
+    let intern = c .before .before .before .before .before .intern in (
+      stored-whole (keyIn (to .source .version) (to .nodes .now) (to .strings .now) (to .t) (to .w .now)) (to .t .texts) (to .paths) _ _ (intern .last .1 .1 .0) (if1 .left)
+          (intern .ensures .0) (intern .ensures .1 .0) (c .before .strings .given .1),
+      intern .ensures .1 .1,
+    )
 
 same-length-2 : tie.Need-same-length-2
 same-length-2 c = search needs
 
 returns-3 : tie.Need-returns-3
-returns-3 c = (stored-long (keyIn (c .before .before .before .before .before .before .before .before .before .before .args .nodes .now) (c .before .before .before .before .before .before .before .before .before .before .args .strings .now) (c .before .before .before .before .before .before .before .before .before .before .args .t) (c .before .before .before .before .before .before .before .before .before .before .args .w .now)) (c .before .before .before .before .before .before .before .before .before .before .args .t .texts) (c .before .before .before .before .before .before .before .before .before .before .args .paths) _ [] (c .before .before .before .before .before .before .if1 .left) (c .before .before .before .before .intern .ensures .0) (c .enum-told .given .1), c .before .before .before .before .intern .ensures .1 .1)
+returns-3 c =
+    let to = c .before .before .before .before .before .before .before .before .before .before .args in
+    let if1 = c .before .before .before .before .before .before .if1 in
+    let intern = c .before .before .before .before .intern in (
+      stored-long (keyIn (to .source .version) (to .nodes .now) (to .strings .now) (to .t) (to .w .now)) (to .t .texts) (to .paths) _ [] (if1 .left) (intern .ensures .0)
+          (c .enum-told .given .1),
+      intern .ensures .1 .1,
+    )
 
 pub store-spec : {M : Type 1} → statement M
 store-spec =

@@ -9,16 +9,22 @@ node-at-requires : tie.Need-node-at-requires
 node-at-requires c κs = search needs
 
 returns : tie.Need-returns
-returns c = put-same _ _ _ _ _ _ (no-container _ _ _ _ (c .before .before .node-at .ensures) (c .if1 .taken)) (put-none _ _)
+returns c = put-same _ _ _ _ _ _ (no-container _ _ _ _ _ (c .before .before .node-at .ensures) (c .if1 .taken)) (put-none _ _)
 
 put-entries-requires : tie.Need-put-entries-requires
-put-entries-requires c κs = room-same _ _ _ _ (container-is _ _ _ _ (c .before .before .before .node-at .ensures) (c .before .if1 .left)) (c .before .before .before .before .before .before .before .pre .1)
+put-entries-requires c κs =
+    let asked = c .before .before .before .before .before .before .before .pre in
+    let node-at = c .before .before .before .node-at in
+    room-same _ _ _ _ (container-is _ _ _ _ _ (node-at .ensures) (c .before .if1 .left)) (asked .1)
 
 same-length : tie.Need-same-length
 same-length c = search needs
 
 returns-2 : tie.Need-returns-2
-returns-2 c = put-same _ _ _ _ _ _ (container-is _ _ _ _ (c .before .before .before .before .before .before .node-at .ensures) (c .before .before .before .before .if1 .left)) (c .before .before .put-entries .ensures)
+returns-2 c =
+    let node-at = c .before .before .before .before .before .before .node-at in
+    let if1 = c .before .before .before .before .if1 in
+    put-same _ _ _ _ _ _ (container-is _ _ _ _ _ (node-at .ensures) (if1 .left)) (c .before .before .put-entries .ensures)
 
 pub put-container-spec : {M : Type 1} → statement M
 put-container-spec =

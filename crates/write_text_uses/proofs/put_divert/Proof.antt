@@ -14,7 +14,10 @@ same-length : tie.Need-same-length
 same-length c = search needs
 
 returns : tie.Need-returns
-returns c = two-put _ _ _ _ _ (both-are _ _) (c .before .before .before .before .before .before .before .before .before .pre) _ _ (c .before .before .before .before .before .before .put-optional .ensures) _ _ (c .before .before .put-optional2 .ensures)
+returns c =
+    let asked = c .before .before .before .before .before .before .before .before .before .pre in
+    let put-optional = c .before .before .before .before .before .before .put-optional in
+    two-put _ _ _ _ _ (both-are _ _) asked _ _ (put-optional .ensures) _ _ (c .before .before .put-optional2 .ensures)
 
 pub put-divert-spec : {M : Type 1} → statement M
 put-divert-spec =

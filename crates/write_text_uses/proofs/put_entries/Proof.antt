@@ -32,7 +32,10 @@ word-requires-2 : tie.Need-word-requires-2 Inv-loop μ-loop
 word-requires-2 c κs = search needs
 
 put-use-requires : tie.Need-put-use-requires Inv-loop μ-loop
-put-use-requires c κs = going-words _ _ _ _ _ _ _ (c .before .before .before .before .loop .inv) _ (c .before .before .before .loop-test .taken) (entry-is _ _ _ _ _ (c .before .before .word .ensures) (c .before .word2 .ensures))
+put-use-requires c κs =
+    let loop = c .before .before .before .before .loop in
+    let test = c .before .before .before .loop-test in
+    going-words _ _ _ _ _ _ _ (loop .inv) _ (test .taken) (entry-is _ _ _ _ _ (c .before .before .word .ensures) (c .before .word2 .ensures))
 
 add-j : tie.Need-add-j Inv-loop μ-loop
 add-j c = search needs
@@ -41,7 +44,13 @@ loop-less : tie.Need-loop-less Inv-loop μ-loop
 loop-less c = search needs
 
 loop-again : tie.Need-loop-again Inv-loop μ-loop
-loop-again c = going-next _ _ _ _ _ _ _ (c .before .before .before .before .before .before .before .loop .inv) _ _ _ (c .before .before .before .before .before .before .loop-test .taken) (entry-is _ _ _ _ _ (c .before .before .before .before .before .word .ensures) (c .before .before .before .before .word2 .ensures)) (c .before .before .put-use .ensures)
+loop-again c =
+    let loop = c .before .before .before .before .before .before .before .loop in
+    let test = c .before .before .before .before .before .before .loop-test in
+    let word = c .before .before .before .before .before .word in
+    let word2 = c .before .before .before .before .word2 in
+    going-next _ _ _ _ _ _ _ (loop .inv) _ _ _ (test .taken) (entry-is _ _ _ _ _ (word .ensures) (word2 .ensures))
+    (c .before .before .put-use .ensures)
 
 same-length : tie.Need-same-length Inv-loop μ-loop
 same-length c = search needs

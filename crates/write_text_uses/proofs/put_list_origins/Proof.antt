@@ -16,29 +16,32 @@ abbrev μ-loop : tie.MeasureT-loop
 loop-holds : tie.Need-loop-holds Inv-loop μ-loop
 loop-holds c = going-start _ _ _ _ (c .before .before .pre .1)
 
-mul-word : tie.Need-mul-word Inv-loop μ-loop
-mul-word c = search needs
+mul-payload-word : tie.Need-mul-payload-word Inv-loop μ-loop
+mul-payload-word c = search needs
 
-add-word : tie.Need-add-word Inv-loop μ-loop
-add-word c = search needs
+add-payload-word : tie.Need-add-payload-word Inv-loop μ-loop
+add-payload-word c = search needs
 
-word-requires : tie.Need-word-requires Inv-loop μ-loop
-word-requires c κs = search needs
+payload-word-requires : tie.Need-payload-word-requires Inv-loop μ-loop
+payload-word-requires c κs = search needs
 
-mul-word-2 : tie.Need-mul-word-2 Inv-loop μ-loop
-mul-word-2 c = search needs
+mul-payload-word-2 : tie.Need-mul-payload-word-2 Inv-loop μ-loop
+mul-payload-word-2 c = search needs
 
-add-word-2 : tie.Need-add-word-2 Inv-loop μ-loop
-add-word-2 c = search needs
+add-payload-word-2 : tie.Need-add-payload-word-2 Inv-loop μ-loop
+add-payload-word-2 c = search needs
 
-add-word-3 : tie.Need-add-word-3 Inv-loop μ-loop
-add-word-3 c = search needs
+add-payload-word-3 : tie.Need-add-payload-word-3 Inv-loop μ-loop
+add-payload-word-3 c = search needs
 
-word-requires-2 : tie.Need-word-requires-2 Inv-loop μ-loop
-word-requires-2 c κs = search needs
+payload-word-requires-2 : tie.Need-payload-word-requires-2 Inv-loop μ-loop
+payload-word-requires-2 c κs = search needs
 
 put-use-requires : tie.Need-put-use-requires Inv-loop μ-loop
-put-use-requires c κs = going-words _ _ _ _ _ _ _ (c .before .before .before .before .loop .inv) _ (c .before .before .before .loop-test .taken) (origin-is _ _ _ _ _ (c .before .before .word .ensures) (c .before .word2 .ensures))
+put-use-requires c κs =
+    let loop = c .before .before .before .before .loop in
+    let test = c .before .before .before .loop-test in
+    going-words _ _ _ _ _ _ _ (loop .inv) _ (test .taken) (origin-is _ _ _ _ _ (c .before .before .payload-word .ensures) (c .before .payload-word2 .ensures))
 
 add-j : tie.Need-add-j Inv-loop μ-loop
 add-j c = search needs
@@ -47,7 +50,13 @@ loop-less : tie.Need-loop-less Inv-loop μ-loop
 loop-less c = search needs
 
 loop-again : tie.Need-loop-again Inv-loop μ-loop
-loop-again c = going-next _ _ _ _ _ _ _ (c .before .before .before .before .before .before .before .loop .inv) _ _ _ (c .before .before .before .before .before .before .loop-test .taken) (origin-is _ _ _ _ _ (c .before .before .before .before .before .word .ensures) (c .before .before .before .before .word2 .ensures)) (c .before .before .put-use .ensures)
+loop-again c =
+    let loop = c .before .before .before .before .before .before .before .loop in
+    let test = c .before .before .before .before .before .before .loop-test in
+    let payload-word = c .before .before .before .before .before .payload-word in
+    let payload-word2 = c .before .before .before .before .payload-word2 in
+    going-next _ _ _ _ _ _ _ (loop .inv) _ _ _ (test .taken) (origin-is _ _ _ _ _ (payload-word .ensures) (payload-word2 .ensures))
+    (c .before .before .put-use .ensures)
 
 same-length : tie.Need-same-length Inv-loop μ-loop
 same-length c = search needs
@@ -62,13 +71,13 @@ put-list-origins-spec =
     Inv-loop
     μ-loop
     loop-holds
-    mul-word
-    add-word
-    word-requires
-    mul-word-2
-    add-word-2
-    add-word-3
-    word-requires-2
+    mul-payload-word
+    add-payload-word
+    payload-word-requires
+    mul-payload-word-2
+    add-payload-word-2
+    add-payload-word-3
+    payload-word-requires-2
     put-use-requires
     add-j
     loop-less

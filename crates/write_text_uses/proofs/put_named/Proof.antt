@@ -2,6 +2,7 @@
 use Prim.Native.Nat.{_+_, _-_, _/_}
 use native.Mathlib.Omega.{arith}
 use lib.ListN.{length}
+use Rattle.image.specs.Sections.{nodeWords}
 use Rattle.write_text_uses.specs.Uses.{namedPairs, allNamedPairs, namedOnly}
 use Rattle.write_text_uses.proofs.Puts.{Ordered, ordered-start, ordered-room, ordered-next, old-read, going-end}
 use Rattle.write_text_uses.proofs.Nodes.{container-needs}
@@ -10,14 +11,17 @@ use Rattle.write_text_uses.proofs.put_named.Statement.{statement}
 use Rattle.write_text_uses.proofs.put_named.Tie as tie
 
 abbrev Inv-loop : tie.InvT-loop
-Inv-loop nodes named w₀ order at count k₀ j₀ w k j = Ordered (length nodes / 10) (namedPairs (namedOnly nodes named)) w₀ order at w k j
+Inv-loop nodes named w₀ order at source count k₀ j₀ w k j = Ordered (length nodes / nodeWords (source .version)) (namedPairs (namedOnly (source .version) nodes named)) w₀ order at w k j
 
 abbrev μ-loop : tie.MeasureT-loop
-μ-loop nodes named w₀ order at count k₀ j₀ w k j = length nodes / 10 - j
+μ-loop nodes named w₀ order at source count k₀ j₀ w k j = length nodes / nodeWords (source .version) - j
+
+node-count-requires : tie.Need-node-count-requires Inv-loop μ-loop
+node-count-requires c κs = search needs
 
 loop-holds : tie.Need-loop-holds Inv-loop μ-loop
 unfolding allNamedPairs
-loop-holds c = ordered-start _ _ _ _ _ (c .before .before .before .pre .1 .0) (c .before .before .before .pre .1 .1)
+loop-holds c = ordered-start _ _ _ _ _ (c .before .before .before .before .pre .1) (c .before .before .before .before .pre .2)
 
 add-i : tie.Need-add-i Inv-loop μ-loop
 add-i c = search needs
@@ -29,10 +33,18 @@ slice-read-i : tie.Need-slice-read-i Inv-loop μ-loop
 slice-read-i c = search needs
 
 cast-i : tie.Need-cast-i Inv-loop μ-loop
-cast-i c = omega (arith, c .slice-known2 .given (c .before .before .before .before .before .before .args .order + c .before .before .loop .j))
+cast-i c = omega (arith, c .slice-known2 .given (c .before .before .before .before .before .before .before .args .order + c .before .before .loop .j))
 
 put-container-requires : tie.Need-put-container-requires Inv-loop μ-loop
-put-container-requires c κs = container-needs (c .before .before .before .before .before .before .before .args .nodes .now) _ (c .before .before .before .before .before .before .before .pre .0) _ _ (c .before .before .loop-test .taken) (old-read _ _ _ _ _ _ _ _ (c .before .before .before .loop .inv) (c .before .before .loop-test .taken)) (ordered-room _ _ _ _ _ _ _ _ (c .before .before .before .loop .inv) (c .before .before .loop-test .taken))
+put-container-requires c κs =
+    let to = c .before .before .before .before .before .before .before .before .args in
+    let asked = c .before .before .before .before .before .before .before .before .pre in
+    let loop = c .before .before .before .loop in
+    let test = c .before .before .loop-test in
+    let node-count = c .before .before .before .before .node-count in
+    let below = rw (node-count .ensures) at (test .taken) in
+    container-needs _ (to .nodes .now) _ (asked .0) _ _ below (old-read _ _ _ _ _ _ _ _ (loop .inv) below)
+    (ordered-room _ _ _ _ _ _ _ _ (loop .inv) below)
 
 add-j : tie.Need-add-j Inv-loop μ-loop
 add-j c = search needs
@@ -41,14 +53,19 @@ loop-less : tie.Need-loop-less Inv-loop μ-loop
 loop-less c = search needs
 
 loop-again : tie.Need-loop-again Inv-loop μ-loop
-loop-again c = ordered-next _ _ _ _ _ _ _ _ (c .before .before .before .before .before .before .loop .inv) (c .before .before .before .before .before .loop-test .taken) _ _ (c .before .before .put-container .ensures)
+loop-again c =
+    let loop = c .before .before .before .before .before .before .loop in
+    let test = c .before .before .before .before .before .loop-test in
+    let node-count = c .before .before .before .before .before .before .before .node-count in
+    let below = rw (node-count .ensures) at (test .taken) in
+    ordered-next _ _ _ _ _ _ _ _ (loop .inv) below _ _ (c .before .before .put-container .ensures)
 
 same-length : tie.Need-same-length Inv-loop μ-loop
 same-length c = search needs
 
 returns : tie.Need-returns Inv-loop μ-loop
 unfolding allNamedPairs
-returns c = going-end _ _ _ _ _ _ _ (c .before .loop .inv .going) (c .loop-test .left)
+returns c = going-end _ _ _ _ _ _ _ (c .before .loop .inv .going) (rw (c .before .before .node-count .ensures) at (c .loop-test .left))
 
 pub put-named-spec : {M : Type 1} → statement M
 put-named-spec =
@@ -56,6 +73,7 @@ put-named-spec =
     (tie.spec
     Inv-loop
     μ-loop
+    node-count-requires
     loop-holds
     add-i
     mul-i

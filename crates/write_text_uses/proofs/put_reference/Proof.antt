@@ -14,7 +14,10 @@ same-length : tie.Need-same-length
 same-length c = search needs
 
 returns : tie.Need-returns
-returns c = two-put _ _ _ _ _ (both-are _ _) (c .before .before .before .before .before .before .before .before .before .pre) _ _ (c .before .before .before .before .before .before .put-use .ensures) _ _ (c .before .before .put-optional .ensures)
+returns c =
+    let asked = c .before .before .before .before .before .before .before .before .before .pre in
+    let put-use = c .before .before .before .before .before .before .put-use in
+    two-put _ _ _ _ _ (both-are _ _) asked _ _ (put-use .ensures) _ _ (c .before .before .put-optional .ensures)
 
 pub put-reference-spec : {M : Type 1} → statement M
 put-reference-spec =

@@ -1,10 +1,12 @@
 -- `writer::put_image` meets its contract.
-use mathlib.Core.Path.{refl}
 use Rattle.draft.specs.Source.{draftOf}
 use Rattle.writer.proofs.ImageOutput.{offsets-room, put-long, put-short, fill-asks, put-done}
 use borrow.Author.Needs.{needs}
 use Rattle.writer.proofs.put_image.Statement.{statement}
 use Rattle.writer.proofs.put_image.Tie as tie
+
+entry-counts-requires : tie.Need-entry-counts-requires
+entry-counts-requires c κs = search needs
 
 image-length-requires : tie.Need-image-length-requires
 image-length-requires c κs = search needs
@@ -19,29 +21,64 @@ cast-if1 : tie.Need-cast-if1
 cast-if1 c = search needs
 
 returns : tie.Need-returns
-returns c = put-short (c .before .before .before .before .before .before .before .before .before .before .before .before .before .before .args .ink) (draftOf (c .before .before .before .before .before .before .before .before .before .before .before .before .before .before .args .nodes .now) (c .before .before .before .before .before .before .before .before .before .before .before .before .before .before .args .children .now) (c .before .before .before .before .before .before .before .before .before .before .before .before .before .before .args .named .now) (c .before .before .before .before .before .before .before .before .before .before .before .before .before .before .args .definitions .now) (c .before .before .before .before .before .before .before .before .before .before .before .before .before .before .args .items .now) (c .before .before .before .before .before .before .before .before .before .before .before .before .before .before .args .payload .now) (c .before .before .before .before .before .before .before .before .before .before .before .before .before .before .args .strings .now)) refl (c .before .before .before .before .before .before .before .before .before .before .before .before .before .before .args .work .now) (c .before .before .before .before .before .before .before .before .before .before .before .before .before .before .args .l) (c .before .before .before .before .before .before .before .before .before .before .before .before .before .before .args .uses) (c .before .before .before .before .before .before .before .before .before .before .before .before .before .before .pre) (c .before .before .before .before .before .before .before .before .before .before .before .before .before .before .args .out .now) _ (c .before .before .before .before .image-length .ensures) _ (c .before .before .length .given .1) (c .if1 .taken)
+returns c =
+    let to = c .before .before .before .before .before .before .before .before .before .before .before .before .before .before .args in
+    let asked = c .before .before .before .before .before .before .before .before .before .before .before .before .before .before .pre in
+    let entry-counts = c .before .entry-counts in
+    let image-length = c .before .before .before .before .image-length in
+    let s = draftOf (to .source .version) (to .nodes .now) (to .children .now) (to .named .now) (to .definitions .now) (to .items .now) (to .payload .now) (to .strings .now) in
+    put-short (to .ink) s (to .work .now) (to .l) (to .uses) asked (to .out .now) _ (rw (entry-counts .ensures) at (image-length .ensures)) _
+    (c .before .before .length .given .1) (c .if1 .taken)
 
 add-t29 : tie.Need-add-t29
 add-t29 c =
-    let room = offsets-room (c .before .before .before .before .before .before .before .before .before .before .before .before .before .before .before .args .ink) (draftOf (c .before .before .before .before .before .before .before .before .before .before .before .before .before .before .before .args .nodes .now) (c .before .before .before .before .before .before .before .before .before .before .before .before .before .before .before .args .children .now) (c .before .before .before .before .before .before .before .before .before .before .before .before .before .before .before .args .named .now) (c .before .before .before .before .before .before .before .before .before .before .before .before .before .before .before .args .definitions .now) (c .before .before .before .before .before .before .before .before .before .before .before .before .before .before .before .args .items .now) (c .before .before .before .before .before .before .before .before .before .before .before .before .before .before .before .args .payload .now) (c .before .before .before .before .before .before .before .before .before .before .before .before .before .before .before .args .strings .now)) refl (c .before .before .before .before .before .before .before .before .before .before .before .before .before .before .before .args .work .now) (c .before .before .before .before .before .before .before .before .before .before .before .before .before .before .before .args .l) (c .before .before .before .before .before .before .before .before .before .before .before .before .before .before .before .args .uses) (c .before .before .before .before .before .before .before .before .before .before .before .before .before .before .before .pre) (c .before .before .before .before .before .before .before .before .before .before .before .before .before .before .before .args .out .now) in
-    search needs
+    let to = c .before .before .before .before .before .before .before .before .before .before .before .before .before .before .before .args in
+    let asked = c .before .before .before .before .before .before .before .before .before .before .before .before .before .before .before .pre in
+    let entry-counts = c .before .entry-counts in
+    let s = draftOf (to .source .version) (to .nodes .now) (to .children .now) (to .named .now) (to .definitions .now) (to .items .now) (to .payload .now) (to .strings .now) in
+    let room = offsets-room (to .ink) s (to .work .now) (to .l) (to .uses) asked (to .out .now) in search needs
 
 fill-requires : tie.Need-fill-requires
-fill-requires c κs = fill-asks (c .before .before .before .before .before .before .before .before .before .before .before .before .before .before .before .before .args .ink) (draftOf (c .before .before .before .before .before .before .before .before .before .before .before .before .before .before .before .before .args .nodes .now) (c .before .before .before .before .before .before .before .before .before .before .before .before .before .before .before .before .args .children .now) (c .before .before .before .before .before .before .before .before .before .before .before .before .before .before .before .before .args .named .now) (c .before .before .before .before .before .before .before .before .before .before .before .before .before .before .before .before .args .definitions .now) (c .before .before .before .before .before .before .before .before .before .before .before .before .before .before .before .before .args .items .now) (c .before .before .before .before .before .before .before .before .before .before .before .before .before .before .before .before .args .payload .now) (c .before .before .before .before .before .before .before .before .before .before .before .before .before .before .before .before .args .strings .now)) refl (c .before .before .before .before .before .before .before .before .before .before .before .before .before .before .before .before .args .work .now) (c .before .before .before .before .before .before .before .before .before .before .before .before .before .before .before .before .args .l) (c .before .before .before .before .before .before .before .before .before .before .before .before .before .before .before .before .args .uses) (c .before .before .before .before .before .before .before .before .before .before .before .before .before .before .before .before .pre) (c .before .before .before .before .before .before .before .before .before .before .before .before .before .before .before .before .args .out .now) _ (c .before .before .before .before .before .before .image-length .ensures) _ (c .before .before .before .before .length .given .1) (c .before .before .if1 .left)
+fill-requires c κs =
+    let to = c .before .before .before .before .before .before .before .before .before .before .before .before .before .before .before .before .args in
+    let asked = c .before .before .before .before .before .before .before .before .before .before .before .before .before .before .before .before .pre in
+    let entry-counts = c .before .entry-counts in
+    let image-length = c .before .before .before .before .before .before .image-length in
+    let length = c .before .before .before .before .length in
+    let s = draftOf (to .source .version) (to .nodes .now) (to .children .now) (to .named .now) (to .definitions .now) (to .items .now) (to .payload .now) (to .strings .now) in
+    rw (entry-counts .ensures)
+    (fill-asks (to .ink) s (to .work .now) (to .l) (to .uses) asked (to .out .now) _ (rw (entry-counts .ensures) at (image-length .ensures)) _ (length .given .1)
+    (c .before .before .if1 .left))
 
 returns-2 : tie.Need-returns-2
-returns-2 c = put-long (c .before .before .before .before .before .before .before .before .before .before .before .before .args .ink) (draftOf (c .before .before .before .before .before .before .before .before .before .before .before .before .args .nodes .now) (c .before .before .before .before .before .before .before .before .before .before .before .before .args .children .now) (c .before .before .before .before .before .before .before .before .before .before .before .before .args .named .now) (c .before .before .before .before .before .before .before .before .before .before .before .before .args .definitions .now) (c .before .before .before .before .before .before .before .before .before .before .before .before .args .items .now) (c .before .before .before .before .before .before .before .before .before .before .before .before .args .payload .now) (c .before .before .before .before .before .before .before .before .before .before .before .before .args .strings .now)) refl (c .before .before .before .before .before .before .before .before .before .before .before .before .args .work .now) (c .before .before .before .before .before .before .before .before .before .before .before .before .args .l) (c .before .before .before .before .before .before .before .before .before .before .before .before .args .uses) (c .before .before .before .before .before .before .before .before .before .before .before .before .pre) (c .before .before .before .before .before .before .before .before .before .before .before .before .args .out .now) _ (c .before .before .image-length .ensures) (c .enum-told .given .1)
+returns-2 c =
+    let to = c .before .before .before .before .before .before .before .before .before .before .before .before .args in
+    let asked = c .before .before .before .before .before .before .before .before .before .before .before .before .pre in
+    let entry-counts = c .before .entry-counts in
+    let s = draftOf (to .source .version) (to .nodes .now) (to .children .now) (to .named .now) (to .definitions .now) (to .items .now) (to .payload .now) (to .strings .now) in
+    put-long (to .ink) s (to .work .now) (to .l) (to .uses) asked (to .out .now) _ (rw (entry-counts .ensures) at (c .before .before .image-length .ensures))
+    (c .enum-told .given .1)
 
 same-length : tie.Need-same-length
 same-length c = search needs
 
 returns-3 : tie.Need-returns-3
-returns-3 c = put-done (c .before .before .before .before .before .before .before .before .before .before .before .before .before .before .before .before .before .before .before .args .ink) (draftOf (c .before .before .before .before .before .before .before .before .before .before .before .before .before .before .before .before .before .before .before .args .nodes .now) (c .before .before .before .before .before .before .before .before .before .before .before .before .before .before .before .before .before .before .before .args .children .now) (c .before .before .before .before .before .before .before .before .before .before .before .before .before .before .before .before .before .before .before .args .named .now) (c .before .before .before .before .before .before .before .before .before .before .before .before .before .before .before .before .before .before .before .args .definitions .now) (c .before .before .before .before .before .before .before .before .before .before .before .before .before .before .before .before .before .before .before .args .items .now) (c .before .before .before .before .before .before .before .before .before .before .before .before .before .before .before .before .before .before .before .args .payload .now) (c .before .before .before .before .before .before .before .before .before .before .before .before .before .before .before .before .before .before .before .args .strings .now)) refl (c .before .before .before .before .before .before .before .before .before .before .before .before .before .before .before .before .before .before .before .args .work .now) (c .before .before .before .before .before .before .before .before .before .before .before .before .before .before .before .before .before .before .before .args .l) (c .before .before .before .before .before .before .before .before .before .before .before .before .before .before .before .before .before .before .before .args .uses) (c .before .before .before .before .before .before .before .before .before .before .before .before .before .before .before .before .before .before .before .pre) (c .before .before .before .before .before .before .before .before .before .before .before .before .before .before .before .before .before .before .before .args .out .now) _ (c .before .before .before .before .before .before .before .before .before .image-length .ensures) _ (c .before .before .before .before .before .before .before .length .given .1) (c .before .before .before .before .before .if1 .left) _ (c .before .before .fill .ensures)
+returns-3 c =
+    let to = c .before .before .before .before .before .before .before .before .before .before .before .before .before .before .before .before .before .before .before .args in
+    let asked = c .before .before .before .before .before .before .before .before .before .before .before .before .before .before .before .before .before .before .before .pre in
+    let entry-counts = c .before .entry-counts in
+    let image-length = c .before .before .before .before .before .before .before .before .before .image-length in
+    let length = c .before .before .before .before .before .before .before .length in
+    let if1 = c .before .before .before .before .before .if1 in
+    let s = draftOf (to .source .version) (to .nodes .now) (to .children .now) (to .named .now) (to .definitions .now) (to .items .now) (to .payload .now) (to .strings .now) in
+    put-done (to .ink) s (to .work .now) (to .l) (to .uses) asked (to .out .now) _ (rw (entry-counts .ensures) at (image-length .ensures)) _ (length .given .1) (if1 .left) _
+    (c .before .before .fill .ensures)
 
 pub put-image-spec : {M : Type 1} → statement M
 put-image-spec =
     tie.close
     (tie.spec
+    entry-counts-requires
     image-length-requires
     enum-told
     enum-known-length

@@ -4,6 +4,7 @@ use Prim.Native.Nat.{_+_, _*_, _/_, _≤_}
 use native.Mathlib.Omega.{arith}
 use lib.ListN.{length}
 use Rattle.image.specs.Encoding.{sectionOut}
+use Rattle.image.specs.Sections.{textEntryWords, definitionWords, textEntrySize, definitionSize}
 use Rattle.draft.specs.Source.{draftOf}
 use Rattle.draft_image.specs.Written.{written}
 use Rattle.write_image.proofs.Premises.{lists-room, definitions-texts, items-sum, index-fit, measured, definitions-put, items-put, index-put}
@@ -16,7 +17,7 @@ put-definitions-requires : tie.Need-put-definitions-requires
 put-definitions-requires c κs =
     let r = c .before .before .before .before .before .pre in
     let text = r .at .texts in
-    (omega (arith, definitions-texts _ _ _ _ _ _ _ _ _ (r .told)), omega (arith, lists-room _ _ _ _ _ _ _ _ r))
+    (omega (arith, definitions-texts _ _ _ _ _ _ _ _ _ _ (r .told)), omega (arith, lists-room _ _ _ _ _ _ _ _ r))
 
 mul-at-items : tie.Need-mul-at-items
 mul-at-items c = search needs
@@ -34,7 +35,7 @@ put-items-requires : tie.Need-put-items-requires
 put-items-requires c κs =
     let r = c .before .before .before .before .before .before .before .before .before .pre in
     let text = r .at .texts in
-    (omega (arith, definitions-texts _ _ _ _ _ _ _ _ _ (r .told)), omega (arith, lists-room _ _ _ _ _ _ _ _ r, items-sum _ _ _ _ _ _ _ _ _ (r .told)))
+    (omega (arith, definitions-texts _ _ _ _ _ _ _ _ _ _ (r .told)), omega (arith, lists-room _ _ _ _ _ _ _ _ r, items-sum _ _ _ _ _ _ _ _ _ _ (r .told)))
 
 mul-at-index : tie.Need-mul-at-index
 mul-at-index c = search needs
@@ -53,23 +54,24 @@ part-put-index-end c = search needs
 
 put-index-requires : tie.Need-put-index-requires
 put-index-requires c κs =
-    let r = c .before .before .before .before .before .before .before .before .before .before .before .before .before .pre in (index-fit _ _ _ _ _ _ _ _ _ (r .told) _ _ (r .indexed) (r .at .paths), omega (arith, lists-room _ _ _ _ _ _ _ _ r))
+    let r = c .before .before .before .before .before .before .before .before .before .before .before .before .before .pre in
+    (index-fit _ _ _ _ _ _ _ _ _ _ (r .told) _ _ (r .indexed) (r .at .paths), omega (arith, lists-room _ _ _ _ _ _ _ _ r))
 
 same-length : tie.Need-same-length
 same-length c = search needs
 
 returns : tie.Need-returns
-returns c = λ nodes children named payload strings t at i.
+returns c = λ version nodes children named payload strings t at i.
     let a = c .before .before .before .before .before .before .before .before .before .before .before .before .before .before .before .before .args in
     let m = measured _ _ _ t in
-    let v = sectionOut (written (draftOf nodes children named (a .definitions .now) (a .items .now) payload strings)) in
+    let v = sectionOut (written (draftOf version nodes children named (a .definitions .now) (a .items .now) payload strings)) in
     let room = lists-room _ _ _ _ _ _ _ _ (c .before .before .before .before .before .before .before .before .before .before .before .before .before .before .before .before .pre) in
     let fits : length (v 3) + length (v 4) + length (v 5) ≤ length (a .out .now) = omega (arith, m .definitions, m .items, m .index, i .count) in
-    let at-items : length (a .definitions .now) / 4 * 16 ≡ length (v 3) = omega (arith, m .definitions) in
-    let at-index : length (a .definitions .now) / 4 * 16 + length (a .items .now) / 3 * 12 ≡ length (v 3) + length (v 4) = omega (arith, m .definitions, m .items) in
-    let first = definitions-put _ _ _ _ _ _ _ _ _ _ _ t _ (at .texts) (c .before .before .before .before .before .before .before .before .before .before .put-definitions .ensures) in
-    let second = items-put _ _ _ _ _ _ _ _ _ _ _ t _ (at .texts) (c .before .before .before .before .before .before .put-items .ensures) in
-    let third = index-put _ _ _ _ _ _ _ _ _ _ _ t _ _ i (at .paths) (c .before .before .put-index .ensures) in
+    let at-items : length (a .definitions .now) / definitionWords * definitionSize ≡ length (v 3) = omega (arith, m .definitions) in
+    let at-index : length (a .definitions .now) / definitionWords * definitionSize + length (a .items .now) / textEntryWords * textEntrySize ≡ length (v 3) + length (v 4) = omega (arith, m .definitions, m .items) in
+    let first = definitions-put _ _ _ _ _ _ _ _ _ _ _ _ t _ (at .texts) (c .before .before .before .before .before .before .before .before .before .before .put-definitions .ensures) in
+    let second = items-put _ _ _ _ _ _ _ _ _ _ _ _ t _ (at .texts) (c .before .before .before .before .before .before .put-items .ensures) in
+    let third = index-put _ _ _ _ _ _ _ _ _ _ _ _ t _ _ i (at .paths) (c .before .before .put-index .ensures) in
     three-parts (a .out .now) _ _ (v 3) (v 4) (v 5) _ _ _ _ fits first at-items second refl at-index third
 
 pub put-lists-spec : {M : Type 1} → statement M

@@ -4,6 +4,7 @@ use native.Mathlib.Omega.{arith}
 use borrow.Author.Needs.{needs}
 use Rattle.write_image.proofs.CappedSums.{capped-le, adds}
 use Rattle.write_image.proofs.size.front_length.Statement.{statement}
+use Rattle.image.specs.Sections.{nodeSize, childSize, textEntrySize, definitionSize}
 use Rattle.write_image.proofs.size.front_length.Tie as tie
 
 add-requires : tie.Need-add-requires
@@ -22,9 +23,9 @@ returns : tie.Need-returns
 returns c =
     let e = c .before .before .before .before .args .entries in
     let nodes = c .before .before .before .add .ensures in
-    let children = adds _ _ (88 + 40 * e .nodes) (4 * e .children) (c .before .before .add2 .ensures) nodes in
-    let named = adds _ _ (88 + 40 * e .nodes + 4 * e .children) (12 * e .named) (c .before .add3 .ensures) children in
-    adds _ _ (88 + 40 * e .nodes + 4 * e .children + 12 * e .named) (16 * e .definitions) (c .add4 .ensures) named
+    let children = adds _ _ (headerLength + e .nodes * nodeSize (source .version)) (e .children * childSize) (c .before .before .add2 .ensures) nodes in
+    let named = adds _ _ (headerLength + e .nodes * nodeSize (source .version) + e .children * childSize) (e .named * textEntrySize) (c .before .add3 .ensures) children in
+    adds _ _ (headerLength + e .nodes * nodeSize (source .version) + e .children * childSize + e .named * textEntrySize) (e .definitions * definitionSize) (c .add4 .ensures) named
 
 pub front-length-spec : {M : Type 1} → statement M
 front-length-spec =

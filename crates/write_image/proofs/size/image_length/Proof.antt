@@ -26,14 +26,16 @@ cast-t9 c = search needs
 returns : tie.Need-returns
 returns c =
     let b = c .before .before .before .before in
-    let total = whole (b .before .before .args .entries) _ _ _ _ _ (b .before .front-length .ensures) (b .add .ensures) (c .before .before .before .add2 .ensures) (c .before .before .add3 .ensures) (c .before .add4 .ensures) in
-    size-few _ _ total (search needs)
+    let add2 = c .before .before .before .add2 in
+    let total = whole (b .before .before .args .source .version) (b .before .before .args .entries) _ _ _ _ _ (b .before .front-length .ensures) (b .add .ensures)
+    (add2 .ensures) (c .before .before .add3 .ensures) (c .before .add4 .ensures) in size-few _ _ total (search needs)
 
 returns-2 : tie.Need-returns-2
 returns-2 c =
     let b = c .before .before .before .before in
-    let total = whole (b .before .before .args .entries) _ _ _ _ _ (b .before .front-length .ensures) (b .add .ensures) (c .before .before .before .add2 .ensures) (c .before .before .add3 .ensures) (c .before .add4 .ensures) in
-    size-many _ _ total (search needs)
+    let add2 = c .before .before .before .add2 in
+    let total = whole (b .before .before .args .source .version) (b .before .before .args .entries) _ _ _ _ _ (b .before .front-length .ensures) (b .add .ensures)
+    (add2 .ensures) (c .before .before .add3 .ensures) (c .before .add4 .ensures) in size-many _ _ total (search needs)
 
 pub image-length-spec : {M : Type 1} → statement M
 image-length-spec =

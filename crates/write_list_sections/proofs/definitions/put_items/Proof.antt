@@ -6,13 +6,14 @@ use lib.ListN.{length}
 use Rattle.write_list_sections.proofs.DefinitionLoops.{Itemizing, itemize-start, itemize-room, itemize-next, itemize-end}
 use borrow.Author.Needs.{needs}
 use Rattle.write_list_sections.proofs.definitions.put_items.Statement.{statement}
+use Rattle.image.specs.Sections.{definitionWords}
 use Rattle.write_list_sections.proofs.definitions.put_items.Tie as tie
 
 abbrev Inv-loop : tie.InvT-loop
-Inv-loop definitions items w offsets out₀ count k₀ at₀ d₀ out k at d = Itemizing definitions items w offsets (length definitions / 4) out₀ out k at d
+Inv-loop definitions items w offsets out₀ count k₀ at₀ d₀ out k at d = Itemizing definitions items w offsets (length definitions / definitionWords) out₀ out k at d
 
 abbrev μ-loop : tie.MeasureT-loop
-μ-loop definitions items w offsets out₀ count k₀ at₀ d₀ out k at d = length definitions / 4 - d
+μ-loop definitions items w offsets out₀ count k₀ at₀ d₀ out k at d = length definitions / definitionWords - d
 
 loop-holds : tie.Need-loop-holds Inv-loop μ-loop
 loop-holds c = itemize-start _ _ _ _ _ _ (c .before .before .before .before .pre .0) (c .before .before .before .before .pre .1)
@@ -30,19 +31,39 @@ cast-at : tie.Need-cast-at Inv-loop μ-loop
 cast-at c = search needs
 
 mul-at : tie.Need-mul-at Inv-loop μ-loop
-mul-at c = omega (arith, (itemize-room _ _ _ _ _ _ _ _ _ _ (c .before .before .before .before .before .before .before .loop .inv) (c .before .before .before .before .before .before .loop-test .taken) _ (c .before .before .before .before .before .definition-at .ensures)) .1)
+mul-at c =
+    let loop = c .before .before .before .before .before .before .before .loop in
+    let test = c .before .before .before .before .before .before .loop-test in
+    let definition-at = c .before .before .before .before .before .definition-at in
+    omega (arith, (itemize-room _ _ _ _ _ _ _ _ _ _ (loop .inv) (test .taken) _ (definition-at .ensures)) .1)
 
 add-at : tie.Need-add-at Inv-loop μ-loop
-add-at c = omega (arith, (itemize-room _ _ _ _ _ _ _ _ _ _ (c .before .before .before .before .before .before .before .loop .inv) (c .before .before .before .before .before .before .loop-test .taken) _ (c .before .before .before .before .before .definition-at .ensures)) .1)
+add-at c =
+    let loop = c .before .before .before .before .before .before .before .loop in
+    let test = c .before .before .before .before .before .before .loop-test in
+    let definition-at = c .before .before .before .before .before .definition-at in
+    omega (arith, (itemize-room _ _ _ _ _ _ _ _ _ _ (loop .inv) (test .taken) _ (definition-at .ensures)) .1)
 
 cast-k : tie.Need-cast-k Inv-loop μ-loop
 cast-k c = search needs
 
 add-k : tie.Need-add-k Inv-loop μ-loop
-add-k c = omega (arith, (itemize-room _ _ _ _ _ _ _ _ _ _ (c .before .before .before .before .before .before .before .before .loop .inv) (c .before .before .before .before .before .before .before .loop-test .taken) _ (c .before .before .before .before .before .before .definition-at .ensures)) .0)
+add-k c =
+    let room =
+    let loop = c .before .before .before .before .before .before .before .before .loop in
+    let test = c .before .before .before .before .before .before .before .loop-test in
+    let definition-at = c .before .before .before .before .before .before .definition-at in
+    (itemize-room _ _ _ _ _ _ _ _ _ _ (loop .inv) (test .taken) _ (definition-at .ensures)) .0 in
+    omega (arith, room)
 
 add-k-2 : tie.Need-add-k-2 Inv-loop μ-loop
-add-k-2 c = omega (arith, (itemize-room _ _ _ _ _ _ _ _ _ _ (c .before .before .before .before .before .before .before .before .loop .inv) (c .before .before .before .before .before .before .before .loop-test .taken) _ (c .before .before .before .before .before .before .definition-at .ensures)) .0)
+add-k-2 c =
+    let room =
+    let loop = c .before .before .before .before .before .before .before .before .loop in
+    let test = c .before .before .before .before .before .before .before .loop-test in
+    let definition-at = c .before .before .before .before .before .before .definition-at in
+    (itemize-room _ _ _ _ _ _ _ _ _ _ (loop .inv) (test .taken) _ (definition-at .ensures)) .0 in
+    omega (arith, room)
 
 add-d : tie.Need-add-d Inv-loop μ-loop
 add-d c = search needs
@@ -51,7 +72,12 @@ loop-less : tie.Need-loop-less Inv-loop μ-loop
 loop-less c = search needs
 
 loop-again : tie.Need-loop-again Inv-loop μ-loop
-loop-again c = itemize-next _ _ _ _ _ _ _ _ _ _ (c .before .before .before .before .before .before .before .before .loop .inv) (c .before .before .before .before .before .before .before .loop-test .taken) _ (c .before .before .before .before .before .before .definition-at .ensures) _ (c .before .before .before .before .put-items-from .ensures) _ _ refl refl
+loop-again c =
+    let loop = c .before .before .before .before .before .before .before .before .loop in
+    let test = c .before .before .before .before .before .before .before .loop-test in
+    let definition-at = c .before .before .before .before .before .before .definition-at in
+    let put-items-from = c .before .before .before .before .put-items-from in
+    itemize-next _ _ _ _ _ _ _ _ _ _ (loop .inv) (test .taken) _ (definition-at .ensures) _ (put-items-from .ensures) _ _ refl refl
 
 same-length : tie.Need-same-length Inv-loop μ-loop
 same-length c = search needs

@@ -49,7 +49,10 @@ put-words-requires : tie.Need-put-words-requires Inv-loop μ-loop
 put-words-requires c κs = items-room _ _ _ _ _ _ _ _ _ _ (c .before .before .before .before .before .before .loop .inv) (c .before .before .before .before .before .loop-test .taken)
 
 add-place : tie.Need-add-place Inv-loop μ-loop
-add-place c = omega (arith, items-room _ _ _ _ _ _ _ _ _ _ (c .before .before .before .before .before .before .before .before .before .loop .inv) (c .before .before .before .before .before .before .before .before .loop-test .taken))
+add-place c =
+    let loop = c .before .before .before .before .before .before .before .before .before .loop in
+    let test = c .before .before .before .before .before .before .before .before .loop-test in
+    omega (arith, items-room _ _ _ _ _ _ _ _ _ _ (loop .inv) (test .taken))
 
 add-i : tie.Need-add-i Inv-loop μ-loop
 add-i c = search needs
@@ -58,7 +61,14 @@ loop-less : tie.Need-loop-less Inv-loop μ-loop
 loop-less c = search needs
 
 loop-again : tie.Need-loop-again Inv-loop μ-loop
-loop-again c = run-next _ _ _ _ _ _ _ (c .before .before .before .before .before .before .before .before .before .loop .inv) _ _ _ (c .before .before .before .before .before .before .before .before .loop-test .taken) (item-words _ _ _ _ _ _ _ _ (c .before .before .before .before .before .before .before .word .ensures) (c .before .before .before .before .before .before .word2 .ensures) (c .before .before .before .before .before .word3 .ensures)) (c .before .before .put-words .ensures) refl
+loop-again c =
+    let loop = c .before .before .before .before .before .before .before .before .before .loop in
+    let test = c .before .before .before .before .before .before .before .before .loop-test in
+    let word = c .before .before .before .before .before .before .before .word in
+    let word2 = c .before .before .before .before .before .before .word2 in
+    let word3 = c .before .before .before .before .before .word3 in
+    run-next _ _ _ _ _ _ _ (loop .inv) _ _ _ (test .taken) (item-words _ _ _ _ _ _ _ _ (word .ensures) (word2 .ensures) (word3 .ensures))
+    (c .before .before .put-words .ensures) refl
 
 same-length : tie.Need-same-length Inv-loop μ-loop
 same-length c = search needs

@@ -39,11 +39,11 @@ add-word c = search needs
 word-requires : tie.Need-word-requires Inv-loop μ-loop
 word-requires c κs = search needs
 
-add-get : tie.Need-add-get Inv-loop μ-loop
-add-get c = search needs
+add-payload-get : tie.Need-add-payload-get Inv-loop μ-loop
+add-payload-get c = search needs
 
-get-requires : tie.Need-get-requires Inv-loop μ-loop
-get-requires c κs = search needs
+payload-get-requires : tie.Need-payload-get-requires Inv-loop μ-loop
+payload-get-requires c κs = search needs
 
 slice-aggregate-put-words : tie.Need-slice-aggregate-put-words Inv-loop μ-loop
 slice-aggregate-put-words c = search needs
@@ -52,7 +52,10 @@ put-words-requires : tie.Need-put-words-requires Inv-loop μ-loop
 put-words-requires c κs = origins-room _ _ _ _ _ _ _ _ _ _ (c .before .before .before .before .before .loop .inv) (c .before .before .before .before .loop-test .taken)
 
 add-place : tie.Need-add-place Inv-loop μ-loop
-add-place c = omega (arith, origins-room _ _ _ _ _ _ _ _ _ _ (c .before .before .before .before .before .before .before .before .loop .inv) (c .before .before .before .before .before .before .before .loop-test .taken))
+add-place c =
+    let loop = c .before .before .before .before .before .before .before .before .loop in
+    let test = c .before .before .before .before .before .before .before .loop-test in
+    omega (arith, origins-room _ _ _ _ _ _ _ _ _ _ (loop .inv) (test .taken))
 
 add-j : tie.Need-add-j Inv-loop μ-loop
 add-j c = search needs
@@ -61,7 +64,13 @@ loop-less : tie.Need-loop-less Inv-loop μ-loop
 loop-less c = search needs
 
 loop-again : tie.Need-loop-again Inv-loop μ-loop
-loop-again c = run-next _ _ _ _ _ _ _ (c .before .before .before .before .before .before .before .before .loop .inv) _ _ _ (c .before .before .before .before .before .before .before .loop-test .taken) (origin-words _ _ _ _ _ _ _ (c .before .before .before .before .before .before .word .ensures) (c .before .before .before .before .before .get .ensures)) (c .before .before .put-words .ensures) refl
+loop-again c =
+    let loop = c .before .before .before .before .before .before .before .before .loop in
+    let test = c .before .before .before .before .before .before .before .loop-test in
+    let word = c .before .before .before .before .before .before .word in
+    let payload-get = c .before .before .before .before .before .payload-get in
+    run-next _ _ _ _ _ _ _ (loop .inv) _ _ _ (test .taken) (origin-words _ _ _ _ _ _ _ (word .ensures) (payload-get .ensures))
+    (c .before .before .put-words .ensures) refl
 
 same-length : tie.Need-same-length Inv-loop μ-loop
 same-length c = search needs
@@ -83,8 +92,8 @@ put-list-origins-spec =
     add-origin
     add-word
     word-requires
-    add-get
-    get-requires
+    add-payload-get
+    payload-get-requires
     slice-aggregate-put-words
     put-words-requires
     add-place

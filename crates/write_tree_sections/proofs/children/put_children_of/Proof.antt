@@ -19,7 +19,9 @@ abbrev μ-loop : tie.MeasureT-loop
 μ-loop children work new first count out₀ at start all place₀ j₀ out place j = count - j
 
 loop-holds : tie.Need-loop-holds Inv-loop μ-loop
-loop-holds c = run-start _ _ _ _ (omega (arith, child-words-length (c .before .before .before .args .children .now) (c .before .before .before .args .work .now) (c .before .before .before .args .new) (c .before .before .before .args .first) (c .before .before .before .args .count))) _ refl
+loop-holds c =
+    let to = c .before .before .before .args in
+    run-start _ _ _ _ (omega (arith, child-words-length (to .children .now) (to .work .now) (to .new) (to .first) (to .count))) _ refl
 
 add-word : tie.Need-add-word Inv-loop μ-loop
 add-word c = search needs
@@ -43,7 +45,13 @@ loop-less : tie.Need-loop-less Inv-loop μ-loop
 loop-less c = search needs
 
 loop-again : tie.Need-loop-again Inv-loop μ-loop
-loop-again c = word-next _ _ _ _ _ _ _ (c .before .before .before .before .before .before .before .loop .inv) (c .before .before .before .before .new-number .result) _ (c .before .before .before .before .before .before .loop-test .taken) (rw (← c .before .before .before .before .before .word .ensures) (c .before .before .before .before .new-number .ensures)) (c .before .before .put-word .ensures)
+loop-again c =
+    let loop = c .before .before .before .before .before .before .before .loop in
+    let test = c .before .before .before .before .before .before .loop-test in
+    let word = c .before .before .before .before .before .word in
+    let new-number = c .before .before .before .before .new-number in
+    word-next _ _ _ _ _ _ _ (loop .inv) (new-number .result) _ (test .taken) (rw (← word .ensures) (new-number .ensures))
+    (c .before .before .put-word .ensures)
 
 same-length : tie.Need-same-length Inv-loop μ-loop
 same-length c = search needs

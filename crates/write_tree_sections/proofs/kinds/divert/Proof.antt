@@ -24,7 +24,11 @@ optional-offset-requires-2 : tie.Need-optional-offset-requires-2
 optional-offset-requires-2 c κs = search needs
 
 returns : tie.Need-returns
-returns c = divert-made _ _ _ _ (c .before .before .before .before .blank .ensures) _ _ _ (c .before .before .before .optional-offset .ensures) _ (c .before .before .new-number .ensures) _ _ (c .before .text-count .ensures) (c .optional-offset2 .ensures)
+returns c =
+    let blank = c .before .before .before .before .blank in
+    let optional-offset = c .before .before .before .optional-offset in
+    divert-made _ _ _ _ (blank .ensures) _ _ _ (optional-offset .ensures) _ (c .before .before .new-number .ensures) _ _
+    (c .before .text-count .ensures) (c .optional-offset2 .ensures)
 
 pub divert-spec : {M : Type 1} → statement M
 divert-spec =

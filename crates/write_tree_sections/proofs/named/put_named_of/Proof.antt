@@ -16,7 +16,9 @@ abbrev μ-loop : tie.MeasureT-loop
 μ-loop named work new text first count out₀ at start all place₀ j₀ out place j = count - j
 
 loop-holds : tie.Need-loop-holds Inv-loop μ-loop
-loop-holds c = run-start _ _ _ _ (omega (arith, named-words-length (c .before .before .before .args .named .now) (c .before .before .before .args .work .now) (c .before .before .before .args .new) (c .before .before .before .args .text) (c .before .before .before .args .first) (c .before .before .before .args .count))) _ refl
+loop-holds c =
+    let to = c .before .before .before .args in
+    run-start _ _ _ _ (omega (arith, named-words-length (to .named .now) (to .work .now) (to .new) (to .text) (to .first) (to .count))) _ refl
 
 add-entry : tie.Need-add-entry Inv-loop μ-loop
 add-entry c = search needs
@@ -52,7 +54,10 @@ put-words-requires : tie.Need-put-words-requires Inv-loop μ-loop
 put-words-requires c κs = three-room _ _ _ _ _ _ _ _ _ (c .before .before .before .before .before .before .before .loop .inv) (c .before .before .before .before .before .before .loop-test .taken)
 
 add-place : tie.Need-add-place Inv-loop μ-loop
-add-place c = let h = three-room _ _ _ _ _ _ _ _ _ (c .before .before .before .before .before .before .before .before .before .before .loop .inv) (c .before .before .before .before .before .before .before .before .before .loop-test .taken) in omega arith
+add-place c =
+    let loop = c .before .before .before .before .before .before .before .before .before .before .loop in
+    let test = c .before .before .before .before .before .before .before .before .before .loop-test in
+    let h = three-room _ _ _ _ _ _ _ _ _ (loop .inv) (test .taken) in omega arith
 
 add-j : tie.Need-add-j Inv-loop μ-loop
 add-j c = search needs
@@ -61,7 +66,15 @@ loop-less : tie.Need-loop-less Inv-loop μ-loop
 loop-less c = search needs
 
 loop-again : tie.Need-loop-again Inv-loop μ-loop
-loop-again c = three-next _ _ _ _ _ _ _ _ _ (c .before .before .before .before .before .before .before .before .before .before .loop .inv) (c .before .before .before .before .before .before .word2 .result) (c .before .before .before .before .before .word3 .result) (c .before .before .before .before .before .before .before .new-number .result) _ (c .before .before .before .before .before .before .before .before .before .loop-test .taken) (c .before .before .before .before .before .before .word2 .ensures) (c .before .before .before .before .before .word3 .ensures) (rw (← c .before .before .before .before .before .before .before .before .word .ensures) (c .before .before .before .before .before .before .before .new-number .ensures)) (c .before .before .put-words .ensures)
+loop-again c =
+    let loop = c .before .before .before .before .before .before .before .before .before .before .loop in
+    let test = c .before .before .before .before .before .before .before .before .before .loop-test in
+    let word = c .before .before .before .before .before .before .before .before .word in
+    let new-number = c .before .before .before .before .before .before .before .new-number in
+    let word2 = c .before .before .before .before .before .before .word2 in
+    let word3 = c .before .before .before .before .before .word3 in
+    three-next _ _ _ _ _ _ _ _ _ (loop .inv) (word2 .result) (word3 .result) (new-number .result) _ (test .taken) (word2 .ensures) (word3 .ensures)
+    (rw (← word .ensures) (new-number .ensures)) (c .before .before .put-words .ensures)
 
 same-length : tie.Need-same-length Inv-loop μ-loop
 same-length c = search needs

@@ -13,17 +13,17 @@ Inv-loop payload start at items origins present₀ j₀ present j = Counting pay
 abbrev μ-loop : tie.MeasureT-loop
 μ-loop payload start at items origins present₀ j₀ present j = items - j
 
-get-requires : tie.Need-get-requires Inv-loop μ-loop
-get-requires c κs = search needs
+payload-get-requires : tie.Need-payload-get-requires Inv-loop μ-loop
+payload-get-requires c κs = search needs
 
 cast-items : tie.Need-cast-items Inv-loop μ-loop
 cast-items c = search needs
 
-add-get : tie.Need-add-get Inv-loop μ-loop
-add-get c = search needs
+add-payload-get : tie.Need-add-payload-get Inv-loop μ-loop
+add-payload-get c = search needs
 
-get-requires-2 : tie.Need-get-requires-2 Inv-loop μ-loop
-get-requires-2 c κs = search needs
+payload-get-requires-2 : tie.Need-payload-get-requires-2 Inv-loop μ-loop
+payload-get-requires-2 c κs = search needs
 
 cast-origins : tie.Need-cast-origins Inv-loop μ-loop
 cast-origins c = search needs
@@ -31,23 +31,23 @@ cast-origins c = search needs
 loop-holds : tie.Need-loop-holds Inv-loop μ-loop
 loop-holds c = count-start _ _ _
 
-add-get-2 : tie.Need-add-get-2 Inv-loop μ-loop
-add-get-2 c = search needs
+add-payload-get-2 : tie.Need-add-payload-get-2 Inv-loop μ-loop
+add-payload-get-2 c = search needs
 
-mul-get : tie.Need-mul-get Inv-loop μ-loop
-mul-get c = search needs
+mul-payload-get : tie.Need-mul-payload-get Inv-loop μ-loop
+mul-payload-get c = search needs
 
-add-get-3 : tie.Need-add-get-3 Inv-loop μ-loop
-add-get-3 c = search needs
+add-payload-get-3 : tie.Need-add-payload-get-3 Inv-loop μ-loop
+add-payload-get-3 c = search needs
 
-get-requires-3 : tie.Need-get-requires-3 Inv-loop μ-loop
-get-requires-3 c κs = search needs
+payload-get-requires-3 : tie.Need-payload-get-requires-3 Inv-loop μ-loop
+payload-get-requires-3 c κs = search needs
 
 text-count-requires : tie.Need-text-count-requires Inv-loop μ-loop
 text-count-requires c κs = search needs
 
 add-present : tie.Need-add-present Inv-loop μ-loop
-add-present c = omega (arith, c .text-count .ensures, count-small (c .before .get3 .result))
+add-present c = omega (arith, c .text-count .ensures, count-small (c .before .payload-get3 .result))
 
 add-j : tie.Need-add-j Inv-loop μ-loop
 add-j c = search needs
@@ -56,7 +56,7 @@ loop-less : tie.Need-loop-less Inv-loop μ-loop
 loop-less c = search needs
 
 loop-again : tie.Need-loop-again Inv-loop μ-loop
-loop-again c = count-next _ _ _ _ _ (c .before .before .before .loop .inv) (c .before .before .loop-test .taken) _ _ (c .before .get3 .ensures) (c .text-count .ensures)
+loop-again c = count-next _ _ _ _ _ (c .before .before .before .loop .inv) (c .before .before .loop-test .taken) _ _ (c .before .payload-get3 .ensures) (c .text-count .ensures)
 
 add-result : tie.Need-add-result Inv-loop μ-loop
 add-result c = search needs
@@ -65,7 +65,7 @@ add-result-2 : tie.Need-add-result-2 Inv-loop μ-loop
 add-result-2 c = search needs
 
 returns : tie.Need-returns Inv-loop μ-loop
-returns c = count-end _ _ _ _ _ _ (c .before .loop .inv) (c .loop-test .left) (c .before .before .before .get .ensures) (c .before .before .get2 .ensures)
+returns c = count-end _ _ _ _ _ _ (c .before .loop .inv) (c .loop-test .left) (c .before .before .before .payload-get .ensures) (c .before .before .payload-get2 .ensures)
 
 pub list-texts-spec : {M : Type 1} → statement M
 list-texts-spec =
@@ -73,16 +73,16 @@ list-texts-spec =
     (tie.spec
     Inv-loop
     μ-loop
-    get-requires
+    payload-get-requires
     cast-items
-    add-get
-    get-requires-2
+    add-payload-get
+    payload-get-requires-2
     cast-origins
     loop-holds
-    add-get-2
-    mul-get
-    add-get-3
-    get-requires-3
+    add-payload-get-2
+    mul-payload-get
+    add-payload-get-3
+    payload-get-requires-3
     text-count-requires
     add-present
     add-j

@@ -20,7 +20,9 @@ text-count-requires-4 : tie.Need-text-count-requires-4
 text-count-requires-4 c κs = search needs
 
 add-result : tie.Need-add-result
-add-result c = omega (arith, c .text-count4 .ensures, c .before .text-count3 .ensures, count-small (c .before .before .before .before .args .node .f0), count-small (c .before .before .before .before .args .node .f3))
+add-result c =
+    let to = c .before .before .before .before .args in
+    omega (arith, c .text-count4 .ensures, c .before .text-count3 .ensures, count-small (to .node .f0), count-small (to .node .f3))
 
 list-texts-requires : tie.Need-list-texts-requires
 list-texts-requires c κs = search needs

@@ -1,4 +1,4 @@
--- `write_tree_sections::children::children_of` meets its contract.
+-- `write_tree_sections::children::child_count` meets its contract.
 use Rattle.laws.proofs.Cases.{cases}
 use Rattle.write_tree_sections.proofs.children.child_count.Statement.{statement}
 use Rattle.write_tree_sections.proofs.children.child_count.Tie as tie
@@ -9,5 +9,5 @@ returns c = search cases
 returns-2 : tie.Need-returns-2
 returns-2 c = search cases
 
-pub children-of-spec : {M : Type 1} → statement M
-children-of-spec = tie.close (tie.spec returns returns-2)
+pub child-count-spec : {M : Type 1} → statement M
+child-count-spec = tie.close (tie.spec returns returns-2)

@@ -1,0 +1,39 @@
+-- What the writers of sections 0 to 2 have written, of every draft whose tables these are and whose numbers and offsets the work words hold.
+use Prim.Native.Nat.{ℕ, _+_, _<_}
+use mathlib.Core.Path.{_≡_}
+use mathlib.Core.List.{List}
+use lib.ListN.{length}
+use Rattle.laws.specs.Counted.{joinOf}
+use Rattle.laws.specs.Lists.{placeIn}
+use Rattle.words.specs.Words.{bytesOf}
+use Rattle.words.specs.Output.{over}
+use Rattle.image.specs.Sections.{Sections, nodeCount}
+use Rattle.draft.specs.Draft.{tablesRule, shapeRule}
+use Rattle.draft.specs.Numbering.{oldOf}
+use Rattle.draft_image.specs.Written.{nodeOut, childrenOut, namedOut}
+use Rattle.draft_image.specs.Ready.{OldsAt, NewsAt, OffsetsAt, nodeUses, namedUses}
+use Rattle.write_numbering.specs.declared.numbers.Numbers.{Numbers}
+
+-- section 0, and r is the word at which the offsets of the texts that follow begin
+abbrev pub NodesPut : ℕ → List ℕ → List ℕ → List ℕ → Numbers → List ℕ → List ℕ → ℕ → Type 0
+NodesPut version nodes payload w n out₀ out r =
+    (s : Sections) (order : List ℕ) (kept : List (List ℕ)) → s .nodes ≡ nodes → s .version ≡ version → s .payload ≡ payload
+    → tablesRule s ≡ 0 → shapeRule s ≡ 0 → ((j : ℕ) → j < nodeCount s → placeIn order (oldOf order j) ≡ j)
+    → OldsAt order w (nodeCount s) (n .order) → NewsAt order w (nodeCount s) (n .new) → OffsetsAt kept (nodeUses s order) w (n .offsets)
+    → (out ≡ over (bytesOf (joinOf (nodeCount s) (λ j. nodeOut s order kept (oldOf order j)))) out₀)
+    × (r ≡ n .offsets + length (nodeUses s order))
+
+-- section 1
+abbrev pub ChildrenPut : ℕ → List ℕ → List ℕ → List ℕ → Numbers → List ℕ → List ℕ → Type 0
+ChildrenPut version nodes children w n out₀ out =
+    (s : Sections) (order : List ℕ) (kept : List (List ℕ)) → s .nodes ≡ nodes → s .version ≡ version → s .children ≡ children
+    → tablesRule s ≡ 0 → OldsAt order w (nodeCount s) (n .order) → NewsAt order w (nodeCount s) (n .new)
+    → out ≡ over (bytesOf (joinOf (nodeCount s) (λ j. childrenOut s order kept (oldOf order j)))) out₀
+
+-- section 2
+abbrev pub NamedPut : ℕ → List ℕ → List ℕ → List ℕ → Numbers → List ℕ → List ℕ → Type 0
+NamedPut version nodes named w n out₀ out =
+    (s : Sections) (order : List ℕ) (kept : List (List ℕ)) → s .nodes ≡ nodes → s .version ≡ version → s .named ≡ named
+    → tablesRule s ≡ 0 → OldsAt order w (nodeCount s) (n .order) → NewsAt order w (nodeCount s) (n .new)
+    → OffsetsAt kept (namedUses s order) w (n .offsets)
+    → out ≡ over (bytesOf (joinOf (nodeCount s) (λ j. namedOut s order kept (oldOf order j)))) out₀
