@@ -168,6 +168,10 @@ module _ (bs : List ℕ) where
         sections = sections-right (sectionsOf bs) (rows (sectionsOf bs) (b .1));
       }
 
+  -- the rules on its sections, one by one
+  pub accepted-passed : Accepted bs → Passed (sectionsOf bs)
+  accepted-passed p = rows (sectionsOf bs) (both (checksumRule bs) _ (both (headerRule bs) _ p .1) .1)
+
   pub right-accepted : BreaksNone bs → Accepted bs
   unfolding checksumRule
   right-accepted r =

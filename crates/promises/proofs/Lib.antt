@@ -9,3 +9,5 @@ pub mod Index
 pub mod Sound
 pub mod Whole
 pub mod Readers
+pub mod Answers
+pub mod Lookups

@@ -151,7 +151,7 @@ module _ (s : Sections) (g : Kept s) where
 -- ---- after a load
 
 -- a view is answered where nothing was refused, and is the header's
-answered : (n : ℕ) (w v : ImageView) → loadedBy n w ≡ View v → (n ≡ 0) × (w ≡ v)
+pub answered : (n : ℕ) (w v : ImageView) → loadedBy n w ≡ View v → (n ≡ 0) × (w ≡ v)
 answered zero w v e = (refl, cc)
 answered (suc n) w v e = absurd (let z : _≡_ {A = ℕ} 0 1 = cc in omega arith)
 

@@ -1,3 +1,5 @@
 pub mod Promises
 pub mod Rules
 pub mod Readers
+pub mod Answers
+pub mod Lookups
