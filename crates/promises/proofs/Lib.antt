@@ -7,6 +7,7 @@ pub mod Nodes
 pub mod Entries
 pub mod Index
 pub mod Sound
+pub mod ViewParts
 pub mod Whole
 pub mod Readers
 pub mod Answers

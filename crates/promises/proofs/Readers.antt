@@ -131,7 +131,7 @@ module _ (s : Sections) (g : Kept s) where
         record {
           view = viewAt i h;
           viewed = v .view-is;
-          texts = view-whole s i (kindOf (tagOf s i)) (v .kind) (v .kind-is);
+          texts = view-whole s i (kindOf (tagOf s i)) (v .kind) (g .rules .fields i h) (v .kind-is);
           lists = view-read s i (kindOf (tagOf s i)) (v .kind) (g .rules .fields i h) (v .kind-is);
           ascends = λ k l. ascends-to (up .steps) i h (up .arrives) k (omega (arith, up .few));
           parentless = λ e. elim (ℕ-discrete i 0) [

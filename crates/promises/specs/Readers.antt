@@ -6,6 +6,7 @@ use mathlib.Core.Bool.{true}
 use lib.ListN.{length}
 use Rattle.laws.specs.Lists.{Below}
 use Rattle.words.specs.Words.{wordAt}
+use Rattle.utf8.specs.Utf8.{utf8}
 use Rattle.image.specs.Sections.{Sections, nodeCount, f, isContainer}
 use Rattle.image.specs.declared.ImageView.{ImageView}
 use Rattle.image.specs.Header.{sectionsBy}
@@ -36,10 +37,11 @@ use Rattle.views.specs.Lists.{listPart, listEntry, listOrigin}
 
 -- ---- texts
 
--- a text is handed back whole: it is found, and its part of the strings has its length
+-- a text is handed back whole: it is found, its part of the strings has its length and is UTF-8
 pub record Whole (s : Sections) (t : Span) : Type 0 where
   pub found : textQuery s t ≡ text.Text t
   pub whole : length (shownText (s .strings) (t .offset) (t .len)) ≡ t .len
+  pub encoded : utf8 (shownText (s .strings) (t .offset) (t .len)) ≡ true
 
 -- the text, where there is one
 abbrev pub textsIn : OptionalText → List Span
