@@ -1,3 +1,4 @@
+pub mod Answers
 pub mod Fields
 pub mod Acceptance
 pub mod Premises
@@ -10,5 +11,5 @@ pub mod Sound
 pub mod ViewParts
 pub mod Whole
 pub mod Readers
-pub mod Answers
 pub mod Lookups
+pub mod PartsInside
