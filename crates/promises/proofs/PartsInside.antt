@@ -5,10 +5,11 @@ use mathlib.Core.List.{List, [], _∷_, List·Memᴰ}
 use mathlib.Core.Bool.{Bool, true, false, cond, _&&_}
 use native.Mathlib.Omega.{arith}
 use lib.ListN.{length, take, drop}
-use lib.Seq.{take-take, drop-drop}
+use lib.Seq.{take-take, drop-drop, take-length}
 use lib.Dec.{leb, ltb}
 use borrow.Author.Tests.{leb-true, leb-false}
 use Rattle.image.specs.Sections.{Sections, namedCount, definitionCount, itemCount, namedWord, definitionWord, itemWord, f, tagOf, inside, partAt, textOrEmpty, present, insideContainer}
+use Rattle.words.specs.Words.{wordAt}
 use Rattle.image.specs.declared.Section.{Section}
 use Rattle.image.specs.declared.ImageView.{ImageView}
 use Rattle.image.specs.Header.{sectionBytes, sectionsBy}
@@ -39,7 +40,7 @@ use Rattle.views.specs.declared.DefinitionAnswer.the-variants as definition
 use Rattle.views.specs.declared.ItemView.{ItemView}
 use Rattle.views.specs.declared.ItemAnswer.{ItemAnswer}
 use Rattle.views.specs.declared.ItemAnswer.the-variants as item
-use Rattle.views.specs.View.{span, shown, optionalText, kindView, withKind, recordView, nodeView}
+use Rattle.views.specs.View.{signed, span, shown, optionalText, kindView, withKind, recordView, nodeView}
 use Rattle.views.specs.Children.{namedEntry, namedQuery, textQuery, shownText}
 use Rattle.views.specs.Lists.{listPart, itemEntryWord, originEntryWord, listEntry, nameIn, listEntryName, listOrigin, definitionQuery, itemEntry, itemQuery}
 use Rattle.promises.specs.Answers.{Answer, given, refused, ofNode, ofNamed, ofText, ofEntry, ofDefinition, ofItem}
@@ -70,6 +71,10 @@ part-in bs at len h =
 empty-in : (bs : List ℕ) → InSlice bs []
 unfolding partAt
 empty-in bs = record { at = 0; inside = omega arith; part-is = refl }
+
+whole-in : (bs : List ℕ) → InSlice bs bs
+unfolding partAt
+whole-in bs = record { at = 0; inside = omega arith; part-is = sym (take-length bs) }
 
 part-of : (bs xs : List ℕ) → InSlice bs xs → (at len : ℕ) → at + len ≤ length xs → InSlice bs (partAt xs at len)
 part-of bs xs p at len h =
@@ -248,3 +253,66 @@ pub any-parts-inside : AnyPartsInside
 any-parts-inside bs v =
     parts-inside bs (sectionsBy bs v) (subst (InSlice bs) (sym (strings-by bs v)) (section-in bs (v .strings) 1))
     (subst (InSlice bs) (sym (payload-by bs v)) (section-in bs (v .payload) 1))
+
+-- ---- the list reader on two slices
+
+module _ (payload strings : List ℕ) (j : ℕ) where
+  abbrev nameShown : Bool
+  nameShown = shown (length strings) (itemEntryWord payload j 2) (itemEntryWord payload j 3)
+
+  abbrev found : Bool
+  found = leb (8 + j * 20 + 20) (length payload) && ltb j (wordAt payload 0) && nameShown
+
+  abbrev itsEntry : ListEntry
+  itsEntry =
+      record {
+        origin = optionalText (length strings) (itemEntryWord payload j 0) (itemEntryWord payload j 1);
+        name = span (itemEntryWord payload j 2) (itemEntryWord payload j 3);
+        value = signed (itemEntryWord payload j 4);
+      }
+
+  -- whatever holds of the entry that is read holds of the one that is answered
+  entry-answered : (P : ListEntry → Type 0) → (found ≡ true → P itsEntry) → (e : ListEntry) → ofEntry (listEntry payload strings j) ≡ given e → P e
+  unfolding listEntry
+  entry-answered P h e q = tested P found itsEntry e h (sym (entry-by found itsEntry) ∙ q)
+
+  abbrev InStrings : Span → Type 0
+  InStrings t = t .offset + t .len ≤ length strings
+
+  -- the strings alone
+  abbrev own : Sections
+  own =
+      record { stride = 0; nodes = []; children = []; named = []; definitions = []; items = []; index = []; payload = []; strings = strings }
+
+  name-inside : found ≡ true → InStrings (itsEntry .name)
+  name-inside h =
+      shown-inside (length strings) (itemEntryWord payload j 2) (itemEntryWord payload j 3)
+      (both-true (leb (8 + j * 20 + 20) (length payload) && ltb j (wordAt payload 0)) nameShown h .1)
+
+  name-part-in : (r : EntryAnswer) → InSlice strings (nameIn strings r)
+  name-part-in (entry.Entry e) = text-in strings strings (whole-in strings) (e .name .offset) (e .name .len)
+  name-part-in entry.NotFound = empty-in strings
+
+  origin-inside : (t : Span) → ofText (listOrigin payload strings j) ≡ given t → InStrings t
+  unfolding listOrigin
+  origin-inside t q =
+      let last = shown (length strings) (originEntryWord payload j 0) (originEntryWord payload j 1) in
+      let first = leb (8 + wordAt payload 0 * 20 + j * 8 + 8) (length payload) in
+      let second = ltb j (wordAt payload 4) in
+      tested InStrings (first && second && last) (span (originEntryWord payload j 0) (originEntryWord payload j 1)) t
+      (λ h. shown-inside (length strings) (originEntryWord payload j 0) (originEntryWord payload j 1) (both-true (first && second) last h .1))
+      (sym (text-by (first && second && last) (span (originEntryWord payload j 0) (originEntryWord payload j 1))) ∙ q)
+
+  pub entries-inside : EntriesInside payload strings j
+  unfolding listEntryName
+  entries-inside =
+      record {
+        name = entry-answered (λ (e : ListEntry). InStrings (e .name)) name-inside;
+        origin = entry-answered (λ (e : ListEntry). All InStrings (textsIn (e .origin)))
+            (λ h. optional-all own InStrings (itemEntryWord payload j 0) (itemEntryWord payload j 1) (shown-inside (length strings) (itemEntryWord payload j 0) (itemEntryWord payload j 1)));
+        name-part = name-part-in (listEntry payload strings j);
+        list-origin = origin-inside;
+      }
+
+pub any-entries-inside : AnyEntriesInside
+any-entries-inside = entries-inside
