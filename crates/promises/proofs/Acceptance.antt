@@ -28,11 +28,11 @@ use Rattle.promises.proofs.Fields.{text-right, right-text, node-right, 
 -- ---- a container's entries
 
 module _ (s : Sections) (i j : ℕ) where
-  right-child : ChildRight s i j → childRule s i j ≡ 0
+  pub right-child : ChildRight s i j → childRule s i j ≡ 0
   unfolding childRule
   right-child r = pass _ 14 (rw (right-node s (childAt s i j) (r .node), eq-eqb _ _ (r .parent), eq-eqb _ _ (r .place)))
 
-  right-named : NamedRight s i j → namedRule s i j ≡ 0
+  pub right-named : NamedRight s i j → namedRule s i j ≡ 0
   unfolding namedRule
   right-named r =
       then _ _ (pass _ 14 (right-text s _ _ (r .text)))

@@ -13,3 +13,4 @@ pub mod Words
 pub mod Loads
 pub mod Bytes
 pub mod Sound
+pub mod DraftRules
