@@ -12,7 +12,7 @@ use Rattle.image.proofs.Views.{stride-by}
 use Rattle.image.proofs.OpenedHeader.{view-inside, view-counts, length-word}
 use Rattle.load.specs.Load.{loadRule}
 use Rattle.promises.specs.Rules.{NodeRight, SectionsRight, BreaksNone}
-use Rattle.promises.proofs.Acceptance.{some-node, accepted-right, load-accepted}
+use Rattle.promises.proofs.Acceptance.{right-header, some-node, accepted-right, load-accepted}
 
 pub record Kept (s : Sections) : Type 0 where
   pub rules : SectionsRight s
@@ -24,12 +24,12 @@ pub record Kept (s : Sections) : Type 0 where
 -- an image is shorter than a word can tell
 pub kept : (bs : List ℕ) → Below 256 bs → BreaksNone bs → Kept (sectionsOf bs)
 kept bs b r =
-    let i = view-inside bs (r .header) in
-    let c = view-counts bs (r .header) in
-    let l : length bs < 4294967296 = length-word bs b (r .header) in
+    let i = view-inside bs (right-header bs (r .header)) in
+    let c = view-counts bs (right-header bs (r .header)) in
+    let l : length bs < 4294967296 = length-word bs b (right-header bs (r .header)) in
     record {
       rules = r .sections;
-      some = some-node bs (r .header);
+      some = some-node bs (right-header bs (r .header));
       wide = omega (arith, stride-by bs (viewOf bs));
       nodes = omega (arith, i .nodes, c .nodes);
       children = omega (arith, i .children, c .children);

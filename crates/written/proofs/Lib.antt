@@ -14,3 +14,4 @@ pub mod Loads
 pub mod Bytes
 pub mod Sound
 pub mod DraftRules
+pub mod Spelling
