@@ -4,15 +4,14 @@ use mathlib.Core.Path.{_≡_, ap, _∙_}
 use mathlib.Core.List.{List}
 use native.Mathlib.Nat.{add-zero}
 use Rattle.image.specs.declared.NodeRecord.{NodeRecord}
-use Rattle.image.specs.Sections.{Sections, nodeWord, parentOf, placeOf, tagOf, f, namedWord, definitionWord, itemWord, indexWord}
-use Rattle.image.specs.Header.{nodeWords}
+use Rattle.image.specs.Sections.{Sections, nodeWords, nodeWord, parentOf, placeOf, tagOf, f, namedWord, definitionWord, itemWord, indexWord}
 use Rattle.image.specs.Entries.{recordOf, textEntryOf, definitionOf, nodeIn, namedIn, itemIn, indexIn, definitionIn}
 
 -- ---- whole entries
 
-pub node-record : (s : Sections) (ws : List ℕ) (i : ℕ) → s .stride ≡ nodeWords → s .nodes ≡ ws → recordOf ws i ≡ nodeIn s i
+pub node-record : (s : Sections) (version : ℕ) (ws : List ℕ) (i : ℕ) → s .version ≡ version → s .nodes ≡ ws → recordOf version ws i ≡ nodeIn s i
 unfolding recordOf nodeWord
-node-record s ws i e q = rw (← q, e, add-zero (i * nodeWords))
+node-record s version ws i e q = rw (← q, ← e, add-zero)
 
 pub named-entry : (s : Sections) (ws : List ℕ) (j : ℕ) → s .named ≡ ws → textEntryOf ws j ≡ namedIn s j
 unfolding textEntryOf namedWord
@@ -60,5 +59,6 @@ is-node s i r e =
     }
 
 -- a record read out of the words of the nodes
-pub read-node : (s : Sections) (ws : List ℕ) (i : ℕ) (r : NodeRecord) → s .stride ≡ nodeWords → s .nodes ≡ ws → r ≡ recordOf ws i → IsNode s i r
-read-node s ws i r e q h = is-node s i r (h ∙ node-record s ws i e q)
+pub read-node : (s : Sections) (version : ℕ) (ws : List ℕ) (i : ℕ) (r : NodeRecord) → s .version ≡ version → s .nodes ≡ ws → r ≡ recordOf version ws i
+    → IsNode s i r
+read-node s version ws i r e q h = is-node s i r (h ∙ node-record s version ws i e q)

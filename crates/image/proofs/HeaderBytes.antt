@@ -11,13 +11,14 @@ use Rattle.words.specs.Words.{bytes4, bytesOf}
 use Rattle.words.proofs.Words.{length-bytes}
 use Rattle.texts.specs.Text.{ascii}
 use Rattle.checksum.specs.Crc.{checksumOf}
-use Rattle.image.specs.Header.{magic, headerLength, version}
-use Rattle.image.specs.Sections.{Sections, nodeCount}
+use Rattle.image.specs.Header.{magic, headerLength}
+use Rattle.image.specs.Sections.{Sections, nodeSize, nodeCount, childSize, textEntrySize, definitionSize}
 use Rattle.image.specs.Encoding.{countOf, sectionOut, startOf, bodyOf, headerWith, imageOf}
 use Rattle.words.specs.Output.{over, putAt}
 use Rattle.words.proofs.FilledOutput.{more, front-is, filled-front}
 use Rattle.image.specs.declared.encoding.EntryCounts.{EntryCounts}
 use Rattle.image.specs.Counted.{CountsOf}
+use Rattle.image.proofs.Widths.{size-words, count-of}
 
 -- ---- a list that is copied over the start of another
 
@@ -58,25 +59,25 @@ module _ (m out₀ out : List ℕ) (i : ℕ) (c : Copying m out₀ out i) where
 
 -- ---- the header
 
--- where each section starts by the counts, as the code adds them up
-module _ (c : EntryCounts) where
+-- where each section starts by the length of the nodes and the counts, as the code adds them up
+module _ (long : ℕ) (c : EntryCounts) where
   abbrev start1 : ℕ
-  start1 = 88 + c .nodes * 40
+  start1 = headerLength + long
 
   abbrev start2 : ℕ
-  start2 = start1 + c .children * 4
+  start2 = start1 + c .children * childSize
 
   abbrev start3 : ℕ
-  start3 = start2 + c .named * 12
+  start3 = start2 + c .named * textEntrySize
 
   abbrev start4 : ℕ
-  start4 = start3 + c .definitions * 16
+  start4 = start3 + c .definitions * definitionSize
 
   abbrev start5 : ℕ
-  start5 = start4 + c .items * 12
+  start5 = start4 + c .items * textEntrySize
 
   abbrev start6 : ℕ
-  start6 = start5 + c .index * 12
+  start6 = start5 + c .index * textEntrySize
 
   abbrev start7 : ℕ
   start7 = start6 + c .payload * 1
@@ -85,23 +86,27 @@ module _ (c : EntryCounts) where
   start8 = start7 + c .strings * 1
 
   -- the words behind the magic
-  abbrev pub headerWords : ℕ → List ℕ
-  headerWords ink =
+  abbrev pub headerWords : ℕ → ℕ → List ℕ
+  headerWords version ink =
       version ∷ ink ∷ start8 ∷ 88 ∷ c .nodes ∷ start1 ∷ c .children ∷ start2 ∷ c .named ∷ start3 ∷ c .definitions ∷ start4 ∷ c .items ∷ start5 ∷ c .index
       ∷ start6 ∷ c .payload ∷ start7 ∷ c .strings ∷ 0 ∷ []
 
-module _ (s : Sections) (c : EntryCounts) (k : CountsOf s c) where
+module _ (version long : ℕ) (s : Sections) (c : EntryCounts) (e : long ≡ c .nodes * nodeSize version) (k : CountsOf version s c) where
   nodes-count : c .nodes ≡ nodeCount s
-  nodes-count = rw (k .stride) (omega (arith, k .nodes))
+  nodes-count = rw (k .versioned) (sym (count-of (s .nodes) (c .nodes) version (k .nodes)))
 
-  starts : (88 ≡ startOf s 0) × (start1 c ≡ startOf s 1) × (start2 c ≡ startOf s 2) × (start3 c ≡ startOf s 3) × (start4 c ≡ startOf s 4)
-      × (start5 c ≡ startOf s 5) × (start6 c ≡ startOf s 6) × (start7 c ≡ startOf s 7) × (start8 c ≡ startOf s 8)
+  nodes-long : long ≡ 4 * length (s .nodes)
+  nodes-long = e ∙ size-words (c .nodes) version ∙ ap (λ (x : ℕ). 4 * x) (sym (k .nodes))
+
+  starts : (headerLength ≡ startOf s 0) × (start1 long c ≡ startOf s 1) × (start2 long c ≡ startOf s 2) × (start3 long c ≡ startOf s 3) × (start4 long c ≡ startOf s 4)
+      × (start5 long c ≡ startOf s 5) × (start6 long c ≡ startOf s 6) × (start7 long c ≡ startOf s 7) × (start8 long c ≡ startOf s 8)
   unfolding startOf sumOf sectionOut
   starts =
+      let n = nodes-long in
       let a = length-bytes (s .nodes) in
       let b = length-bytes (s .children) in
       let d = length-bytes (s .named) in
-      let e = length-bytes (s .definitions) in
+      let e′ = length-bytes (s .definitions) in
       let f = length-bytes (s .items) in
       let g = length-bytes (s .index) in
       (omega arith, omega arith, omega arith, omega arith, omega arith, omega arith, omega arith, omega arith, omega arith)
@@ -111,21 +116,21 @@ module _ (s : Sections) (c : EntryCounts) (k : CountsOf s c) where
   unfolding countOf
   counts = (nodes-count, omega arith, omega arith, omega arith, omega arith, omega arith, omega arith, omega arith)
 
-  header-words : (ink : ℕ) → headerWords c ink ≡ version ∷ ink ∷ startOf s 8 ∷ joinOf 8 (λ j. startOf s j ∷ countOf s j ∷ []) ++ (0 ∷ [])
+  header-words : (ink : ℕ) → headerWords long c version ink ≡ s .version ∷ ink ∷ startOf s 8 ∷ joinOf 8 (λ j. startOf s j ∷ countOf s j ∷ []) ++ (0 ∷ [])
   unfolding joinOf
   header-words ink =
       let x = starts in
       let n = counts in
-      λ t. version ∷ ink ∷ x .8 t ∷ x .0 t ∷ n .0 t ∷ x .1 t ∷ n .1 t ∷ x .2 t ∷ n .2 t ∷ x .3 t ∷ n .3 t ∷ x .4 t ∷ n .4 t ∷ x .5 t ∷ n .5 t ∷ x .6 t ∷ n .6 t
+      λ t. sym (k .versioned) t ∷ ink ∷ x .8 t ∷ x .0 t ∷ n .0 t ∷ x .1 t ∷ n .1 t ∷ x .2 t ∷ n .2 t ∷ x .3 t ∷ n .3 t ∷ x .4 t ∷ n .4 t ∷ x .5 t ∷ n .5 t ∷ x .6 t ∷ n .6 t
       ∷ x .7 t ∷ n .7 t ∷ 0 ∷ []
 
   -- magic, then words
-  pub header-put : (ink : ℕ) (out₀ out₁ out₂ : List ℕ) → headerLength ≤ length out₀ → out₁ ≡ over magic out₀ → out₂ ≡ putAt out₁ 8 (headerWords c ink)
+  pub header-put : (ink : ℕ) (out₀ out₁ out₂ : List ℕ) → headerLength ≤ length out₀ → out₁ ≡ over magic out₀ → out₂ ≡ putAt out₁ 8 (headerWords long c version ink)
       → out₂ ≡ over (headerWith ink s 0) out₀
   unfolding headerWith magic ascii bytesOf
   header-put ink out₀ out₁ out₂ h p q =
-      front-is (magic ++ bytesOf (headerWords c ink)) out₀ out₂
-      (more 0 magic out₀ out₁ (filled-front magic out₀ out₁ (omega arith) p) (bytesOf (headerWords c ink)) 8 88 out₂ refl refl h q)
+      front-is (magic ++ bytesOf (headerWords long c version ink)) out₀ out₂
+      (more 0 magic out₀ out₁ (filled-front magic out₀ out₁ (omega arith) p) (bytesOf (headerWords long c version ink)) 8 88 out₂ refl refl h q)
       ∙ ap (λ (ws : List ℕ). over (magic ++ bytesOf ws) out₀) (header-words ink)
 
 -- ---- the checksum

@@ -8,47 +8,48 @@ use lib.ListN.{length}
 use Rattle.words.specs.Words.{wordsOf}
 use Rattle.image.specs.declared.Section.{Section}
 use Rattle.image.specs.declared.ImageView.{ImageView}
-use Rattle.image.specs.Sections.{nodeCount, childCount, namedCount, definitionCount, itemCount, indexCount}
-use Rattle.image.specs.Header.{nodeWords, sectionBytes, sectionsIn, sectionsBy}
+use Rattle.image.specs.Sections.{nodeWords, nodeCount, childCount, namedCount, definitionCount, itemCount, indexCount}
+use Rattle.image.specs.Header.{sectionBytes, sectionsBy}
 use Rattle.image.proofs.Parts.{section-length, entry-count}
+use Rattle.image.proofs.Widths.{words-some}
 
 -- ---- the fields of a view's sections
 
 module _ (bs : List ℕ) (v : ImageView) where
-  pub stride-by : sectionsBy bs v .stride ≡ nodeWords
-  unfolding sectionsIn
-  stride-by = refl
+  pub version-by : sectionsBy bs v .version ≡ v .version
+  unfolding sectionsBy
+  version-by = refl
 
-  pub nodes-by : sectionsBy bs v .nodes ≡ wordsOf (sectionBytes bs (v .nodes) 40)
-  unfolding sectionsIn
+  pub nodes-by : sectionsBy bs v .nodes ≡ wordsOf (sectionBytes bs (v .nodes) (4 * nodeWords (v .version)))
+  unfolding sectionsBy
   nodes-by = refl
 
   pub children-by : sectionsBy bs v .children ≡ wordsOf (sectionBytes bs (v .children) 4)
-  unfolding sectionsIn
+  unfolding sectionsBy
   children-by = refl
 
   pub named-by : sectionsBy bs v .named ≡ wordsOf (sectionBytes bs (v .named) 12)
-  unfolding sectionsIn
+  unfolding sectionsBy
   named-by = refl
 
   pub definitions-by : sectionsBy bs v .definitions ≡ wordsOf (sectionBytes bs (v .definitions) 16)
-  unfolding sectionsIn
+  unfolding sectionsBy
   definitions-by = refl
 
   pub items-by : sectionsBy bs v .items ≡ wordsOf (sectionBytes bs (v .items) 12)
-  unfolding sectionsIn
+  unfolding sectionsBy
   items-by = refl
 
   pub index-by : sectionsBy bs v .index ≡ wordsOf (sectionBytes bs (v .index) 12)
-  unfolding sectionsIn
+  unfolding sectionsBy
   index-by = refl
 
   pub payload-by : sectionsBy bs v .payload ≡ sectionBytes bs (v .payload) 1
-  unfolding sectionsIn
+  unfolding sectionsBy
   payload-by = refl
 
   pub strings-by : sectionsBy bs v .strings ≡ sectionBytes bs (v .strings) 1
-  unfolding sectionsIn
+  unfolding sectionsBy
   strings-by = refl
 
 -- ---- counts
@@ -59,7 +60,7 @@ Within bs s size = s .offset + s .count * size ≤ length bs
 
 -- every section of a view does
 pub record Inside (bs : List ℕ) (v : ImageView) : Type 0 where
-  pub nodes : Within bs (v .nodes) 40
+  pub nodes : Within bs (v .nodes) (4 * nodeWords (v .version))
   pub children : Within bs (v .children) 4
   pub named : Within bs (v .named) 12
   pub definitions : Within bs (v .definitions) 16
@@ -84,10 +85,10 @@ section-count : (bs : List ℕ) (s : Section) (n : ℕ) → 1 ≤ n → Within b
 section-count bs s n h w = entry-count (sectionBytes bs s (4 * n)) n (s .count) h (section-length bs s (4 * n) w)
 
 pub counts : (bs : List ℕ) (v : ImageView) → Inside bs v → SectionCounts bs v
-unfolding sectionsIn
+unfolding sectionsBy
 counts bs v i =
     record {
-      nodes = section-count bs (v .nodes) 10 (omega arith) (i .nodes);
+      nodes = section-count bs (v .nodes) (nodeWords (v .version)) (omega (arith, words-some (v .version))) (i .nodes);
       children = sym (div-one _) ∙ section-count bs (v .children) 1 (omega arith) (i .children);
       named = section-count bs (v .named) 3 (omega arith) (i .named);
       definitions = section-count bs (v .definitions) 4 (omega arith) (i .definitions);

@@ -6,7 +6,7 @@ use Rattle.laws.specs.Counted.{sumOf, joinOf, counted}
 use Rattle.words.specs.Words.{bytesOf, words}
 use Rattle.checksum.specs.Crc.{checksumOf, crcs}
 use Rattle.image.specs.Sections.{Sections, nodeCount, childCount, namedCount, definitionCount, itemCount, indexCount}
-use Rattle.image.specs.Header.{magic, headerLength, version, headers}
+use Rattle.image.specs.Header.{magic, headerLength, headers}
 
 -- the entries of section k
 unfoldable pub countOf : Sections → ℕ → ℕ
@@ -32,7 +32,7 @@ bodyOf s = joinOf 8 (sectionOut s)
 
 -- magic; version, ink version, total length; eight pairs offset, count; checksum
 unfoldable pub headerWith : ℕ → Sections → ℕ → List ℕ
-headerWith ink s sum = magic ++ bytesOf (version ∷ ink ∷ startOf s 8 ∷ joinOf 8 (λ k. startOf s k ∷ countOf s k ∷ []) ++ (sum ∷ []))
+headerWith ink s sum = magic ++ bytesOf (s .version ∷ ink ∷ startOf s 8 ∷ joinOf 8 (λ k. startOf s k ∷ countOf s k ∷ []) ++ (sum ∷ []))
 
 -- header and sections, with the checksum of all bytes but its own
 unfoldable pub imageOf : ℕ → Sections → List ℕ

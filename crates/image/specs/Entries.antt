@@ -5,35 +5,49 @@ use lib.ListN.{getD}
 use Rattle.image.specs.declared.NodeRecord.{NodeRecord}
 use Rattle.image.specs.declared.TextEntry.{TextEntry}
 use Rattle.image.specs.declared.Definition.{Definition}
-use Rattle.image.specs.Sections.{Sections, parentOf, placeOf, tagOf, f, namedWord, definitionWord, itemWord, indexWord}
-use Rattle.image.specs.Header.{nodeWords}
+use Rattle.image.specs.Sections.{Sections, nodeWords, textEntryWords, definitionWords, parentOf, placeOf, tagOf, f, namedWord, definitionWord, itemWord, indexWord, partAt}
 
--- node i
-unfoldable pub recordOf : List ℕ → ℕ → NodeRecord
-recordOf ws i =
+-- node i, by the format version
+unfoldable pub recordOf : ℕ → List ℕ → ℕ → NodeRecord
+recordOf version ws i =
     record {
-      parent = getD ws (i * nodeWords) 0;
-      place = getD ws (i * nodeWords + 1) 0;
-      tag = getD ws (i * nodeWords + 2) 0;
-      f0 = getD ws (i * nodeWords + 3) 0;
-      f1 = getD ws (i * nodeWords + 4) 0;
-      f2 = getD ws (i * nodeWords + 5) 0;
-      f3 = getD ws (i * nodeWords + 6) 0;
-      f4 = getD ws (i * nodeWords + 7) 0;
-      f5 = getD ws (i * nodeWords + 8) 0;
-      f6 = getD ws (i * nodeWords + 9) 0;
+      parent = getD ws (i * nodeWords version) 0;
+      place = getD ws (i * nodeWords version + 1) 0;
+      tag = getD ws (i * nodeWords version + 2) 0;
+      f0 = getD ws (i * nodeWords version + 3) 0;
+      f1 = getD ws (i * nodeWords version + 4) 0;
+      f2 = getD ws (i * nodeWords version + 5) 0;
+      f3 = getD ws (i * nodeWords version + 6) 0;
+      f4 = getD ws (i * nodeWords version + 7) 0;
+      f5 = getD ws (i * nodeWords version + 8) 0;
+      f6 = getD ws (i * nodeWords version + 9) 0;
     }
 
 -- named entry, item or index entry j
 unfoldable pub textEntryOf : List ℕ → ℕ → TextEntry
-textEntryOf ws j = record { offset = getD ws (j * 3) 0; len = getD ws (j * 3 + 1) 0; value = getD ws (j * 3 + 2) 0 }
+textEntryOf ws j = record { offset = getD ws (j * textEntryWords) 0; len = getD ws (j * textEntryWords + 1) 0; value = getD ws (j * textEntryWords + 2) 0 }
 
 -- definition j
 unfoldable pub definitionOf : List ℕ → ℕ → Definition
 definitionOf ws j =
-    record { offset = getD ws (j * 4) 0; len = getD ws (j * 4 + 1) 0; first = getD ws (j * 4 + 2) 0; count = getD ws (j * 4 + 3) 0 }
+    record {
+      offset = getD ws (j * definitionWords) 0;
+      len = getD ws (j * definitionWords + 1) 0;
+      first = getD ws (j * definitionWords + 2) 0;
+      count = getD ws (j * definitionWords + 3) 0;
+    }
 
--- ---- the same of the sections of an image or a draft
+-- ---- texts of entries
+
+-- the text of the j-th entry of three words, from the first one of a run on
+unfoldable pub entryTextFrom : List ℕ → List ℕ → ℕ → ℕ → List ℕ
+entryTextFrom ws strings first j = partAt strings (textEntryOf ws (first + j) .offset) (textEntryOf ws (first + j) .len)
+
+-- the text of definition d
+unfoldable pub definitionTextIn : List ℕ → List ℕ → ℕ → List ℕ
+definitionTextIn ws strings d = partAt strings (definitionOf ws d .offset) (definitionOf ws d .len)
+
+-- ---- entries of the sections of an image or a draft
 
 -- node i
 abbrev pub nodeIn : Sections → ℕ → NodeRecord
@@ -67,5 +81,5 @@ definitionIn s j = record { offset = definitionWord s j 0; len = definitionWord 
 
 -- names on an `unfolding` line what a computation with this module needs
 unfoldable pub entries : Unit {0}
-unfolding recordOf textEntryOf definitionOf
+unfolding recordOf textEntryOf definitionOf entryTextFrom definitionTextIn
 entries = tt

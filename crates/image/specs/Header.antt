@@ -12,7 +12,7 @@ use Rattle.image.specs.declared.Section.{Section}
 use Rattle.image.specs.declared.ImageView.{ImageView}
 use Rattle.image.specs.declared.Opened.{Opened}
 use Rattle.image.specs.declared.Opened.the-variants.{View, Refused}
-use Rattle.image.specs.Sections.{Sections, partAt, sections}
+use Rattle.image.specs.Sections.{Sections, nodeSize, childSize, textEntrySize, definitionSize, partAt, sections}
 
 unfoldable pub magic : List ℕ
 magic = ascii "BLINKIMG"
@@ -23,9 +23,8 @@ headerLength = 88
 abbrev pub version : ℕ
 version = 2
 
--- words a node of this version
-abbrev pub nodeWords : ℕ
-nodeWords = 10
+abbrev pub versionRight : ℕ → Bool
+versionRight v = eqb v version
 
 -- ---- the view
 
@@ -36,6 +35,7 @@ sectionAt bs k = record { offset = wordAt bs (20 + 8 * k); count = wordAt bs (24
 unfoldable pub viewOf : List ℕ → ImageView
 viewOf bs =
     record {
+      version = wordAt bs 8;
       «ink_version» = wordAt bs 12;
       nodes = sectionAt bs 0;
       children = sectionAt bs 1;
@@ -53,23 +53,20 @@ viewOf bs =
 unfoldable pub sectionBytes : List ℕ → Section → ℕ → List ℕ
 sectionBytes bs s size = cond (leb (s .offset + s .count * size) (length bs)) (partAt bs (s .offset) (s .count * size)) []
 
-unfoldable pub sectionsIn : ℕ → List ℕ → ImageView → Sections
-sectionsIn stride bs v =
+-- the sections that a query on bytes and a view sees
+unfoldable pub sectionsBy : List ℕ → ImageView → Sections
+sectionsBy bs v =
     record {
-      stride = stride;
-      nodes = wordsOf (sectionBytes bs (v .nodes) (4 * stride));
-      children = wordsOf (sectionBytes bs (v .children) 4);
-      named = wordsOf (sectionBytes bs (v .named) 12);
-      definitions = wordsOf (sectionBytes bs (v .definitions) 16);
-      items = wordsOf (sectionBytes bs (v .items) 12);
-      index = wordsOf (sectionBytes bs (v .index) 12);
+      version = v .version;
+      nodes = wordsOf (sectionBytes bs (v .nodes) (nodeSize (v .version)));
+      children = wordsOf (sectionBytes bs (v .children) childSize);
+      named = wordsOf (sectionBytes bs (v .named) textEntrySize);
+      definitions = wordsOf (sectionBytes bs (v .definitions) definitionSize);
+      items = wordsOf (sectionBytes bs (v .items) textEntrySize);
+      index = wordsOf (sectionBytes bs (v .index) textEntrySize);
       payload = sectionBytes bs (v .payload) 1;
       strings = sectionBytes bs (v .strings) 1;
     }
-
--- the sections that a query on bytes and a view sees
-abbrev pub sectionsBy : List ℕ → ImageView → Sections
-sectionsBy bs v = sectionsIn nodeWords bs v
 
 -- the sections of an image by its own header
 abbrev pub sectionsOf : List ℕ → Sections
@@ -77,13 +74,13 @@ sectionsOf bs = sectionsBy bs (viewOf bs)
 
 -- ---- rows 1 to 5
 
--- bytes an entry, by section
-unfoldable pub sizes : List ℕ
-sizes = 4 * nodeWords ∷ 4 ∷ 12 ∷ 16 ∷ 12 ∷ 12 ∷ 1 ∷ 1 ∷ []
+-- bytes an entry, by version and section
+unfoldable pub sizes : ℕ → List ℕ
+sizes v = nodeSize v ∷ childSize ∷ textEntrySize ∷ definitionSize ∷ textEntrySize ∷ textEntrySize ∷ 1 ∷ 1 ∷ []
 
 -- where section k begins by the counts before it
 unfoldable pub startBy : List ℕ → ℕ → ℕ
-startBy bs k = headerLength + sumOf k (λ j. sectionAt bs j .count * getD sizes j 0)
+startBy bs k = headerLength + sumOf k (λ j. sectionAt bs j .count * getD (sizes (wordAt bs 8)) j 0)
 
 -- section k begins where the one before it ends, and ends in the slice
 unfoldable pub sectionRight : List ℕ → ℕ → Bool
@@ -104,7 +101,7 @@ headed bs = leb headerLength (length bs) && same (take 8 bs) magic
 unfoldable pub headerRule : List ℕ → ℕ
 headerRule bs =
     unless (headed bs) 1
-    ▸ unless (eqb (wordAt bs 8) version) 2
+    ▸ unless (versionRight (wordAt bs 8)) 2
     ▸ unless (inkRight (wordAt bs 12)) 3
     ▸ unless (eqb (wordAt bs 16) (length bs)) 4
     ▸ unless (laidOut bs) 5
@@ -121,5 +118,5 @@ openedOf bs = openedBy (headerRule bs) (viewOf bs)
 
 -- names on an `unfolding` line what a computation with this module needs
 unfoldable pub headers : Unit {0}
-unfolding magic viewOf sectionBytes sectionsIn sizes startBy sectionRight laidOut headerRule openedBy openedOf sections refusals counted words texts
+unfolding magic viewOf sectionBytes sectionsBy sizes startBy sectionRight laidOut headerRule openedBy openedOf sections refusals counted words texts
 headers = tt

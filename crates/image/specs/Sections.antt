@@ -7,9 +7,35 @@ use lib.Dec.{leb, ltb, eqb}
 use Rattle.words.specs.Words.{isNone}
 use Rattle.utf8.specs.Utf8.{utf8, utf8s}
 
+-- ---- the width of an entry
+
+-- words a node, by format version: parent, place, tag, f0 to f6
+unfoldable pub nodeWords : ℕ → ℕ
+nodeWords version = 10
+
+-- words a named entry, an item, an index entry
+abbrev pub textEntryWords : ℕ
+textEntryWords = 3
+
+abbrev pub definitionWords : ℕ
+definitionWords = 4
+
+-- the same in bytes
+abbrev pub nodeSize : ℕ → ℕ
+nodeSize version = 4 * nodeWords version
+
+abbrev pub childSize : ℕ
+childSize = 4
+
+abbrev pub textEntrySize : ℕ
+textEntrySize = 12
+
+abbrev pub definitionSize : ℕ
+definitionSize = 16
+
 pub record Sections : Type 0 where
-  -- words a node: parent, place, tag, f0 to f6
-  pub stride : ℕ
+  -- the format version
+  pub version : ℕ
   pub nodes : List ℕ
   pub children : List ℕ
   -- text, node
@@ -26,27 +52,27 @@ pub record Sections : Type 0 where
 -- ---- counts
 
 abbrev pub nodeCount : Sections → ℕ
-nodeCount s = length (s .nodes) / s .stride
+nodeCount s = length (s .nodes) / nodeWords (s .version)
 
 abbrev pub childCount : Sections → ℕ
 childCount s = length (s .children)
 
 abbrev pub namedCount : Sections → ℕ
-namedCount s = length (s .named) / 3
+namedCount s = length (s .named) / textEntryWords
 
 abbrev pub definitionCount : Sections → ℕ
-definitionCount s = length (s .definitions) / 4
+definitionCount s = length (s .definitions) / definitionWords
 
 abbrev pub itemCount : Sections → ℕ
-itemCount s = length (s .items) / 3
+itemCount s = length (s .items) / textEntryWords
 
 abbrev pub indexCount : Sections → ℕ
-indexCount s = length (s .index) / 3
+indexCount s = length (s .index) / textEntryWords
 
 -- ---- words of entries
 
 unfoldable pub nodeWord : Sections → ℕ → ℕ → ℕ
-nodeWord s i k = getD (s .nodes) (i * s .stride + k) 0
+nodeWord s i k = getD (s .nodes) (i * nodeWords (s .version) + k) 0
 
 abbrev pub parentOf : Sections → ℕ → ℕ
 parentOf s i = nodeWord s i 0
@@ -66,16 +92,16 @@ unfoldable pub childWord : Sections → ℕ → ℕ
 childWord s j = getD (s .children) j 0
 
 unfoldable pub namedWord : Sections → ℕ → ℕ → ℕ
-namedWord s j k = getD (s .named) (j * 3 + k) 0
+namedWord s j k = getD (s .named) (j * textEntryWords + k) 0
 
 unfoldable pub definitionWord : Sections → ℕ → ℕ → ℕ
-definitionWord s j k = getD (s .definitions) (j * 4 + k) 0
+definitionWord s j k = getD (s .definitions) (j * definitionWords + k) 0
 
 unfoldable pub itemWord : Sections → ℕ → ℕ → ℕ
-itemWord s j k = getD (s .items) (j * 3 + k) 0
+itemWord s j k = getD (s .items) (j * textEntryWords + k) 0
 
 unfoldable pub indexWord : Sections → ℕ → ℕ → ℕ
-indexWord s j k = getD (s .index) (j * 3 + k) 0
+indexWord s j k = getD (s .index) (j * textEntryWords + k) 0
 
 -- ---- texts: an offset and a length in the strings
 
@@ -94,9 +120,13 @@ present at len = not (isNone at || isNone len)
 abbrev pub absent : ℕ → ℕ → Bool
 absent at len = isNone at && isNone len
 
--- a good text of the strings: present, inside and UTF-8
+-- the bytes that a good text may have: UTF-8
+unfoldable pub goodBytes : List ℕ → Bool
+goodBytes bs = utf8 bs
+
+-- a good text of the strings: present, inside and of good bytes
 unfoldable pub goodIn : List ℕ → ℕ → ℕ → Bool
-goodIn strings at len = present at len && leb (at + len) (length strings) && utf8 (partAt strings at len)
+goodIn strings at len = present at len && leb (at + len) (length strings) && goodBytes (partAt strings at len)
 
 -- optional text is absent only if both words are NONE
 abbrev pub optionalIn : List ℕ → ℕ → ℕ → Bool
@@ -114,17 +144,23 @@ textOrEmpty strings at len = cond (leb (at + len) (length strings)) (partAt stri
 
 -- ---- nodes
 
--- NONE is no node, whatever the count
+-- among so many nodes; NONE is no node, whatever the count
+abbrev pub insideAmong : ℕ → ℕ → Bool
+insideAmong count n = ltb n count && not (isNone n)
+
 abbrev pub inside : Sections → ℕ → Bool
-inside s n = ltb n (nodeCount s) && not (isNone n)
+inside s n = insideAmong (nodeCount s) n
+
+abbrev pub containerTag : ℕ
+containerTag = 1
 
 abbrev pub isContainer : Sections → ℕ → Bool
-isContainer s n = eqb (tagOf s n) 1
+isContainer s n = eqb (tagOf s n) containerTag
 
 abbrev pub insideContainer : Sections → ℕ → Bool
 insideContainer s n = inside s n && isContainer s n
 
 -- names on an `unfolding` line what a computation with this module needs
 unfoldable pub sections : Unit {0}
-unfolding nodeWord childWord namedWord definitionWord itemWord indexWord partAt goodIn textOrEmpty utf8s
+unfolding nodeWords nodeWord childWord namedWord definitionWord itemWord indexWord partAt goodBytes goodIn textOrEmpty utf8s
 sections = tt

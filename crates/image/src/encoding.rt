@@ -1,15 +1,16 @@
 // The header of an image that is written, and its checksum.
 ghost use mathlib.Core.Path.{_≡_};
 ghost use mathlib.Core.List.{_++_};
-ghost use Prim.Native.Nat.{ℕ, _≤_};
+ghost use Prim.Native.Nat.{ℕ, _*_, _≤_};
 ghost use lib.ListN.{length};
 ghost use Rattle.words.specs.Words.{NONE};
 ghost use Rattle.image.specs.Header.{magic, headerLength};
-ghost use Rattle.image.specs.Sections.{Sections};
+ghost use Rattle.image.specs.Sections.{Sections, nodeSize};
 ghost use Rattle.image.specs.Encoding.{headerWith, bodyOf, imageOf};
 ghost use Rattle.words.specs.Output.{over};
 ghost use Rattle.image.specs.Counted.{endOf, CountsOf};
 use crate::ImageView;
+use crate::node_size;
 use words::output::put_words;
 use words::put_word;
 
@@ -41,12 +42,20 @@ fn put_magic(out: &mut [u8])
     }
 }
 
-// Writes the header of an image whose checksum is not known yet: it is 0. The ink version and the counts say the rest.
-pub fn put_header(ink: u32, counts: EntryCounts, out: &mut [u8])
-    requires { ⌜ (headerLength ≤ length (now out)) × (endOf counts ≤ NONE) ⌝ }
-    ensures { λ r. ⌜ ((s : Sections) → CountsOf s counts → now (out .exit) ≡ over (headerWith ink s 0) (now (out .entry))) ⌝ }
+// Bytes of `count` nodes.
+fn nodes_length(version: u32, count: u32) -> u32
+    requires { ⌜ count * nodeSize version ≤ NONE ⌝ }
+    ensures { λ r. ⌜ r ≡ count * nodeSize version ⌝ }
 {
-    let children = ImageView::HEADER_LENGTH as u32 + counts.nodes * ImageView::NODE_SIZE;
+    count * node_size(version)
+}
+
+// Writes the header of an image whose checksum is not known yet: it is 0. The versions and the counts say the rest.
+pub fn put_header(version: u32, ink: u32, counts: EntryCounts, out: &mut [u8])
+    requires { ⌜ (headerLength ≤ length (now out)) × (endOf version counts ≤ NONE) ⌝ }
+    ensures { λ r. ⌜ ((s : Sections) → CountsOf version s counts → now (out .exit) ≡ over (headerWith ink s 0) (now (out .entry))) ⌝ }
+{
+    let children = ImageView::HEADER_LENGTH as u32 + nodes_length(version, counts.nodes);
     let named = children + counts.children * ImageView::CHILD_SIZE;
     let definitions = named + counts.named * ImageView::NAMED_SIZE;
     let items = definitions + counts.definitions * ImageView::DEFINITION_SIZE;
@@ -55,7 +64,7 @@ pub fn put_header(ink: u32, counts: EntryCounts, out: &mut [u8])
     let strings = payload + counts.payload * ImageView::PAYLOAD_SIZE;
     let end = strings + counts.strings * ImageView::STRINGS_SIZE;
     let words = [
-        ImageView::VERSION,
+        version,
         ink,
         end,
         ImageView::HEADER_LENGTH as u32,

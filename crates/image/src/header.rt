@@ -2,7 +2,7 @@
 ghost use mathlib.Core.Path.{_≡_};
 ghost use Prim.Native.Nat.{_≤_, _<_};
 ghost use lib.ListN.{length};
-ghost use Rattle.image.specs.Header.{headerLength, sectionAt, viewOf, inkRight, laidOut, headerRule};
+ghost use Rattle.image.specs.Header.{headerLength, sectionAt, viewOf, versionRight, inkRight, laidOut, headerRule};
 use crate::ImageView;
 use crate::Section;
 use crate::refusal;
@@ -24,6 +24,7 @@ pub fn view_at(bytes: &[u8]) -> ImageView
     ensures { λ r. ⌜ r ≡ viewOf (now (bytes .entry)) ⌝ }
 {
     ImageView {
+        version: words::word(bytes, 8),
         ink_version: words::word(bytes, 12),
         nodes: section_at(bytes, 0),
         children: section_at(bytes, 1),
@@ -34,6 +35,13 @@ pub fn view_at(bytes: &[u8]) -> ImageView
         payload: section_at(bytes, 6),
         strings: section_at(bytes, 7),
     }
+}
+
+// Whether a format version is one that is known.
+fn version_right(version: u32) -> bool
+    ensures { λ r. ⌜ r ≡ versionRight version ⌝ }
+{
+    version == ImageView::VERSION
 }
 
 fn ink_right(version: u32) -> bool
@@ -50,7 +58,7 @@ fn laid_out(bytes: &[u8]) -> bool
     requires { ⌜ headerLength ≤ length (now bytes) ⌝ }
     ensures { λ r. ⌜ r ≡ laidOut (now (bytes .entry)) ⌝ }
 {
-    let sizes = ImageView::SECTION_SIZES;
+    let sizes = crate::section_sizes(words::word(bytes, 8));
     let mut end = ImageView::HEADER_LENGTH;
     let mut k = 0;
     while k < 8 {
@@ -83,7 +91,7 @@ pub fn refusal_of(bytes: &[u8]) -> u32
     if !texts::equal(&bytes[..8], &magic) {
         return refusal::BAD_HEADER;
     }
-    if words::word(bytes, 8) != ImageView::VERSION {
+    if !version_right(words::word(bytes, 8)) {
         return refusal::BAD_VERSION;
     }
     if !ink_right(words::word(bytes, 12)) {

@@ -1,15 +1,17 @@
 // A story image: its header, the sections that the header bounds, and how records are read out of them.
 ghost use mathlib.Core.Path.{_≡_};
-ghost use Prim.Native.Nat.{_+_, _*_, _≤_};
+ghost use Prim.Native.Nat.{_+_, _*_, _/_, _≤_, _<_};
 ghost use lib.ListN.{length, getD};
 ghost use Rattle.words.specs.Words.{wordsOf};
-ghost use Rattle.image.specs.Sections.{goodIn, optionalIn, textOrEmpty};
-ghost use Rattle.image.specs.Header.{sectionBytes, openedOf};
+ghost use Rattle.image.specs.Sections.{nodeWords, textEntrySize, definitionSize, goodIn, goodBytes, insideAmong, optionalIn, partAt, textOrEmpty};
+ghost use Rattle.image.specs.Header.{sectionBytes, sizes, openedOf};
 ghost use Rattle.image.specs.Entries.{recordOf, textEntryOf, definitionOf};
 
 pub mod encoding;
 mod header;
+pub mod order;
 pub mod refusal;
+pub mod tag;
 
 // Where a section begins, in bytes, and how many entries it has.
 pub struct Section {
@@ -17,8 +19,9 @@ pub struct Section {
     pub count: u32,
 }
 
-// What the header of an image says: the ink version and the eight sections.
+// What the header of an image says: the format version, the ink version and the eight sections.
 pub struct ImageView {
+    pub version: u32,
     pub ink_version: u32,
     pub nodes: Section,
     pub children: Section,
@@ -44,35 +47,38 @@ impl ImageView {
     // In bytes.
     pub const HEADER_LENGTH: usize = 88;
 
-    pub const NODE_WORDS: usize = 10;
+    // Words an entry: a node; a named entry, an item or an index entry; a definition.
+    const NODE_WORDS: usize = 10;
 
-    // Bytes an entry, by section.
-    pub const NODE_SIZE: u32 = 40;
+    pub const TEXT_ENTRY_WORDS: usize = 3;
 
-    pub const CHILD_SIZE: u32 = 4;
+    pub const DEFINITION_WORDS: usize = 4;
 
-    pub const NAMED_SIZE: u32 = 12;
+    // Bytes of a word, and of such entries.
+    pub const WORD_BYTES: usize = 4;
 
-    pub const DEFINITION_SIZE: u32 = 16;
+    const NODE_BYTES: usize = ImageView::WORD_BYTES * ImageView::NODE_WORDS;
 
-    pub const ITEM_SIZE: u32 = 12;
+    pub const TEXT_ENTRY_BYTES: usize = ImageView::WORD_BYTES * ImageView::TEXT_ENTRY_WORDS;
 
-    pub const INDEX_SIZE: u32 = 12;
+    pub const DEFINITION_BYTES: usize = ImageView::WORD_BYTES * ImageView::DEFINITION_WORDS;
+
+    // Bytes an entry, by section. A node's goes by the version: `node_size`.
+    const NODE_SIZE: u32 = ImageView::NODE_BYTES as u32;
+
+    pub const CHILD_SIZE: u32 = ImageView::WORD_BYTES as u32;
+
+    pub const NAMED_SIZE: u32 = ImageView::TEXT_ENTRY_BYTES as u32;
+
+    pub const DEFINITION_SIZE: u32 = ImageView::DEFINITION_BYTES as u32;
+
+    pub const ITEM_SIZE: u32 = ImageView::TEXT_ENTRY_BYTES as u32;
+
+    pub const INDEX_SIZE: u32 = ImageView::TEXT_ENTRY_BYTES as u32;
 
     pub const PAYLOAD_SIZE: u32 = 1;
 
     pub const STRINGS_SIZE: u32 = 1;
-
-    pub const SECTION_SIZES: [u32; 8] = [
-        ImageView::NODE_SIZE,
-        ImageView::CHILD_SIZE,
-        ImageView::NAMED_SIZE,
-        ImageView::DEFINITION_SIZE,
-        ImageView::ITEM_SIZE,
-        ImageView::INDEX_SIZE,
-        ImageView::PAYLOAD_SIZE,
-        ImageView::STRINGS_SIZE,
-    ];
 
     // The view that the header gives, if the header breaks none of rows 1 to 5. The checksum is not asked.
     pub fn new(bytes: &[u8]) -> Opened
@@ -98,6 +104,29 @@ pub struct NodeRecord {
     pub f4: u32,
     pub f5: u32,
     pub f6: u32,
+}
+
+// Which word of a node is which.
+impl NodeRecord {
+    pub const PARENT: usize = 0;
+
+    pub const PLACE: usize = 1;
+
+    pub const TAG: usize = 2;
+
+    pub const F0: usize = 3;
+
+    pub const F1: usize = 4;
+
+    pub const F2: usize = 5;
+
+    pub const F3: usize = 6;
+
+    pub const F4: usize = 7;
+
+    pub const F5: usize = 8;
+
+    pub const F6: usize = 9;
 }
 
 // An entry of three words: a text, and the node of a named or index entry or the value of an item.
@@ -139,12 +168,66 @@ pub fn part_word(part: &[u8], k: usize) -> u32
     words::word(part, 4 * k)
 }
 
-// Node `i` of the nodes' bytes.
-pub fn node_record(part: &[u8], i: usize) -> NodeRecord
-    requires { ⌜ 40 * i + 40 ≤ length (now part) ⌝ }
-    ensures { λ r. ⌜ r ≡ recordOf (wordsOf (now (part .entry))) i ⌝ }
+// Bytes a node of a format version.
+pub fn node_size(version: u32) -> u32
+    ensures { λ r. ⌜ r ≡ 4 * nodeWords version ⌝ }
 {
-    let at = i * ImageView::NODE_WORDS;
+    ImageView::NODE_SIZE
+}
+
+// Bytes an entry, by section.
+pub fn section_sizes(version: u32) -> [u32; 8]
+    ensures { λ r. ⌜ r ≡ sizes version ⌝ }
+{
+    [
+        node_size(version),
+        ImageView::CHILD_SIZE,
+        ImageView::NAMED_SIZE,
+        ImageView::DEFINITION_SIZE,
+        ImageView::ITEM_SIZE,
+        ImageView::INDEX_SIZE,
+        ImageView::PAYLOAD_SIZE,
+        ImageView::STRINGS_SIZE,
+    ]
+}
+
+// How many nodes the nodes' bytes hold.
+pub fn node_count(part: &[u8], version: u32) -> usize
+    ensures { λ r. ⌜ r ≡ length (wordsOf (now (part .entry))) / nodeWords version ⌝ }
+{
+    part.len() / ImageView::NODE_BYTES
+}
+
+// The first word of node `i`.
+fn first_word(version: u32, i: usize) -> usize
+    requires { ⌜ i * nodeWords version ≤ 18446744073709551615 ⌝ }
+    ensures { λ r. ⌜ r ≡ i * nodeWords version ⌝ }
+{
+    i * ImageView::NODE_WORDS
+}
+
+// Word `k` of node `i` of the nodes' bytes, or 0 past their end.
+pub fn node_word_or_zero(part: &[u8], version: u32, i: u32, k: usize) -> u32
+    requires { ⌜ k < nodeWords version ⌝ }
+    ensures { λ r. ⌜ r ≡ getD (wordsOf (now (part .entry))) (i * nodeWords version + k) 0 ⌝ }
+{
+    words::get(part, 4 * (first_word(version, i as usize) + k))
+}
+
+// Word `k` of node `i` of the nodes' bytes.
+pub fn node_word(part: &[u8], version: u32, i: usize, k: usize) -> u32
+    requires { ⌜ (i < length (wordsOf (now part)) / nodeWords version) × (k < nodeWords version) ⌝ }
+    ensures { λ r. ⌜ r ≡ getD (wordsOf (now (part .entry))) (i * nodeWords version + k) 0 ⌝ }
+{
+    part_word(part, first_word(version, i) + k)
+}
+
+// Node `i` of the nodes' bytes.
+pub fn node_record(part: &[u8], version: u32, i: usize) -> NodeRecord
+    requires { ⌜ i < length (wordsOf (now part)) / nodeWords version ⌝ }
+    ensures { λ r. ⌜ r ≡ recordOf version (wordsOf (now (part .entry))) i ⌝ }
+{
+    let at = first_word(version, i);
     NodeRecord {
         parent: part_word(part, at),
         place: part_word(part, at + 1),
@@ -159,12 +242,23 @@ pub fn node_record(part: &[u8], i: usize) -> NodeRecord
     }
 }
 
+// Whether a number is one of so many nodes; NONE never is.
+pub fn is_inside(count: usize, n: u32) -> bool
+    ensures { λ r. ⌜ r ≡ insideAmong count n ⌝ }
+{
+    if n == NONE {
+        false
+    } else {
+        (n as usize) < count
+    }
+}
+
 // Entry `j` of the bytes of the named entries, the items or the index.
 pub fn text_entry(part: &[u8], j: usize) -> TextEntry
-    requires { ⌜ 12 * j + 12 ≤ length (now part) ⌝ }
+    requires { ⌜ textEntrySize * j + textEntrySize ≤ length (now part) ⌝ }
     ensures { λ r. ⌜ r ≡ textEntryOf (wordsOf (now (part .entry))) j ⌝ }
 {
-    let at = j * 3;
+    let at = j * ImageView::TEXT_ENTRY_WORDS;
     TextEntry {
         offset: part_word(part, at),
         len: part_word(part, at + 1),
@@ -174,10 +268,10 @@ pub fn text_entry(part: &[u8], j: usize) -> TextEntry
 
 // Definition `j` of the definitions' bytes.
 pub fn definition_at(part: &[u8], j: usize) -> Definition
-    requires { ⌜ 16 * j + 16 ≤ length (now part) ⌝ }
+    requires { ⌜ definitionSize * j + definitionSize ≤ length (now part) ⌝ }
     ensures { λ r. ⌜ r ≡ definitionOf (wordsOf (now (part .entry))) j ⌝ }
 {
-    let at = j * 4;
+    let at = j * ImageView::DEFINITION_WORDS;
     Definition {
         offset: part_word(part, at),
         len: part_word(part, at + 1),
@@ -199,7 +293,30 @@ pub fn text_part(strings: &[u8], offset: u32, len: u32) -> &[u8]
     }
 }
 
-// Whether a text is present, inside the strings and UTF-8.
+// The bytes of a text, as far as the strings go.
+pub fn text_bytes(strings: &[u8], offset: u32, len: u32) -> &[u8]
+    ensures { λ r. ⌜ now r ≡ partAt (now (strings .entry)) offset len ⌝ }
+{
+    let start = offset as usize;
+    let end = start + len as usize;
+    if end <= strings.len() {
+        return &strings[start..end];
+    }
+    if start <= strings.len() {
+        &strings[start..]
+    } else {
+        &strings[..0]
+    }
+}
+
+// Whether bytes may be those of a good text: whether they are UTF-8.
+pub fn good_bytes(bytes: &[u8]) -> bool
+    ensures { λ r. ⌜ r ≡ goodBytes (now (bytes .entry)) ⌝ }
+{
+    utf8::valid(bytes)
+}
+
+// Whether a text is present, inside the strings and of good bytes.
 pub fn good_text(strings: &[u8], offset: u32, len: u32) -> bool
     ensures { λ r. ⌜ r ≡ goodIn (now (strings .entry)) offset len ⌝ }
 {
@@ -212,7 +329,7 @@ pub fn good_text(strings: &[u8], offset: u32, len: u32) -> bool
     let start = offset as usize;
     let end = start + len as usize;
     if end <= strings.len() {
-        utf8::valid(&strings[start..end])
+        good_bytes(&strings[start..end])
     } else {
         false
     }

@@ -9,13 +9,12 @@ use Rattle.laws.proofs.First.{both, passed, first-all, first-of}
 use Rattle.words.specs.Words.{wordsOf}
 use Rattle.texts.specs.Text.{before, rising}
 use Rattle.texts.specs.Dots.{dot}
-use Rattle.image.specs.Sections.{Sections, nodeWord, parentOf, indexWord, indexCount, nodeCount, goodText, insideContainer}
-use Rattle.image.specs.Header.{nodeWords}
+use Rattle.image.specs.Sections.{Sections, textEntryWords, nodeWord, parentOf, indexWord, indexCount, nodeCount, goodText, insideContainer}
 use Rattle.index.specs.Paths.{nameless, piece, pathFrom, canonicalPath, topPlace, fits}
 use Rattle.index.specs.Index.{indexText, indexEntryRule, indexRule}
 use Rattle.index.specs.Parts.{indexParts, pathNodeOf}
 use Rattle.index.proofs.Paths.{fits-plain}
-use Rattle.index.proofs.RisingTexts.{rising-before, rising-once, rising-like}
+use Rattle.image.proofs.RisingTexts.{rising-before, rising-once, rising-like}
 use Rattle.index.proofs.RuleRuns.{first-like}
 
 -- ---- an entry that passes
@@ -72,13 +71,13 @@ module _ (s : Sections) (p : indexRule s ≡ 0) where
 
 -- ---- sections with the same nodes, index and strings
 
-module _ (s r : Sections) (stride : s .stride ≡ r .stride) (nodes : s .nodes ≡ r .nodes) where
+module _ (s r : Sections) (versioned : s .version ≡ r .version) (nodes : s .nodes ≡ r .nodes) where
   word-like : (i k : ℕ) → nodeWord s i k ≡ nodeWord r i k
   unfolding nodeWord
-  word-like i k = rw (stride, nodes)
+  word-like i k = rw (versioned, nodes)
 
   count-like : nodeCount s ≡ nodeCount r
-  count-like = rw (stride, nodes)
+  count-like = rw (versioned, nodes)
 
   pub container-like : (i : ℕ) → insideContainer s i ≡ insideContainer r i
   container-like i = rw (count-like, word-like i 2)
@@ -86,9 +85,9 @@ module _ (s r : Sections) (stride : s .stride ≡ r .stride) (nodes : s .nodes �
   pub path-node-like : (i : ℕ) → pathNodeOf s i ≡ pathNodeOf r i
   path-node-like i = rw (word-like i 0, word-like i 1, word-like i 3, word-like i 4)
 
-module _ (s r : Sections) (stride : s .stride ≡ r .stride) (nodes : s .nodes ≡ r .nodes) (strings : s .strings ≡ r .strings) where
+module _ (s r : Sections) (versioned : s .version ≡ r .version) (nodes : s .nodes ≡ r .nodes) (strings : s .strings ≡ r .strings) where
   at-word : (i k : ℕ) → nodeWord s i k ≡ nodeWord r i k
-  at-word = word-like s r stride nodes
+  at-word = word-like s r versioned nodes
 
   nameless-like : (i : ℕ) → nameless s i ≡ nameless r i
   unfolding nameless
@@ -110,7 +109,7 @@ module _ (s r : Sections) (stride : s .stride ≡ r .stride) (nodes : s .nodes �
 
   pub fits-like : (i : ℕ) (t : List ℕ) → fits s i t ≡ fits r i t
   unfolding fits
-  fits-like i t = rw (count-like s r stride nodes, top-like (nodeCount r) i, path-like (nodeCount r) i)
+  fits-like i t = rw (count-like s r versioned nodes, top-like (nodeCount r) i, path-like (nodeCount r) i)
 
   module _ (index : s .index ≡ r .index) where
     entry-word-like : (j k : ℕ) → indexWord s j k ≡ indexWord r j k
@@ -127,7 +126,7 @@ module _ (s r : Sections) (stride : s .stride ≡ r .stride) (nodes : s .nodes �
           rising-like (indexText s) (indexText r) text-like j,
           fits-like (indexWord s j 2) (indexText s j),
           text-like j,
-          container-like s r stride nodes (indexWord s j 2),
+          container-like s r versioned nodes (indexWord s j 2),
           entry-word-like j 0,
           entry-word-like j 1,
           entry-word-like j 2,
@@ -139,9 +138,9 @@ module _ (s r : Sections) (stride : s .stride ≡ r .stride) (nodes : s .nodes �
     unfolding indexRule
     index-like =
         first-like (indexCount s) (indexEntryRule s) (indexEntryRule r) entry-like
-        ∙ ap (λ (ws : List ℕ). firstOf (length ws / 3) (indexEntryRule r)) index
+        ∙ ap (λ (ws : List ℕ). firstOf (length ws / textEntryWords) (indexEntryRule r)) index
 
 -- the sections of an image are refused as the parts that the code is lent
-pub index-parts : (s : Sections) (nodes index strings : List ℕ) → s .stride ≡ nodeWords → s .nodes ≡ wordsOf nodes → s .index ≡ wordsOf index → s .strings ≡ strings
-    → indexRule s ≡ indexRule (indexParts nodes index strings)
-index-parts s nodes index strings a b c d = index-like s (indexParts nodes index strings) a b d c
+pub index-parts : (s : Sections) (version : ℕ) (nodes index strings : List ℕ) → s .version ≡ version → s .nodes ≡ wordsOf nodes → s .index ≡ wordsOf index → s .strings ≡ strings
+    → indexRule s ≡ indexRule (indexParts version nodes index strings)
+index-parts s version nodes index strings a b c d = index-like s (indexParts version nodes index strings) a b d c

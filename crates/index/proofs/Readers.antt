@@ -19,50 +19,16 @@ use Rattle.words.proofs.Words.{word-in, word-out, word-at, length-words}
 use Rattle.texts.specs.Text.{before, rising}
 use Rattle.image.specs.declared.TextEntry.{TextEntry}
 use Rattle.image.specs.declared.Definition.{Definition}
-use Rattle.image.specs.Sections.{Sections, nodeWord, definitionWord, partAt, goodIn, insideContainer, itemCount}
-use Rattle.image.specs.Entries.{textEntryOf, definitionOf}
+use Rattle.image.specs.Sections.{Sections, textEntryWords, definitionWords, textEntrySize, definitionSize, definitionWord, partAt, goodIn, insideContainer, itemCount}
+use Rattle.image.specs.Entries.{textEntryOf, definitionOf, entryTextFrom, definitionTextIn}
 use Rattle.image.proofs.Entries.{index-entry, item-entry, definition-entry}
 use Rattle.index.specs.Paths.{noName, fits}
 use Rattle.index.specs.Index.{indexText, indexEntryRule, indexRule}
 use Rattle.index.specs.Definitions.{definitionText, itemText, numberOfItems, itemsBefore, itemRuleFrom, definitionRule, itemsUsedUp, definitionsRule}
-use Rattle.index.specs.Parts.{indexParts, definitionParts, pathNodeOf, entryTextFrom, definitionTextIn}
-use Rattle.index.proofs.RisingTexts.{rising-next, rising-like}
+use Rattle.index.specs.Parts.{indexParts, definitionParts}
+use Rattle.image.proofs.RisingTexts.{rising-like}
 use Rattle.index.proofs.RuleRuns.{run-stops}
 use Rattle.index.proofs.Definitions.{definition-passed}
-
--- ---- a text as far as the strings go
-
-pub text-to-end : (bs : List ℕ) (at len : ℕ) → length bs ≤ at + len → partAt bs at len ≡ take (length bs - at) (drop at bs)
-unfolding partAt
-text-to-end bs at len h =
-    let n : length (drop at bs) ≡ length bs - at = length-drop at bs in
-    take-all len (drop at bs) (omega arith) ∙ sym (take-all (length bs - at) (drop at bs) (omega arith))
-
-pub text-past : (bs : List ℕ) (at len : ℕ) → length bs ≤ at → partAt bs at len ≡ []
-unfolding partAt
-text-past bs at len h = rw (drop-of-length-le bs h) (take-nil len)
-
--- ---- nodes
-
--- word k, which stands at byte 4 * k, or 0 past the end
-word-get : (bs : List ℕ) (k at : ℕ) → at ≡ 4 * k → getD (wordsOf bs) k 0 ≡ wordIn bs at
-word-get bs k at e = by (decLe (at + 4) (length bs))
-  where
-    by : Dec (at + 4 ≤ length bs) → getD (wordsOf bs) k 0 ≡ wordIn bs at
-    by (yes h) = word-at bs k (omega arith) ∙ ap (wordAt bs) (sym e) ∙ sym (word-in bs at h)
-    by (no h) = List·getD-eq-default (wordsOf bs) 0 (omega (arith, length-words bs)) ∙ sym (word-out bs at (omega arith))
-
-pub node-words : (nodes : List ℕ) (i : ℕ)
-    → pathNodeOf (indexParts nodes [] []) i
-    ≡ record { parent = wordIn nodes (i * 40); place = wordIn nodes (i * 40 + 4); offset = wordIn nodes (i * 40 + 12); len = wordIn nodes (i * 40 + 16) }
-unfolding nodeWord
-node-words nodes i =
-    rw (
-      word-get nodes (i * 10 + 0) (i * 40) (omega arith),
-      word-get nodes (i * 10 + 1) (i * 40 + 4) (omega arith),
-      word-get nodes (i * 10 + 3) (i * 40 + 12) (omega arith),
-      word-get nodes (i * 10 + 4) (i * 40 + 16) (omega arith),
-    )
 
 -- ---- names
 
@@ -88,21 +54,6 @@ name-there at len h g = rw (ne-eqb len 0 h, ne-eqb len NONE g) (by (isNone at))
     by false = refl
 
 -- ---- entries
-
--- the texts of an entry and of the one before it
-pub entry-rises : (ws strings : List ℕ) (first place : ℕ) (last entry : TextEntry) (a b : List ℕ) → (place ≡ 0 → ⊥)
-    → last ≡ textEntryOf ws (first + (place - 1)) → entry ≡ textEntryOf ws (first + place)
-    → a ≡ partAt strings (last .offset) (last .len) → b ≡ partAt strings (entry .offset) (entry .len)
-    → before a b ≡ rising (entryTextFrom ws strings first) place
-unfolding entryTextFrom
-entry-rises ws strings first place last entry a b h p q u v = rw (rising-next (entryTextFrom ws strings first) place h, u, v, p, q)
-
-pub definition-rises : (ws strings : List ℕ) (d : ℕ) (last entry : Definition) (a b : List ℕ) → (d ≡ 0 → ⊥)
-    → last ≡ definitionOf ws (d - 1) → entry ≡ definitionOf ws d
-    → a ≡ partAt strings (last .offset) (last .len) → b ≡ partAt strings (entry .offset) (entry .len)
-    → before a b ≡ rising (definitionTextIn ws strings) d
-unfolding definitionTextIn
-definition-rises ws strings d last entry a b h p q u v = rw (rising-next (definitionTextIn ws strings) d h, u, v, p, q)
 
 module _ (s : Sections) (ws : List ℕ) where
   pub index-texts : s .index ≡ ws → (j : ℕ) → rising (entryTextFrom ws (s .strings) 0) j ≡ rising (indexText s) j
@@ -156,61 +107,63 @@ definition-past s ws d used e good rises q n r g u x y = definition-by s ws d us
 
 -- ---- runs by the lengths of the bytes
 
-pub index-run : (nodes index strings : List ℕ)
-    → indexRule (indexParts nodes index strings) ≡ firstOf (length index / 12) (indexEntryRule (indexParts nodes index strings))
+pub index-run : (version : ℕ) (nodes index strings : List ℕ)
+    → indexRule (indexParts version nodes index strings) ≡ firstOf (length index / textEntrySize) (indexEntryRule (indexParts version nodes index strings))
 unfolding indexRule
-index-run nodes index strings =
-    ap (λ (n : ℕ). firstOf n (indexEntryRule (indexParts nodes index strings))) (omega (arith, length-words index))
+index-run version nodes index strings =
+    ap (λ (n : ℕ). firstOf n (indexEntryRule (indexParts version nodes index strings))) (omega (arith, length-words index))
 
-pub items-length : (items : List ℕ) → length (wordsOf items) / 3 ≡ length items / 12
+pub items-length : (items : List ℕ) → length (wordsOf items) / textEntryWords ≡ length items / textEntrySize
 items-length items = omega (arith, length-words items)
 
 -- the refusals of the definitions, then of items that are left over
 pub definitions-run : (definitions items strings : List ℕ)
     → definitionsRule (definitionParts definitions items strings)
-    ≡ (firstOf (length definitions / 16) (definitionRule (definitionParts definitions items strings))
-    ▸ unless (eqb (itemsBefore (definitionParts definitions items strings) (length definitions / 16)) (length items / 12)) 17)
+    ≡ (firstOf (length definitions / definitionSize) (definitionRule (definitionParts definitions items strings))
+    ▸ unless (eqb (itemsBefore (definitionParts definitions items strings) (length definitions / definitionSize)) (length items / textEntrySize)) 17)
 unfolding definitionsRule itemsUsedUp
 definitions-run definitions items strings =
     let s = definitionParts definitions items strings in
-    let n : length (wordsOf definitions) / 4 ≡ length definitions / 16 = omega (arith, length-words definitions) in
-    ap (λ (k : ℕ). firstOf k (definitionRule s) ▸ unless (eqb (itemsBefore s k) (length (wordsOf items) / 3)) 17) n
-    ∙ ap (λ (k : ℕ). firstOf (length definitions / 16) (definitionRule s) ▸ unless (eqb (itemsBefore s (length definitions / 16)) k) 17) (items-length items)
+    let n : length (wordsOf definitions) / definitionWords ≡ length definitions / definitionSize = omega (arith, length-words definitions) in
+    ap (λ (k : ℕ). firstOf k (definitionRule s) ▸ unless (eqb (itemsBefore s k) (length (wordsOf items) / textEntryWords)) 17) n
+    ∙ ap (λ (k : ℕ). firstOf (length definitions / definitionSize) (definitionRule s) ▸ unless (eqb (itemsBefore s (length definitions / definitionSize)) k) 17) (items-length items)
 
 -- the loop over definitions: the one at d is refused; none is; its items, whose count w was read, are added to those used
 module _ (definitions items strings : List ℕ) (d : ℕ) where
   abbrev parts : Sections
   parts = definitionParts definitions items strings
 
-  pub definitions-stop : (r : ℕ) → d < length definitions / 16 → firstOf d (definitionRule parts) ≡ 0 → r ≡ definitionRule parts d → (r ≡ 0 → ⊥) → r ≡ definitionsRule parts
+  pub definitions-stop : (r : ℕ) → d < length definitions / definitionSize → firstOf d (definitionRule parts) ≡ 0 → r ≡ definitionRule parts d → (r ≡ 0 → ⊥) → r ≡ definitionsRule parts
   definitions-stop r h p q z =
-      let n = length definitions / 16 in
+      let n = length definitions / definitionSize in
       let e : r ≡ suc (r - 1) = omega arith in
       e
       ∙ sym (definitions-run definitions items strings
-      ∙ first (firstOf n (definitionRule parts)) (unless (eqb (itemsBefore parts n) (length items / 12)) 17) (r - 1)
+      ∙ first (firstOf n (definitionRule parts)) (unless (eqb (itemsBefore parts n) (length items / textEntrySize)) 17) (r - 1)
       (sym (run-stops n d r (definitionRule parts) h p q z) ∙ e))
 
-  pub definitions-end : (used : ℕ) → d ≤ length definitions / 16 → length definitions / 16 ≤ d → used ≡ itemsBefore parts d → firstOf d (definitionRule parts) ≡ 0
-      → definitionsRule parts ≡ unless (eqb used (length items / 12)) 17
+  pub definitions-end : (used : ℕ) → d ≤ length definitions / definitionSize → length definitions / definitionSize ≤ d → used ≡ itemsBefore parts d → firstOf d (definitionRule parts) ≡ 0
+      → definitionsRule parts ≡ unless (eqb used (length items / textEntrySize)) 17
   definitions-end used h g u p =
-      let n = length definitions / 16 in
+      let n = length definitions / definitionSize in
       let e : n ≡ d = omega arith in
       definitions-run definitions items strings
-      ∙ second (firstOf n (definitionRule parts)) (unless (eqb (itemsBefore parts n) (length items / 12)) 17) (ap (λ (k : ℕ). firstOf k (definitionRule parts)) e ∙ p)
-      ∙ ap (λ (k : ℕ). unless (eqb k (length items / 12)) 17) (ap (itemsBefore parts) e ∙ sym u)
+      ∙ second (firstOf n (definitionRule parts)) (unless (eqb (itemsBefore parts n) (length items / textEntrySize)) 17) (ap (λ (k : ℕ). firstOf k (definitionRule parts)) e ∙ p)
+      ∙ ap (λ (k : ℕ). unless (eqb k (length items / textEntrySize)) 17) (ap (itemsBefore parts) e ∙ sym u)
 
-  count-read : (w : ℕ) → w ≡ getD (wordsOf definitions) (d * 4 + 3) 0 → w ≡ numberOfItems parts d
-  unfolding definitionWord
-  count-read w e = e
+  count-read : (e : Definition) → e ≡ definitionOf (wordsOf definitions) d → e .count ≡ numberOfItems parts d
+  unfolding definitionWord definitionOf
+  count-read e q = ap (λ (x : Definition). x .count) q
 
-  pub used-more : (used w : ℕ) → used ≡ itemsBefore parts d → w ≡ getD (wordsOf definitions) (d * 4 + 3) 0 → used + w ≡ itemsBefore parts (d + 1)
+  pub used-more : (used : ℕ) (e : Definition) → used ≡ itemsBefore parts d → e ≡ definitionOf (wordsOf definitions) d
+      → used + e .count ≡ itemsBefore parts (d + 1)
   unfolding sumOf
-  used-more used w u e = rw (add-one, u, count-read w e)
+  used-more used e u q = rw (add-one, u, count-read e q)
 
-  pub used-inside : (used w : ℕ) → used ≡ itemsBefore parts d → w ≡ getD (wordsOf definitions) (d * 4 + 3) 0 → definitionRule parts d ≡ 0 → used + w ≤ length items / 12
-  used-inside used w u e p =
+  pub used-inside : (used : ℕ) (e : Definition) → used ≡ itemsBefore parts d → e ≡ definitionOf (wordsOf definitions) d → definitionRule parts d ≡ 0
+      → used + e .count ≤ length items / textEntrySize
+  used-inside used e u h p =
       let q = definition-passed parts d p in
-      let n : itemCount parts ≡ length items / 12 = items-length items in
-      let k : w ≡ numberOfItems parts d = count-read w e in
+      let n : itemCount parts ≡ length items / textEntrySize = items-length items in
+      let k : e .count ≡ numberOfItems parts d = count-read e h in
       rw (u, k, ← q .start, ← n) (q .inside)

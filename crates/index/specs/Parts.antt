@@ -2,16 +2,15 @@
 use Prim.Native.Nat.{ℕ, _+_}
 use mathlib.Core.List.{List, []}
 use Rattle.words.specs.Words.{wordsOf}
-use Rattle.image.specs.Header.{nodeWords}
-use Rattle.image.specs.Sections.{Sections, parentOf, placeOf, f, partAt}
-use Rattle.image.specs.Entries.{textEntryOf, definitionOf}
+use Rattle.image.specs.Header.{version}
+use Rattle.image.specs.Sections.{Sections, parentOf, placeOf, f}
 use Rattle.index.specs.declared.PathNode.{PathNode}
 
--- nodes, index and strings; the other sections do not matter here
-abbrev pub indexParts : List ℕ → List ℕ → List ℕ → Sections
-indexParts nodes index strings =
+-- of a format version: nodes, index and strings; the other sections do not matter here
+abbrev pub indexParts : ℕ → List ℕ → List ℕ → List ℕ → Sections
+indexParts version nodes index strings =
     record {
-      stride = nodeWords;
+      version = version;
       nodes = wordsOf nodes;
       children = [];
       named = [];
@@ -22,11 +21,11 @@ indexParts nodes index strings =
       strings = strings;
     }
 
--- definitions, items and strings
+-- definitions, items and strings; the version does not matter here
 abbrev pub definitionParts : List ℕ → List ℕ → List ℕ → Sections
 definitionParts definitions items strings =
     record {
-      stride = nodeWords;
+      version = version;
       nodes = [];
       children = [];
       named = [];
@@ -40,11 +39,3 @@ definitionParts definitions items strings =
 -- what a path needs of node i
 abbrev pub pathNodeOf : Sections → ℕ → PathNode
 pathNodeOf s i = record { parent = parentOf s i; place = placeOf s i; offset = f s i 0; len = f s i 1 }
-
--- the text of the j-th entry of three words, from the first one of a run on
-unfoldable pub entryTextFrom : List ℕ → List ℕ → ℕ → ℕ → List ℕ
-entryTextFrom ws strings first j = partAt strings (textEntryOf ws (first + j) .offset) (textEntryOf ws (first + j) .len)
-
--- the text of definition d
-unfoldable pub definitionTextIn : List ℕ → List ℕ → ℕ → List ℕ
-definitionTextIn ws strings d = partAt strings (definitionOf ws d .offset) (definitionOf ws d .len)

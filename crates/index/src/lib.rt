@@ -4,15 +4,16 @@ ghost use mathlib.Core.List.{[]};
 ghost use Prim.Native.Nat.{_+_, _*_, _≤_};
 ghost use lib.ListN.{length};
 ghost use Rattle.laws.specs.Refusal.{firstOf};
-ghost use Rattle.words.specs.Words.{wordsOf};
-ghost use Rattle.texts.specs.Text.{before, rising, same};
-ghost use Rattle.image.specs.Sections.{partAt};
+ghost use Rattle.texts.specs.Text.{same};
+ghost use Rattle.image.specs.Sections.{textEntrySize, definitionSize};
 ghost use Rattle.index.specs.Paths.{noName, pieceOf, fitsPath, fits};
 ghost use Rattle.index.specs.Index.{indexEntryRule, indexRule};
 ghost use Rattle.index.specs.Definitions.{itemsBefore, itemRuleFrom, definitionRule, definitionsRule};
-ghost use Rattle.index.specs.Parts.{indexParts, definitionParts, pathNodeOf, entryTextFrom, definitionTextIn};
+ghost use Rattle.index.specs.Parts.{indexParts, definitionParts, pathNodeOf};
+use image::ImageView;
+use image::NodeRecord;
+use image::order;
 use image::refusal;
-use texts::Order;
 
 // What a path needs of a node: its parent, its place and its name.
 struct PathNode {
@@ -22,56 +23,27 @@ struct PathNode {
     len: u32,
 }
 
-// Whether the first text comes before the second.
-fn comes_before(first: &[u8], second: &[u8]) -> bool
-    ensures { λ r. ⌜ r ≡ before (now (first .entry)) (now (second .entry)) ⌝ }
-{
-    let order = texts::compare(first, second);
-    match order {
-        Order::Less => true,
-        Order::Equal => false,
-        Order::Greater => false,
-    }
-}
-
-// The bytes of a text, as far as the strings go.
-fn text_bytes(strings: &[u8], offset: u32, len: u32) -> &[u8]
-    ensures { λ r. ⌜ now r ≡ partAt (now (strings .entry)) offset len ⌝ }
-{
-    let start = offset as usize;
-    let end = start + len as usize;
-    if end <= strings.len() {
-        return &strings[start..end];
-    }
-    if start <= strings.len() {
-        &strings[start..]
-    } else {
-        &strings[..0]
-    }
-}
-
 // The node at `at`; past the last one its words are 0.
-fn path_node(nodes: &[u8], at: u32) -> PathNode
-    ensures { λ r. ⌜ r ≡ pathNodeOf (indexParts (now (nodes .entry)) [] []) at ⌝ }
+fn path_node(nodes: &[u8], at: u32, version: u32) -> PathNode
+    ensures { λ r. ⌜ r ≡ pathNodeOf (indexParts version (now (nodes .entry)) [] []) at ⌝ }
 {
-    let first = (at as usize) * 40;
     PathNode {
-        parent: words::get(nodes, first),
-        place: words::get(nodes, first + 4),
-        offset: words::get(nodes, first + 12),
-        len: words::get(nodes, first + 16),
+        parent: image::node_word_or_zero(nodes, version, at, NodeRecord::PARENT),
+        place: image::node_word_or_zero(nodes, version, at, NodeRecord::PLACE),
+        offset: image::node_word_or_zero(nodes, version, at, NodeRecord::F0),
+        len: image::node_word_or_zero(nodes, version, at, NodeRecord::F1),
     }
 }
 
-// Whether a node has no name, or the empty one.
-fn no_name(node: PathNode) -> bool
-    ensures { λ r. ⌜ r ≡ noName (node .offset) (node .len) ⌝ }
+// Whether a name is absent or empty.
+pub fn no_name(offset: u32, len: u32) -> bool
+    ensures { λ r. ⌜ r ≡ noName offset len ⌝ }
 {
-    if node.len == 0 {
+    if len == 0 {
         return true;
     }
-    if node.len == image::NONE {
-        node.offset == image::NONE
+    if len == image::NONE {
+        offset == image::NONE
     } else {
         false
     }
@@ -81,20 +53,20 @@ fn no_name(node: PathNode) -> bool
 fn piece_len(strings: &[u8], node: PathNode) -> usize
     ensures { λ r. ⌜ r ≡ length (pieceOf (now (strings .entry)) (node .place) (node .offset) (node .len)) ⌝ }
 {
-    if no_name(node) {
+    if no_name(node.offset, node.len) {
         return texts::decimal_len(node.place);
     }
-    text_bytes(strings, node.offset, node.len).len()
+    image::text_bytes(strings, node.offset, node.len).len()
 }
 
 // Whether a text is a node's piece of a path.
 fn is_piece(strings: &[u8], node: PathNode, text: &[u8]) -> bool
     ensures { λ r. ⌜ r ≡ same (now (text .entry)) (pieceOf (now (strings .entry)) (node .place) (node .offset) (node .len)) ⌝ }
 {
-    if no_name(node) {
+    if no_name(node.offset, node.len) {
         return texts::is_decimal(text, node.place);
     }
-    texts::equal(text, text_bytes(strings, node.offset, node.len))
+    texts::equal(text, image::text_bytes(strings, node.offset, node.len))
 }
 
 // Whether what is left before the topmost piece may stand there: nothing, or a dot before a place.
@@ -112,10 +84,10 @@ fn may_lead(rest: &[u8], placed: bool) -> bool
 
 // Whether the text is the canonical path of a node, or a dot before it where the topmost piece is a place.
 // It is compared from its end on, up to the root, so no path is built.
-fn matches_canonical_path(nodes: &[u8], strings: &[u8], id: u32, text: &[u8]) -> bool
-    ensures { λ r. ⌜ r ≡ fits (indexParts (now (nodes .entry)) [] (now (strings .entry))) id (now (text .entry)) ⌝ }
+fn matches_canonical_path(nodes: &[u8], strings: &[u8], id: u32, text: &[u8], version: u32) -> bool
+    ensures { λ r. ⌜ r ≡ fits (indexParts version (now (nodes .entry)) [] (now (strings .entry))) id (now (text .entry)) ⌝ }
 {
-    let mut steps = nodes.len() / 40;
+    let mut steps = image::node_count(nodes, version);
     let mut at = id;
     let mut end = text.len();
     while at != 0 {
@@ -123,7 +95,7 @@ fn matches_canonical_path(nodes: &[u8], strings: &[u8], id: u32, text: &[u8]) ->
             return end == 0;
         }
         steps -= 1;
-        let node = path_node(nodes, at);
+        let node = path_node(nodes, at, version);
         let size = piece_len(strings, node);
         if end < size {
             return false;
@@ -133,7 +105,7 @@ fn matches_canonical_path(nodes: &[u8], strings: &[u8], id: u32, text: &[u8]) ->
             return false;
         }
         if node.parent == 0 {
-            return may_lead(&text[..start], no_name(node));
+            return may_lead(&text[..start], no_name(node.offset, node.len));
         }
         if start == 0 {
             return false;
@@ -147,42 +119,27 @@ fn matches_canonical_path(nodes: &[u8], strings: &[u8], id: u32, text: &[u8]) ->
     end == 0
 }
 
-// Whether the text of an entry, the `place`-th from entry `first` on, comes after that of the entry before it.
-fn rises(entries: &[u8], strings: &[u8], first: usize, place: usize) -> bool
-    requires { ⌜ 12 * (first + place) + 12 ≤ length (now entries) ⌝ }
-    ensures { λ r. ⌜ r ≡ rising (entryTextFrom (wordsOf (now (entries .entry))) (now (strings .entry)) first) place ⌝ }
-{
-    if place == 0 {
-        return true;
-    }
-    let last = image::text_entry(entries, first + (place - 1));
-    let entry = image::text_entry(entries, first + place);
-    comes_before(
-        text_bytes(strings, last.offset, last.len),
-        text_bytes(strings, entry.offset, entry.len),
-    )
-}
-
 // The refusal of index entry `j`, or 0.
-fn index_entry_rule(nodes: &[u8], index: &[u8], strings: &[u8], j: usize) -> u32
-    requires { ⌜ 12 * j + 12 ≤ length (now index) ⌝ }
-    ensures { λ r. ⌜ r ≡ indexEntryRule (indexParts (now (nodes .entry)) (now (index .entry)) (now (strings .entry))) j ⌝ }
+fn index_entry_rule(nodes: &[u8], index: &[u8], strings: &[u8], j: usize, version: u32) -> u32
+    requires { ⌜ textEntrySize * j + textEntrySize ≤ length (now index) ⌝ }
+    ensures { λ r. ⌜ r ≡ indexEntryRule (indexParts version (now (nodes .entry)) (now (index .entry)) (now (strings .entry))) j ⌝ }
 {
     let entry = image::text_entry(index, j);
     if !image::good_text(strings, entry.offset, entry.len) {
         return refusal::BAD_TEXT;
     }
-    if !tree::is_container(nodes, entry.value) {
+    if !tree::is_container(nodes, entry.value, version) {
         return refusal::BAD_NODE;
     }
-    if !rises(index, strings, 0, j) {
+    if !order::entry_rises(index, strings, 0, j) {
         return refusal::BAD_INDEX;
     }
     if matches_canonical_path(
         nodes,
         strings,
         entry.value,
-        text_bytes(strings, entry.offset, entry.len),
+        image::text_bytes(strings, entry.offset, entry.len),
+        version,
     ) {
         0
     } else {
@@ -191,13 +148,13 @@ fn index_entry_rule(nodes: &[u8], index: &[u8], strings: &[u8], j: usize) -> u32
 }
 
 // The first refusal of an entry of the index, or 0.
-pub fn index_rule(nodes: &[u8], index: &[u8], strings: &[u8]) -> u32
-    ensures { λ r. ⌜ r ≡ indexRule (indexParts (now (nodes .entry)) (now (index .entry)) (now (strings .entry))) ⌝ }
+pub fn index_rule(nodes: &[u8], index: &[u8], strings: &[u8], version: u32) -> u32
+    ensures { λ r. ⌜ r ≡ indexRule (indexParts version (now (nodes .entry)) (now (index .entry)) (now (strings .entry))) ⌝ }
 {
-    let count = index.len() / 12;
+    let count = index.len() / ImageView::TEXT_ENTRY_BYTES;
     let mut j = 0;
     while j < count {
-        let refused = index_entry_rule(nodes, index, strings, j);
+        let refused = index_entry_rule(nodes, index, strings, j, version);
         if refused != 0 {
             return refused;
         }
@@ -208,14 +165,14 @@ pub fn index_rule(nodes: &[u8], index: &[u8], strings: &[u8]) -> u32
 
 // The refusal of an item, the `place`-th from item `first` on, or 0.
 fn item_rule(items: &[u8], strings: &[u8], first: usize, place: usize) -> u32
-    requires { ⌜ 12 * (first + place) + 12 ≤ length (now items) ⌝ }
+    requires { ⌜ textEntrySize * (first + place) + textEntrySize ≤ length (now items) ⌝ }
     ensures { λ r. ⌜ r ≡ itemRuleFrom (definitionParts [] (now (items .entry)) (now (strings .entry))) first place ⌝ }
 {
     let item = image::text_entry(items, first + place);
     if !image::good_text(strings, item.offset, item.len) {
         return refusal::BAD_DEFINITION;
     }
-    if rises(items, strings, first, place) {
+    if order::entry_rises(items, strings, first, place) {
         0
     } else {
         refusal::BAD_DEFINITION
@@ -224,7 +181,7 @@ fn item_rule(items: &[u8], strings: &[u8], first: usize, place: usize) -> u32
 
 // The first refusal of the items of a definition, or 0.
 fn items_rule(items: &[u8], strings: &[u8], first: usize, count: usize) -> u32
-    requires { ⌜ 12 * (first + count) ≤ length (now items) ⌝ }
+    requires { ⌜ textEntrySize * (first + count) ≤ length (now items) ⌝ }
     ensures { λ r. ⌜ r ≡ firstOf count (itemRuleFrom (definitionParts [] (now (items .entry)) (now (strings .entry))) first) ⌝ }
 {
     let mut place = 0;
@@ -238,37 +195,21 @@ fn items_rule(items: &[u8], strings: &[u8], first: usize, count: usize) -> u32
     0
 }
 
-// Whether the text of definition `d` comes after that of the definition before it.
-fn definition_rises(definitions: &[u8], strings: &[u8], d: usize) -> bool
-    requires { ⌜ 16 * d + 16 ≤ length (now definitions) ⌝ }
-    ensures { λ r. ⌜ r ≡ rising (definitionTextIn (wordsOf (now (definitions .entry))) (now (strings .entry))) d ⌝ }
-{
-    if d == 0 {
-        return true;
-    }
-    let last = image::definition_at(definitions, d - 1);
-    let definition = image::definition_at(definitions, d);
-    comes_before(
-        text_bytes(strings, last.offset, last.len),
-        text_bytes(strings, definition.offset, definition.len),
-    )
-}
-
 // The refusal of definition `d`, or 0. The definitions before it have `used` items.
 fn definition_rule(definitions: &[u8], items: &[u8], strings: &[u8], d: usize, used: usize) -> u32
-    requires { ⌜ (16 * d + 16 ≤ length (now definitions)) × (used ≡ itemsBefore (definitionParts (now definitions) (now items) (now strings)) d) ⌝ }
+    requires { ⌜ (definitionSize * d + definitionSize ≤ length (now definitions)) × (used ≡ itemsBefore (definitionParts (now definitions) (now items) (now strings)) d) ⌝ }
     ensures { λ r. ⌜ r ≡ definitionRule (definitionParts (now (definitions .entry)) (now (items .entry)) (now (strings .entry))) d ⌝ }
 {
     let definition = image::definition_at(definitions, d);
     if !image::good_text(strings, definition.offset, definition.len) {
         return refusal::BAD_TEXT;
     }
-    if !definition_rises(definitions, strings, d) {
+    if !order::definition_rises(definitions, strings, d) {
         return refusal::BAD_DEFINITION;
     }
     let first = definition.first as usize;
     let count = definition.count as usize;
-    if items.len() / 12 < first + count {
+    if items.len() / ImageView::TEXT_ENTRY_BYTES < first + count {
         return refusal::BAD_RANGE;
     }
     if first != used {
@@ -281,7 +222,7 @@ fn definition_rule(definitions: &[u8], items: &[u8], strings: &[u8], d: usize, u
 pub fn definitions_rule(definitions: &[u8], items: &[u8], strings: &[u8]) -> u32
     ensures { λ r. ⌜ r ≡ definitionsRule (definitionParts (now (definitions .entry)) (now (items .entry)) (now (strings .entry))) ⌝ }
 {
-    let count = definitions.len() / 16;
+    let count = definitions.len() / ImageView::DEFINITION_BYTES;
     let mut used = 0;
     let mut d = 0;
     while d < count {
@@ -289,10 +230,11 @@ pub fn definitions_rule(definitions: &[u8], items: &[u8], strings: &[u8]) -> u32
         if refused != 0 {
             return refused;
         }
-        used += image::part_word(definitions, d * 4 + 3) as usize;
+        let definition = image::definition_at(definitions, d);
+        used += definition.count as usize;
         d += 1;
     }
-    if used == items.len() / 12 {
+    if used == items.len() / ImageView::TEXT_ENTRY_BYTES {
         0
     } else {
         refusal::BAD_DEFINITION

@@ -11,6 +11,7 @@ use Rattle.texts.specs.Text.{holds}
 use Rattle.names.specs.Names.{commands, operators}
 use Rattle.image.specs.declared.NodeRecord.{NodeRecord}
 use Rattle.image.specs.Entries.{nodeIn}
+use Rattle.image.specs.Header.{version}
 use Rattle.image.specs.Sections.{Sections, nodeCount, childCount, namedCount, parentOf, tagOf, inside, partAt, goodIn, optionalIn}
 use Rattle.records.specs.declared.Counts.{Counts}
 use Rattle.records.specs.declared.Sums.{Sums}
@@ -61,7 +62,7 @@ startsNext start count before all = leb (start + count) all && eqb start before
 -- sections that have a payload and strings alone
 abbrev pub bytesOnly : List ℕ → List ℕ → Sections
 bytesOnly payload strings =
-    record { stride = 0; nodes = []; children = []; named = []; definitions = []; items = []; index = []; payload = payload; strings = strings }
+    record { version = version; nodes = []; children = []; named = []; definitions = []; items = []; index = []; payload = payload; strings = strings }
 
 -- ---- the rules by kind
 

@@ -90,17 +90,17 @@ module _ (s : Sections) (i : ℕ) (node : NodeRecord) (n : IsNode s i node) wher
 
 -- ---- a node of the parts
 
-module _ (ns cs ms ss : List ℕ) (i base depth : ℕ) (w₀ : List ℕ) where
+module _ (version : ℕ) (ns cs ms ss : List ℕ) (i base depth : ℕ) (w₀ : List ℕ) where
   abbrev here : Sections
-  here = partsOf ns cs ms ss
+  here = partsOf version ns cs ms ss
 
   -- the parts that matter to each run
-  children-here : (count depth′ : ℕ) (w w₁ : List ℕ) (r : ℕ) → Pushed (childRule (partsOf ns cs [] []) i) (childAt (partsOf ns cs [] []) i) count base depth′ w w₁ r
+  children-here : (count depth′ : ℕ) (w w₁ : List ℕ) (r : ℕ) → Pushed (childRule (partsOf version ns cs [] []) i) (childAt (partsOf version ns cs [] []) i) count base depth′ w w₁ r
       → Pushed (childRule here i) (childAt here i) count base depth′ w w₁ r
   unfolding childRule childWord nodeWord
   children-here count depth′ w w₁ r p = p
 
-  named-here : (count depth′ : ℕ) (w w₁ : List ℕ) (r : ℕ) → Pushed (namedRule (partsOf ns [] ms ss) i) (namedNode (partsOf ns [] ms ss) i) count base depth′ w w₁ r
+  named-here : (count depth′ : ℕ) (w w₁ : List ℕ) (r : ℕ) → Pushed (namedRule (partsOf version ns [] ms ss) i) (namedNode (partsOf version ns [] ms ss) i) count base depth′ w w₁ r
       → Pushed (namedRule here i) (namedNode here i) count base depth′ w w₁ r
   unfolding namedRule namedWord nodeWord
   named-here count depth′ w w₁ r p = p
@@ -131,7 +131,7 @@ module _ (ns cs ms ss : List ℕ) (i base depth : ℕ) (w₀ : List ℕ) where
   enter-leaf c = none-pushed (childRule here i) (childAt here i) (namedRule here i) (namedNode here i) (numberOfChildren here i) (numberOfNamed here i) base depth w₀ (no-children c) (no-named c)
 
   module _ (c : isContainer here i ≡ true) (c₁ : ℕ) (e₁ : c₁ ≡ f here i 4) (w₁ : List ℕ) (r₁ : ℕ)
-      (p : Pushed (childRule (partsOf ns cs [] []) i) (childAt (partsOf ns cs [] []) i) c₁ base depth w₀ w₁ r₁) where
+      (p : Pushed (childRule (partsOf version ns cs [] []) i) (childAt (partsOf version ns cs [] []) i) c₁ base depth w₀ w₁ r₁) where
     first-run : Pushed (childRule here i) (childAt here i) (numberOfChildren here i) base depth w₀ w₁ r₁
     first-run = rw (children-many c, ← e₁) (children-here c₁ depth w₀ w₁ r₁ p)
 
@@ -141,7 +141,7 @@ module _ (ns cs ms ss : List ℕ) (i base depth : ℕ) (w₀ : List ℕ) where
         first-refused (childRule here i) (childAt here i) (namedRule here i) (namedNode here i) (numberOfChildren here i) (numberOfNamed here i) base depth w₀ w₁ r₁ first-run d nz
 
     pub enter-pushed : r₁ ≡ 0 → (c₂ : ℕ) → c₂ ≡ f here i 6 → (w₂ : List ℕ) (r₂ d : ℕ)
-        → Pushed (namedRule (partsOf ns [] ms ss) i) (namedNode (partsOf ns [] ms ss) i) c₂ base (depth + c₁) w₁ w₂ r₂ → d ≡ depth + c₁ + c₂
+        → Pushed (namedRule (partsOf version ns [] ms ss) i) (namedNode (partsOf version ns [] ms ss) i) c₂ base (depth + c₁) w₁ w₂ r₂ → d ≡ depth + c₁ + c₂
         → EnteredHere w₂ r₂ d
     unfolding entriesRule entryNodes
     enter-pushed z c₂ e₂ w₂ r₂ d q k =
@@ -156,8 +156,8 @@ module _ (ns cs ms ss : List ℕ) (i base depth : ℕ) (w₀ : List ℕ) where
       pub children : node .f3 + node .f4 ≤ childCount here
       pub named : node .f5 + node .f6 ≤ namedCount here
       pub words : base + depth + node .f4 + node .f6 ≤ length w₀
-      pub children-start : node .f3 ≡ f (partsOf ns cs [] []) i 3
-      pub named-start : node .f5 ≡ f (partsOf ns [] ms ss) i 5
+      pub children-start : node .f3 ≡ f (partsOf version ns cs [] []) i 3
+      pub named-start : node .f5 ≡ f (partsOf version ns [] ms ss) i 5
 
     pub room : Fit here → i < nodeCount here → base + depth + length (reverse (entryNodes here i)) ≤ length w₀ → node .tag ≡ 1 → Room
     unfolding nodeWord

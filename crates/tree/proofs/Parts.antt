@@ -3,7 +3,6 @@ use Prim.Native.Nat.{ℕ}
 use mathlib.Core.Path.{_≡_, refl, sym, ap, _∙_, subst}
 use mathlib.Core.List.{List, []}
 use Rattle.words.specs.Words.{wordsOf}
-use Rattle.image.specs.Header.{nodeWords}
 use Rattle.image.specs.Sections.{Sections, nodeWord, childWord, namedWord}
 use Rattle.records.specs.Records.{numberOfChildren, numberOfNamed}
 use Rattle.tree.specs.Tree.{childRule, namedRule, entriesRule, entryNodes, loadWalk, allSeen, treeRule}
@@ -14,7 +13,7 @@ use Rattle.tree.specs.Work.{treeWords}
 abbrev alone : Sections → Sections
 alone s =
     record {
-      stride = s .stride;
+      version = s .version;
       nodes = s .nodes;
       children = s .children;
       named = s .named;
@@ -37,12 +36,12 @@ fit-alone s g =
       ranges = λ i h c. record { children = g .ranges i h c .children; named = g .ranges i h c .named };
     }
 
-module _ (s : Sections) (ns cs ms ss : List ℕ) (wide : s .stride ≡ nodeWords) (nodes : s .nodes ≡ wordsOf ns) (children : s .children ≡ wordsOf cs)
+module _ (s : Sections) (version : ℕ) (ns cs ms ss : List ℕ) (versioned : s .version ≡ version) (nodes : s .nodes ≡ wordsOf ns) (children : s .children ≡ wordsOf cs)
     (named : s .named ≡ wordsOf ms) (strings : s .strings ≡ ss) where
-  same-parts : alone s ≡ partsOf ns cs ms ss
+  same-parts : alone s ≡ partsOf version ns cs ms ss
   same-parts = λ k.
       record {
-        stride = wide k;
+        version = versioned k;
         nodes = nodes k;
         children = children k;
         named = named k;
@@ -53,11 +52,11 @@ module _ (s : Sections) (ns cs ms ss : List ℕ) (wide : s .stride ≡ nodeWords
         strings = strings k;
       }
 
-  pub parts-rule : treeRule (partsOf ns cs ms ss) ≡ treeRule s
+  pub parts-rule : treeRule (partsOf version ns cs ms ss) ≡ treeRule s
   parts-rule = ap treeRule (sym same-parts) ∙ rule-alone s
 
-  pub parts-fit : Fit s → Fit (partsOf ns cs ms ss)
+  pub parts-fit : Fit s → Fit (partsOf version ns cs ms ss)
   parts-fit g = subst Fit same-parts (fit-alone s g)
 
-  pub parts-words : treeWords (partsOf ns cs ms ss) ≡ treeWords s
+  pub parts-words : treeWords (partsOf version ns cs ms ss) ≡ treeWords s
   parts-words = ap treeWords (sym same-parts)

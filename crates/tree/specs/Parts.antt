@@ -7,17 +7,16 @@ use lib.ListN.{getD}
 use lib.Dec.{eqb}
 use Rattle.words.specs.Words.{wordsOf}
 use Rattle.texts.specs.Text.{before}
-use Rattle.image.specs.Header.{nodeWords}
-use Rattle.image.specs.Sections.{Sections, nodeCount, childCount, namedCount, f, isContainer, goodText, textOrEmpty}
+use Rattle.image.specs.Sections.{Sections, textEntryWords, nodeCount, childCount, namedCount, f, isContainer, goodText, textOrEmpty}
 use Rattle.records.specs.Records.{childrenBefore, namedBefore}
 use Rattle.tree.specs.Tree.{childAt, namedAt, childRule, namedRule, entriesRule, entryNodes}
 use Rattle.tree.specs.Work.{Pushed, Entered}
 
--- nodes, ordered children, named children and strings; the other sections do not matter here
-abbrev pub partsOf : List ℕ → List ℕ → List ℕ → List ℕ → Sections
-partsOf nodes children named strings =
+-- of a format version: nodes, ordered children, named children and strings; the other sections do not matter here
+abbrev pub partsOf : ℕ → List ℕ → List ℕ → List ℕ → List ℕ → Sections
+partsOf version nodes children named strings =
     record {
-      stride = nodeWords;
+      version = version;
       nodes = wordsOf nodes;
       children = wordsOf children;
       named = wordsOf named;
@@ -43,31 +42,19 @@ pub record Fit (s : Sections) : Type 0 where
   pub counts : EntriesOwned s
   pub ranges : (i : ℕ) → i < nodeCount s → isContainer s i ≡ true → Ranges s i
 
--- the text of the entry before place j of container i is good
-pub record LastGood (s : Sections) (i j : ℕ) : Type 0 where
-  pub last : (k : ℕ) → suc k ≡ j → goodText s (namedAt s i k 0) (namedAt s i k 1) ≡ true
-
 -- the node of container i's named entry j
 abbrev pub namedNode : Sections → ℕ → ℕ → ℕ
 namedNode s i j = namedAt s i j 2
 
--- the text of entry j, none where it is not inside the strings
-abbrev pub shownName : List ℕ → List ℕ → ℕ → List ℕ
-shownName named strings j = textOrEmpty strings (getD (wordsOf named) (j * 3) 0) (getD (wordsOf named) (j * 3 + 1) 0)
-
--- the entry that stands at a place of its container, and at j in the section, has a text after that of the entry before it
-unfoldable pub follows : List ℕ → List ℕ → ℕ → ℕ → Bool
-follows named strings j place = eqb place 0 || before (shownName named strings (j - 1)) (shownName named strings j)
-
 -- ---- pushes, by the parts that each reads
 
 -- of container i's ordered children
-abbrev pub ChildrenPushed : List ℕ → List ℕ → ℕ → ℕ → ℕ → ℕ → List ℕ → List ℕ → ℕ → Type 0
-ChildrenPushed ns cs i count base depth w₀ w r = Pushed (childRule (partsOf ns cs [] []) i) (childAt (partsOf ns cs [] []) i) count base depth w₀ w r
+abbrev pub ChildrenPushed : ℕ → List ℕ → List ℕ → ℕ → ℕ → ℕ → ℕ → List ℕ → List ℕ → ℕ → Type 0
+ChildrenPushed version ns cs i count base depth w₀ w r = Pushed (childRule (partsOf version ns cs [] []) i) (childAt (partsOf version ns cs [] []) i) count base depth w₀ w r
 
 -- of its named children
-abbrev pub NamedPushed : List ℕ → List ℕ → List ℕ → ℕ → ℕ → ℕ → ℕ → List ℕ → List ℕ → ℕ → Type 0
-NamedPushed ns ms ss i count base depth w₀ w r = Pushed (namedRule (partsOf ns [] ms ss) i) (namedNode (partsOf ns [] ms ss) i) count base depth w₀ w r
+abbrev pub NamedPushed : ℕ → List ℕ → List ℕ → List ℕ → ℕ → ℕ → ℕ → ℕ → List ℕ → List ℕ → ℕ → Type 0
+NamedPushed version ns ms ss i count base depth w₀ w r = Pushed (namedRule (partsOf version ns [] ms ss) i) (namedNode (partsOf version ns [] ms ss) i) count base depth w₀ w r
 
 -- of all its entries; the last is the newest
 abbrev pub NodeEntered : Sections → ℕ → ℕ → ℕ → List ℕ → List ℕ → ℕ → ℕ → Type 0

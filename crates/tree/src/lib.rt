@@ -4,83 +4,63 @@ ghost use mathlib.Core.List.{[], _++_, reverse};
 ghost use Prim.Native.Nat.{ℕ, _+_, _*_, _≤_, _<_};
 ghost use lib.ListN.{length, getD, drop, replicate};
 ghost use Rattle.laws.specs.Counted.{allOf};
-ghost use Rattle.image.specs.Sections.{nodeCount, childCount, namedCount, f, insideContainer};
+ghost use Rattle.image.specs.Sections.{textEntrySize, nodeCount, childCount, namedCount, f, insideContainer};
 ghost use Rattle.tree.specs.Tree.{rightChild, namedRule, entryNodes, treeRule};
 ghost use Rattle.tree.specs.Work.{LoadWalkResult, treeWords, marked};
-ghost use Rattle.tree.specs.Parts.{partsOf, Fit, LastGood, follows, ChildrenPushed, NamedPushed, NodeEntered};
+ghost use Rattle.tree.specs.Parts.{partsOf, Fit, ChildrenPushed, NamedPushed, NodeEntered};
+use image::NodeRecord;
 use image::refusal;
-use texts::Order;
+use image::tag;
 
 // Whether the word is a node, its parent is `id` and it stands at `place` among the ordered children.
-fn right_child(nodes: &[u8], child: u32, id: usize, place: usize) -> bool
-    ensures { λ r. ⌜ r ≡ rightChild (partsOf (now (nodes .entry)) [] [] []) child id place ⌝ }
+fn right_child(nodes: &[u8], child: u32, id: usize, place: usize, version: u32) -> bool
+    ensures { λ r. ⌜ r ≡ rightChild (partsOf version (now (nodes .entry)) [] [] []) child id place ⌝ }
 {
+    if !image::is_inside(image::node_count(nodes, version), child) {
+        return false;
+    }
     let at = child as usize;
-    if nodes.len() / 40 <= at {
+    if image::node_word(nodes, version, at, NodeRecord::PARENT) as usize != id {
         return false;
     }
-    if child == image::NONE {
-        return false;
-    }
-    if image::part_word(nodes, at * 10) as usize != id {
-        return false;
-    }
-    image::part_word(nodes, at * 10 + 1) as usize == place
+    image::node_word(nodes, version, at, NodeRecord::PLACE) as usize == place
 }
 
 // Whether the word is a container.
-pub fn is_container(nodes: &[u8], node: u32) -> bool
-    ensures { λ r. ⌜ r ≡ insideContainer (partsOf (now (nodes .entry)) [] [] []) node ⌝ }
+pub fn is_container(nodes: &[u8], node: u32, version: u32) -> bool
+    ensures { λ r. ⌜ r ≡ insideContainer (partsOf version (now (nodes .entry)) [] [] []) node ⌝ }
 {
-    let at = node as usize;
-    if nodes.len() / 40 <= at {
+    if !image::is_inside(image::node_count(nodes, version), node) {
         return false;
     }
-    if node == image::NONE {
-        return false;
-    }
-    image::part_word(nodes, at * 10 + 2) == 1
+    image::node_word(nodes, version, node as usize, NodeRecord::TAG) == tag::CONTAINER
 }
 
-// Whether the text of named entry `at` comes after that of the entry before it, if it has a place after the first.
-fn follows_last(named: &[u8], strings: &[u8], at: usize, place: usize) -> bool
-    requires { ⌜ (place ≤ at) × (12 * at + 12 ≤ length (now named)) ⌝ }
-    ensures { λ r. ⌜ r ≡ follows (now (named .entry)) (now (strings .entry)) at place ⌝ }
+// The refusal of the named entry that stands at `place` among those of container `id`, which start at `first`, or 0.
+fn named_rule(
+    nodes: &[u8],
+    named: &[u8],
+    strings: &[u8],
+    id: usize,
+    first: usize,
+    place: usize,
+    version: u32,
+) -> u32
+    requires { ⌜ textEntrySize * (first + place) + textEntrySize ≤ length (now named) ⌝ }
+    requires { ⌜ first ≡ f (partsOf version (now nodes) [] (now named) (now strings)) id 5 ⌝ }
+    ensures { λ r. ⌜ r ≡ namedRule (partsOf version (now (nodes .entry)) [] (now (named .entry)) (now (strings .entry))) id place ⌝ }
 {
-    if place == 0 {
-        return true;
-    }
-    let last = image::text_entry(named, at - 1);
-    let entry = image::text_entry(named, at);
-    let order = texts::compare(
-        image::text_part(strings, last.offset, last.len),
-        image::text_part(strings, entry.offset, entry.len),
-    );
-    match order {
-        Order::Less => true,
-        Order::Equal => false,
-        Order::Greater => false,
-    }
-}
-
-// The refusal of named entry `at`, which stands at `place` among those of container `id`, or 0. The text before it is good.
-fn named_rule(nodes: &[u8], named: &[u8], strings: &[u8], id: usize, at: usize, place: usize) -> u32
-    requires { ⌜ 12 * at + 12 ≤ length (now named) ⌝ }
-    requires { ⌜ at ≡ f (partsOf (now nodes) [] (now named) (now strings)) id 5 + place ⌝ }
-    requires { ⌜ LastGood (partsOf (now nodes) [] (now named) (now strings)) id place ⌝ }
-    ensures { λ r. ⌜ r ≡ namedRule (partsOf (now (nodes .entry)) [] (now (named .entry)) (now (strings .entry))) id place ⌝ }
-{
-    let entry = image::text_entry(named, at);
+    let entry = image::text_entry(named, first + place);
     if !image::good_text(strings, entry.offset, entry.len) {
         return refusal::BAD_CHILD;
     }
-    if !follows_last(named, strings, at, place) {
+    if !image::order::entry_rises(named, strings, first, place) {
         return refusal::BAD_CHILD;
     }
-    if !is_container(nodes, entry.value) {
+    if !is_container(nodes, entry.value, version) {
         return refusal::BAD_NODE;
     }
-    if image::part_word(nodes, entry.value as usize * 10) as usize == id {
+    if image::node_word(nodes, version, entry.value as usize, NodeRecord::PARENT) as usize == id {
         0
     } else {
         refusal::BAD_CHILD
@@ -97,15 +77,16 @@ fn push_children(
     work: &mut [u32],
     base: usize,
     depth: usize,
+    version: u32,
 ) -> u32
-    requires { ⌜ start ≡ f (partsOf (now nodes) (now children) [] []) id 3 ⌝ }
-    requires { ⌜ (start + count ≤ childCount (partsOf (now nodes) (now children) [] [])) × (base + depth + count ≤ length (now work)) ⌝ }
-    ensures { λ r. ⌜ ChildrenPushed (now (nodes .entry)) (now (children .entry)) id count base depth (now (work .entry)) (now (work .exit)) r ⌝ }
+    requires { ⌜ start ≡ f (partsOf version (now nodes) (now children) [] []) id 3 ⌝ }
+    requires { ⌜ (start + count ≤ childCount (partsOf version (now nodes) (now children) [] [])) × (base + depth + count ≤ length (now work)) ⌝ }
+    ensures { λ r. ⌜ ChildrenPushed version (now (nodes .entry)) (now (children .entry)) id count base depth (now (work .entry)) (now (work .exit)) r ⌝ }
 {
     let mut j = 0;
     while j < count {
         let child = image::part_word(children, start + j);
-        if !right_child(nodes, child, id, j) {
+        if !right_child(nodes, child, id, j, version) {
             return refusal::BAD_CHILD;
         }
         work[base + depth + j] = child;
@@ -125,19 +106,20 @@ fn push_named(
     work: &mut [u32],
     base: usize,
     depth: usize,
+    version: u32,
 ) -> u32
-    requires { ⌜ start ≡ f (partsOf (now nodes) [] (now named) (now strings)) id 5 ⌝ }
-    requires { ⌜ (start + count ≤ namedCount (partsOf (now nodes) [] (now named) (now strings))) × (base + depth + count ≤ length (now work)) ⌝ }
-    ensures { λ r. ⌜ NamedPushed (now (nodes .entry)) (now (named .entry)) (now (strings .entry)) id count base depth (now (work .entry)) (now (work .exit)) r ⌝ }
+    requires { ⌜ start ≡ f (partsOf version (now nodes) [] (now named) (now strings)) id 5 ⌝ }
+    requires { ⌜ (start + count ≤ namedCount (partsOf version (now nodes) [] (now named) (now strings))) × (base + depth + count ≤ length (now work)) ⌝ }
+    ensures { λ r. ⌜ NamedPushed version (now (nodes .entry)) (now (named .entry)) (now (strings .entry)) id count base depth (now (work .entry)) (now (work .exit)) r ⌝ }
 {
     let mut j = 0;
     while j < count {
-        let at = start + j;
-        let refused = named_rule(nodes, named, strings, id, at, j);
+        let refused = named_rule(nodes, named, strings, id, start, j, version);
         if refused != 0 {
             return refused;
         }
-        work[base + depth + j] = image::part_word(named, at * 3 + 2);
+        let entry = image::text_entry(named, start + j);
+        work[base + depth + j] = entry.value;
         j += 1;
     }
     0
@@ -159,19 +141,31 @@ fn enter(
     work: &mut [u32],
     base: usize,
     depth: usize,
+    version: u32,
 ) -> Step
-    requires { ⌜ Fit (partsOf (now nodes) (now children) (now named) (now strings)) ⌝ }
-    requires { ⌜ id < nodeCount (partsOf (now nodes) (now children) (now named) (now strings)) ⌝ }
-    requires { ⌜ base + depth + length (reverse (entryNodes (partsOf (now nodes) (now children) (now named) (now strings)) id)) ≤ length (now work) ⌝ }
-    ensures { λ r. ⌜ NodeEntered (partsOf (now (nodes .entry)) (now (children .entry)) (now (named .entry)) (now (strings .entry))) id base depth (now (work .entry)) (now (work .exit)) (r .refused) (r .depth) ⌝ }
+    requires { ⌜ Fit (partsOf version (now nodes) (now children) (now named) (now strings)) ⌝ }
+    requires { ⌜ id < nodeCount (partsOf version (now nodes) (now children) (now named) (now strings)) ⌝ }
+    requires { ⌜ base + depth + length (reverse (entryNodes (partsOf version (now nodes) (now children) (now named) (now strings)) id)) ≤ length (now work) ⌝ }
+    ensures { λ r. ⌜ (let s = partsOf version (now (nodes .entry)) (now (children .entry)) (now (named .entry)) (now (strings .entry)) in
+        NodeEntered s id base depth (now (work .entry)) (now (work .exit)) (r .refused) (r .depth)) ⌝ }
 {
-    let node = image::node_record(nodes, id);
-    if node.tag != 1 {
+    let node = image::node_record(nodes, version, id);
+    if node.tag != tag::CONTAINER {
         return Step { refused: 0, depth };
     }
     let start = node.f3 as usize;
     let ordered = node.f4 as usize;
-    let first = push_children(nodes, children, id, start, ordered, work, base, depth);
+    let first = push_children(
+        nodes,
+        children,
+        id,
+        start,
+        ordered,
+        work,
+        base,
+        depth,
+        version,
+    );
     if first != 0 {
         return Step {
             refused: first,
@@ -181,7 +175,18 @@ fn enter(
     let start = node.f5 as usize;
     let count = node.f6 as usize;
     let top = depth + ordered;
-    let second = push_named(nodes, named, strings, id, start, count, work, base, top);
+    let second = push_named(
+        nodes,
+        named,
+        strings,
+        id,
+        start,
+        count,
+        work,
+        base,
+        top,
+        version,
+    );
     Step {
         refused: second,
         depth: top + count,
@@ -223,12 +228,14 @@ fn walk(
     strings: &[u8],
     work: &mut [u32],
     count: usize,
+    version: u32,
 ) -> u32
-    requires { ⌜ Fit (partsOf (now nodes) (now children) (now named) (now strings)) ⌝ }
-    requires { ⌜ count ≡ nodeCount (partsOf (now nodes) (now children) (now named) (now strings)) ⌝ }
-    requires { ⌜ treeWords (partsOf (now nodes) (now children) (now named) (now strings)) ≤ length (now work) ⌝ }
+    requires { ⌜ Fit (partsOf version (now nodes) (now children) (now named) (now strings)) ⌝ }
+    requires { ⌜ count ≡ nodeCount (partsOf version (now nodes) (now children) (now named) (now strings)) ⌝ }
+    requires { ⌜ treeWords (partsOf version (now nodes) (now children) (now named) (now strings)) ≤ length (now work) ⌝ }
     requires { ⌜ ((i : ℕ) → i < count → getD (now work) i 0 ≡ 0) ⌝ }
-    ensures { λ r. ⌜ LoadWalkResult (partsOf (now (nodes .entry)) (now (children .entry)) (now (named .entry)) (now (strings .entry))) (now (work .entry)) (now (work .exit)) r ⌝ }
+    ensures { λ r. ⌜ (let s = partsOf version (now (nodes .entry)) (now (children .entry)) (now (named .entry)) (now (strings .entry)) in
+        LoadWalkResult s (now (work .entry)) (now (work .exit)) r) ⌝ }
 {
     work[count] = 0;
     let mut depth = 1;
@@ -237,7 +244,17 @@ fn walk(
         let id = work[count + depth] as usize;
         if work[id] == 0 {
             work[id] = 1;
-            let step = enter(nodes, children, named, strings, id, work, count, depth);
+            let step = enter(
+                nodes,
+                children,
+                named,
+                strings,
+                id,
+                work,
+                count,
+                depth,
+                version,
+            );
             if step.refused != 0 {
                 return step.refused;
             }
@@ -254,15 +271,17 @@ pub fn tree_rule(
     named: &[u8],
     strings: &[u8],
     work: &mut [u32],
+    version: u32,
 ) -> u32
-    requires { ⌜ Fit (partsOf (now nodes) (now children) (now named) (now strings)) ⌝ }
-    requires { ⌜ treeWords (partsOf (now nodes) (now children) (now named) (now strings)) ≤ length (now work) ⌝ }
-    ensures answer { λ r. ⌜ r ≡ treeRule (partsOf (now (nodes .entry)) (now (children .entry)) (now (named .entry)) (now (strings .entry))) ⌝ }
-    ensures rest { λ r. ⌜ drop (treeWords (partsOf (now (nodes .entry)) (now (children .entry)) (now (named .entry)) (now (strings .entry)))) (now (work .exit)) ≡ drop (treeWords (partsOf (now (nodes .entry)) (now (children .entry)) (now (named .entry)) (now (strings .entry)))) (now (work .entry)) ⌝ }
+    requires { ⌜ Fit (partsOf version (now nodes) (now children) (now named) (now strings)) ⌝ }
+    requires { ⌜ treeWords (partsOf version (now nodes) (now children) (now named) (now strings)) ≤ length (now work) ⌝ }
+    ensures answer { λ r. ⌜ r ≡ treeRule (partsOf version (now (nodes .entry)) (now (children .entry)) (now (named .entry)) (now (strings .entry))) ⌝ }
+    ensures rest { λ r. ⌜ (let s = partsOf version (now (nodes .entry)) (now (children .entry)) (now (named .entry)) (now (strings .entry)) in
+        drop (treeWords s) (now (work .exit)) ≡ drop (treeWords s) (now (work .entry))) ⌝ }
 {
-    let count = nodes.len() / 40;
+    let count = image::node_count(nodes, version);
     clear(work, count);
-    let refused = walk(nodes, children, named, strings, work, count);
+    let refused = walk(nodes, children, named, strings, work, count, version);
     if refused != 0 {
         return refused;
     }

@@ -7,6 +7,7 @@ use borrow.Author.Needs.{needs}
 use borrow.Author.Tests.{eq-eqb, ne-eqb}
 use Rattle.laws.specs.Refusal.{firstOf, unless}
 use Rattle.index.specs.Definitions.{numberOfItems, itemsBefore, definitionRule}
+use Rattle.image.specs.Sections.{textEntrySize}
 use Rattle.index.specs.Parts.{definitionParts}
 use Rattle.index.proofs.Readers.{definitions-stop, definitions-end, used-more, used-inside}
 use Rattle.index.proofs.RuleRuns.{sum-starts, run-starts, run-goes}
@@ -35,23 +36,17 @@ returns c =
     let here = c .before .before .before .loop in
     definitions-stop (at .definitions .now) (at .items .now) (at .strings .now) (here .d) (c .before .definition-rule .result) (c .before .before .loop-test .taken) (here .inv .2) (c .before .definition-rule .ensures) (c .if1 .taken)
 
-mul-part-word : tie.Need-mul-part-word Inv-loop μ-loop
-mul-part-word c = search needs
-
-add-part-word : tie.Need-add-part-word Inv-loop μ-loop
-add-part-word c = search needs
-
-part-word-requires : tie.Need-part-word-requires Inv-loop μ-loop
-part-word-requires c κs = search needs
+definition-at-requires : tie.Need-definition-at-requires Inv-loop μ-loop
+definition-at-requires c κs = search needs
 
 cast-used : tie.Need-cast-used Inv-loop μ-loop
 cast-used c = search needs
 
 add-used : tie.Need-add-used Inv-loop μ-loop
 add-used c =
-    let at = c .before .before .before .before .before .before .before .before .args in
-    let here = c .before .before .before .before .loop in
-    omega (arith, used-inside (at .definitions .now) (at .items .now) (at .strings .now) (here .d) (here .used) (c .part-word .result) (here .inv .1) (c .part-word .ensures) (sym (c .before .before .definition-rule .ensures) ∙ c .before .if1 .left))
+    let at = c .before .before .before .before .before .before .before .before .before .args in
+    let here = c .before .before .before .before .before .loop in
+    omega (arith, used-inside (at .definitions .now) (at .items .now) (at .strings .now) (here .d) (here .used) (c .before .definition-at .result) (here .inv .1) (c .before .definition-at .ensures) (sym (c .before .before .before .definition-rule .ensures) ∙ c .before .before .if1 .left))
 
 add-d : tie.Need-add-d Inv-loop μ-loop
 add-d c = search needs
@@ -61,11 +56,11 @@ loop-less c = search needs
 
 loop-again : tie.Need-loop-again Inv-loop μ-loop
 loop-again c =
-    let at = c .before .before .before .before .before .before .before .before .args in
-    let here = c .before .before .before .before .loop in (
+    let at = c .before .before .before .before .before .before .before .before .before .args in
+    let here = c .before .before .before .before .before .loop in (
       search needs,
-      used-more (at .definitions .now) (at .items .now) (at .strings .now) (here .d) (here .used) (c .part-word .result) (here .inv .1) (c .part-word .ensures),
-      run-goes (here .d) (c .before .before .definition-rule .result) (definitionRule (definitionParts (at .definitions .now) (at .items .now) (at .strings .now))) (here .inv .2) (c .before .before .definition-rule .ensures) (c .before .if1 .left),
+      used-more (at .definitions .now) (at .items .now) (at .strings .now) (here .d) (here .used) (c .before .definition-at .result) (here .inv .1) (c .before .definition-at .ensures),
+      run-goes (here .d) (c .before .before .before .definition-rule .result) (definitionRule (definitionParts (at .definitions .now) (at .items .now) (at .strings .now))) (here .inv .2) (c .before .before .before .definition-rule .ensures) (c .before .before .if1 .left),
     )
 
 returns-2 : tie.Need-returns-2 Inv-loop μ-loop
@@ -74,7 +69,7 @@ returns-2 c =
     let at = c .before .before .before .before .before .before .args in
     let here = c .before .before .loop in
     sym (definitions-end (at .definitions .now) (at .items .now) (at .strings .now) (here .d) (here .used) (here .inv .0) (c .before .loop-test .left) (here .inv .1) (here .inv .2)
-    ∙ rw (eq-eqb (here .used) (length (at .items .now) / 12) (c .if2 .taken)))
+    ∙ rw (eq-eqb (here .used) (length (at .items .now) / textEntrySize) (c .if2 .taken)))
 
 returns-3 : tie.Need-returns-3 Inv-loop μ-loop
 unfolding unless
@@ -82,7 +77,7 @@ returns-3 c =
     let at = c .before .before .before .before .before .before .args in
     let here = c .before .before .loop in
     sym (definitions-end (at .definitions .now) (at .items .now) (at .strings .now) (here .d) (here .used) (here .inv .0) (c .before .loop-test .left) (here .inv .1) (here .inv .2)
-    ∙ rw (ne-eqb (here .used) (length (at .items .now) / 12) (c .if2 .left)))
+    ∙ rw (ne-eqb (here .used) (length (at .items .now) / textEntrySize) (c .if2 .left)))
 
 pub definitions-rule-spec : {M : Type 1} → statement M
 definitions-rule-spec =
@@ -93,9 +88,7 @@ definitions-rule-spec =
     loop-holds
     definition-rule-requires
     returns
-    mul-part-word
-    add-part-word
-    part-word-requires
+    definition-at-requires
     cast-used
     add-used
     add-d

@@ -10,7 +10,8 @@ use Rattle.laws.specs.Refusal.{unless, _▸_}
 use Rattle.words.specs.Words.{wordsOf}
 use Rattle.tree.specs.Parts.{partsOf}
 use Rattle.index.specs.Index.{indexEntryRule}
-use Rattle.index.specs.Parts.{indexParts, entryTextFrom}
+use Rattle.image.specs.Entries.{entryTextFrom}
+use Rattle.index.specs.Parts.{indexParts}
 use Rattle.index.proofs.Index.{container-like, fits-like}
 use Rattle.index.proofs.Readers.{index-by, index-past}
 use borrow.Author.Needs.{needs}
@@ -20,7 +21,7 @@ use Rattle.index.proofs.index_entry_rule.Tie as tie
 -- the text is good and the target a container
 module _ (c : tie.Else2) where
   abbrev whole : Sections
-  whole = indexParts (c .before .before .before .before .before .before .before .before .args .nodes .now) (c .before .before .before .before .before .before .before .before .args .index .now) (c .before .before .before .before .before .before .before .before .args .strings .now)
+  whole = indexParts (c .before .before .before .before .before .before .before .before .args .version) (c .before .before .before .before .before .before .before .before .args .nodes .now) (c .before .before .before .before .before .before .before .before .args .index .now) (c .before .before .before .before .before .before .before .before .args .strings .now)
 
   abbrev entry : TextEntry
   entry = c .before .before .before .before .text-entry .result
@@ -33,7 +34,7 @@ module _ (c : tie.Else2) where
       let good = c .before .before .before .good-text in
       let there = c .before .is-container in
       index-past whole (wordsOf (at .index .now)) (at .j) entry (good .result) (there .result) refl (c .before .before .before .before .text-entry .ensures) (good .ensures)
-      (there .ensures ∙ container-like (partsOf (at .nodes .now) [] [] []) whole refl refl (entry .value))
+      (there .ensures ∙ container-like (partsOf (at .version) (at .nodes .now) [] [] []) whole refl refl (entry .value))
       (not-false (good .result) (c .before .before .if1 .left)) (not-false (there .result) (c .if2 .left))
 
 -- and it comes after the one before it
@@ -41,8 +42,8 @@ past-order : (c : tie.After-matches-canonical-path) → indexEntryRule (whole (c
 unfolding unless _▸_
 past-order c =
     let at = c .before .before .before .before in
-    let rises = c .before .before .before .rises in
-    let nodes = indexParts (c .before .before .before .before .before .before .before .before .before .before .before .before .args .nodes .now) [] (c .before .before .before .before .before .before .before .before .before .before .before .before .args .strings .now) in
+    let rises = c .before .before .before .entry-rises in
+    let nodes = indexParts (c .before .before .before .before .before .before .before .before .before .before .before .before .args .version) (c .before .before .before .before .before .before .before .before .before .before .before .before .args .nodes .now) [] (c .before .before .before .before .before .before .before .before .before .before .before .before .args .strings .now) in
     past-target at
     ∙ rw (← rises .ensures, not-false (rises .result) (c .before .before .if3 .left), ← c .before .text-bytes .ensures, ← fits-like nodes (whole at) refl refl refl (entry at .value) _, ← c .matches-canonical-path .ensures)
 
@@ -57,7 +58,7 @@ unfolding unless _▸_
 returns c =
     let at = c .before .before .before .before .before .before .args in
     let good = c .before .good-text in
-    let s = indexParts (at .nodes .now) (at .index .now) (at .strings .now) in
+    let s = indexParts (at .version) (at .nodes .now) (at .index .now) (at .strings .now) in
     sym (index-by s (wordsOf (at .index .now)) (at .j) (c .before .before .text-entry .result) (good .result) _ _ _ refl (c .before .before .text-entry .ensures) (good .ensures) refl refl refl
     ∙ rw (not-true (good .result) (c .if1 .taken)))
 
@@ -71,18 +72,18 @@ returns-2 c =
     let good = c .before .before .before .good-text in
     let there = c .before .is-container in
     let entry = c .before .before .before .before .text-entry in
-    let s = indexParts (at .nodes .now) (at .index .now) (at .strings .now) in
+    let s = indexParts (at .version) (at .nodes .now) (at .index .now) (at .strings .now) in
     sym (index-by s (wordsOf (at .index .now)) (at .j) (entry .result) (good .result) (there .result) _ _ refl (entry .ensures) (good .ensures)
-    (there .ensures ∙ container-like (partsOf (at .nodes .now) [] [] []) s refl refl (entry .result .value)) refl refl
+    (there .ensures ∙ container-like (partsOf (at .version) (at .nodes .now) [] [] []) s refl refl (entry .result .value)) refl refl
     ∙ rw (not-false (good .result) (c .before .before .if1 .left), not-true (there .result) (c .if2 .taken)))
 
-rises-requires : tie.Need-rises-requires
-rises-requires c κs = search needs
+entry-rises-requires : tie.Need-entry-rises-requires
+entry-rises-requires c κs = search needs
 
 returns-3 : tie.Need-returns-3
 unfolding unless _▸_
 returns-3 c =
-    let rises = c .before .rises in
+    let rises = c .before .entry-rises in
     sym (past-target (c .before .before) ∙ rw (← rises .ensures, not-true (rises .result) (c .if3 .taken)))
 
 text-bytes-requires : tie.Need-text-bytes-requires
@@ -108,7 +109,7 @@ index-entry-rule-spec =
     returns
     is-container-requires
     returns-2
-    rises-requires
+    entry-rises-requires
     returns-3
     text-bytes-requires
     matches-canonical-path-requires

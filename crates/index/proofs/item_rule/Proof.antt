@@ -26,16 +26,16 @@ returns c =
     let at = c .before .before .before .before .before .args in
     sym (item-by (definitionParts [] (at .items .now) (at .strings .now)) (wordsOf (at .items .now)) (at .first) (at .place) (c .before .before .text-entry .result) (c .before .good-text .result) _ refl (c .before .before .text-entry .ensures) (c .before .good-text .ensures) refl ∙ rw (not-true (c .before .good-text .result) (c .if1 .taken)))
 
-rises-requires : tie.Need-rises-requires
-rises-requires c κs = search needs
+entry-rises-requires : tie.Need-entry-rises-requires
+entry-rises-requires c κs = search needs
 
 -- the text is good
-last-test : (c : tie.After-rises) → itemRuleFrom (definitionParts [] (c .before .before .before .before .before .before .args .items .now) (c .before .before .before .before .before .before .args .strings .now)) (c .before .before .before .before .before .before .args .first) (c .before .before .before .before .before .before .args .place) ≡ unless (c .rises .result) 17
+last-test : (c : tie.After-entry-rises) → itemRuleFrom (definitionParts [] (c .before .before .before .before .before .before .args .items .now) (c .before .before .before .before .before .before .args .strings .now)) (c .before .before .before .before .before .before .args .first) (c .before .before .before .before .before .before .args .place) ≡ unless (c .entry-rises .result) 17
 unfolding unless _▸_
 last-test c =
     let at = c .before .before .before .before .before .before .args in
-    item-by (definitionParts [] (at .items .now) (at .strings .now)) (wordsOf (at .items .now)) (at .first) (at .place) (c .before .before .before .text-entry .result) (c .before .before .good-text .result) (c .rises .result)
-    refl (c .before .before .before .text-entry .ensures) (c .before .before .good-text .ensures) (c .rises .ensures)
+    item-by (definitionParts [] (at .items .now) (at .strings .now)) (wordsOf (at .items .now)) (at .first) (at .place) (c .before .before .before .text-entry .result) (c .before .before .good-text .result) (c .entry-rises .result)
+    refl (c .before .before .before .text-entry .ensures) (c .before .before .good-text .ensures) (c .entry-rises .ensures)
     ∙ rw (not-false (c .before .before .good-text .result) (c .before .if1 .left))
 
 returns-2 : tie.Need-returns-2
@@ -54,6 +54,6 @@ item-rule-spec =
     text-entry-requires
     good-text-requires
     returns
-    rises-requires
+    entry-rises-requires
     returns-2
     returns-3)

@@ -7,8 +7,7 @@ use mathlib.Core.Bool.{Bool}
 use lib.ListN.{length, take}
 use lib.Seq.{take-length, length-take-le}
 use borrow.Author.Tests.{not-true, not-false}
-use Rattle.words.proofs.Words.{length-words}
-use Rattle.image.specs.Sections.{Sections, nodeCount}
+use Rattle.image.specs.Sections.{Sections}
 use Rattle.index.specs.Paths.{fitsPath, fits}
 use Rattle.index.specs.Parts.{indexParts}
 use Rattle.index.proofs.Suffix.{empty-part}
@@ -19,11 +18,11 @@ use Rattle.index.proofs.matches_canonical_path.Statement.{statement}
 use Rattle.index.proofs.matches_canonical_path.Tie as tie
 
 abbrev Inv-loop : tie.InvT-loop
-Inv-loop nodes strings id text steps₀ at₀ end₀ steps at end =
-    (end ≤ length text) × (fits (indexParts nodes [] strings) id text ≡ fitsFrom steps (indexParts nodes [] strings) at (take end text))
+Inv-loop nodes strings id text version steps₀ at₀ end₀ steps at end =
+    (end ≤ length text) × (fits (indexParts version nodes [] strings) id text ≡ fitsFrom steps (indexParts version nodes [] strings) at (take end text))
 
 abbrev μ-loop : tie.MeasureT-loop
-μ-loop nodes strings id text steps₀ at₀ end₀ steps at end = steps
+μ-loop nodes strings id text version steps₀ at₀ end₀ steps at end = steps
 
 -- a node has been read
 module _ (c : tie.After-path-node Inv-loop μ-loop) where
@@ -31,20 +30,20 @@ module _ (c : tie.After-path-node Inv-loop μ-loop) where
   here = c .before .before .before
 
   abbrev whole : Sections
-  whole = indexParts (here .before .before .before .before .args .nodes .now) [] (here .before .before .before .before .args .strings .now)
+  whole = indexParts (here .before .before .before .before .before .args .version) (here .before .before .before .before .before .args .nodes .now) [] (here .before .before .before .before .before .args .strings .now)
 
   abbrev text : List ℕ
-  text = here .before .before .before .before .args .text .now
+  text = here .before .before .before .before .before .args .text .now
 
   reached : Reached whole text (here .loop .steps - 1) (here .loop .at) (here .loop .end) (c .path-node .result)
   reached =
       record {
         away = c .before .before .loop-test .taken;
-        read = c .path-node .ensures ∙ path-node-like (indexParts (here .before .before .before .before .args .nodes .now) [] []) whole refl refl (here .loop .at);
+        read = c .path-node .ensures ∙ path-node-like (indexParts (here .before .before .before .before .before .args .version) (here .before .before .before .before .before .args .nodes .now) [] []) whole refl refl (here .loop .at);
         inside = here .loop .inv .0;
       }
 
-  left : fits whole (here .before .before .before .before .args .id) text ≡ fitsFrom (suc (here .loop .steps - 1)) whole (here .loop .at) (take (here .loop .end) text)
+  left : fits whole (here .before .before .before .before .before .args .id) text ≡ fitsFrom (suc (here .loop .steps - 1)) whole (here .loop .at) (take (here .loop .end) text)
   left = here .loop .inv .1 ∙ ap (λ (n : ℕ). fitsFrom n whole (here .loop .at) (take (here .loop .end) text)) (omega arith)
 
 -- its piece is found
@@ -63,18 +62,20 @@ module _ (c : tie.Else3 Inv-loop μ-loop) where
         like = sym (c .before .is-piece .ensures) ∙ not-false (c .before .is-piece .result) (c .if3 .left);
       }
 
+node-count-requires : tie.Need-node-count-requires Inv-loop μ-loop
+node-count-requires c κs = search needs
+
 loop-holds : tie.Need-loop-holds Inv-loop μ-loop
 loop-holds c =
-    let at = c .before .before .before .args in
-    let s = indexParts (at .nodes .now) [] (at .strings .now) in
-    let n : nodeCount s ≡ length (at .nodes .now) / 40 = omega (arith, length-words (at .nodes .now)) in
-    (search needs, rw (← n, take-length) (whole-fits s (at .id) (at .text .now)))
+    let at = c .before .before .before .before .args in
+    let s = indexParts (at .version) (at .nodes .now) [] (at .strings .now) in
+    (search needs, rw (c .node-count .ensures, take-length) (whole-fits s (at .id) (at .text .now)))
 
 returns : tie.Need-returns Inv-loop μ-loop
 returns c =
-    let at = c .before .before .before .before .before .before .args in
+    let at = c .before .before .before .before .before .before .before .args in
     let loop = c .before .before .loop in
-    let s = indexParts (at .nodes .now) [] (at .strings .now) in
+    let s = indexParts (at .version) (at .nodes .now) [] (at .strings .now) in
     sym (loop .inv .1
     ∙ ap (λ (n : ℕ). fitsFrom n s (loop .at) (take (loop .end) (at .text .now))) (c .if1 .taken)
     ∙ fits-bound s (loop .at) (take (loop .end) (at .text .now))
@@ -157,9 +158,9 @@ loop-again c =
 
 returns-7 : tie.Need-returns-7 Inv-loop μ-loop
 returns-7 c =
-    let at = c .before .before .before .before .before .args in
+    let at = c .before .before .before .before .before .before .args in
     let loop = c .before .loop in
-    let s = indexParts (at .nodes .now) [] (at .strings .now) in
+    let s = indexParts (at .version) (at .nodes .now) [] (at .strings .now) in
     sym (loop .inv .1
     ∙ fits-root s (loop .steps) (loop .at) (take (loop .end) (at .text .now)) (c .loop-test .left)
     ∙ empty-part (at .text .now) (loop .end) (loop .inv .0))
@@ -170,6 +171,7 @@ matches-canonical-path-spec =
     (tie.spec
     Inv-loop
     μ-loop
+    node-count-requires
     loop-holds
     returns
     sub-steps

@@ -1,48 +1,32 @@
 -- `index::path_node` meets its contract.
-use Rattle.index.proofs.Readers.{node-words}
-use borrow.Author.Needs.{needs}
+use native.Mathlib.Omega.{arith}
+use Rattle.image.specs.Sections.{nodeWord}
+use Rattle.image.proofs.Widths.{words-some}
 use Rattle.index.proofs.path_node.Statement.{statement}
 use Rattle.index.proofs.path_node.Tie as tie
 
-mul-first : tie.Need-mul-first
-mul-first c = search needs
+node-word-or-zero-requires : tie.Need-node-word-or-zero-requires
+node-word-or-zero-requires c κs = omega (arith, words-some (c .before .args .version))
 
-get-requires : tie.Need-get-requires
-get-requires c κs = search needs
+node-word-or-zero-requires-2 : tie.Need-node-word-or-zero-requires-2
+node-word-or-zero-requires-2 c κs = omega (arith, words-some (c .before .before .args .version))
 
-add-get : tie.Need-add-get
-add-get c = search needs
+node-word-or-zero-requires-3 : tie.Need-node-word-or-zero-requires-3
+node-word-or-zero-requires-3 c κs = omega (arith, words-some (c .before .before .before .args .version))
 
-get-requires-2 : tie.Need-get-requires-2
-get-requires-2 c κs = search needs
-
-add-get-2 : tie.Need-add-get-2
-add-get-2 c = search needs
-
-get-requires-3 : tie.Need-get-requires-3
-get-requires-3 c κs = search needs
-
-add-get-3 : tie.Need-add-get-3
-add-get-3 c = search needs
-
-get-requires-4 : tie.Need-get-requires-4
-get-requires-4 c κs = search needs
+node-word-or-zero-requires-4 : tie.Need-node-word-or-zero-requires-4
+node-word-or-zero-requires-4 c κs = omega (arith, words-some (c .before .before .before .before .args .version))
 
 returns : tie.Need-returns
-returns c =
-    let at = c .before .before .before .before .before .args in
-    cc (node-words (at .nodes .now) (at .at))
+unfolding nodeWord
+returns c = cc
 
 pub path-node-spec : {M : Type 1} → statement M
 path-node-spec =
     tie.close
     (tie.spec
-    mul-first
-    get-requires
-    add-get
-    get-requires-2
-    add-get-2
-    get-requires-3
-    add-get-3
-    get-requires-4
+    node-word-or-zero-requires
+    node-word-or-zero-requires-2
+    node-word-or-zero-requires-3
+    node-word-or-zero-requires-4
     returns)

@@ -14,11 +14,11 @@ use Rattle.tree.proofs.push_children.Statement.{statement}
 use Rattle.tree.proofs.push_children.Tie as tie
 
 abbrev Inv-loop : tie.InvT-loop
-Inv-loop nodes children id start count work₀ base depth j₀ work j =
-    Pushing (childRule (partsOf nodes children [] []) id) (childAt (partsOf nodes children [] []) id) count base depth work₀ work j
+Inv-loop nodes children id start count work₀ base depth version j₀ work j =
+    Pushing (childRule (partsOf version nodes children [] []) id) (childAt (partsOf version nodes children [] []) id) count base depth work₀ work j
 
 abbrev μ-loop : tie.MeasureT-loop
-μ-loop nodes children id start count work₀ base depth j₀ work j = count - j
+μ-loop nodes children id start count work₀ base depth version j₀ work j = count - j
 
 loop-holds : tie.Need-loop-holds Inv-loop μ-loop
 loop-holds c = push-start _ _ _ _ _ _
@@ -38,7 +38,7 @@ same-length c = search needs
 returns : tie.Need-returns Inv-loop μ-loop
 returns c =
     push-stop _ _ _ _ _ _ _ _ (c .before .before .before .before .loop .inv) _ (c .before .before .before .loop-test .taken) (λ e. omega arith)
-    (child-fails _ _ _ _ _ _ (c .before .before .before .before .before .before .before .before .pre .0) (c .before .before .part-word .ensures) (sym (c .before .right-child .ensures) ∙ not-true _ (c .if1 .taken)))
+    (child-fails _ _ _ _ _ _ _ (c .before .before .before .before .before .before .before .before .pre .0) (c .before .before .part-word .ensures) (sym (c .before .right-child .ensures) ∙ not-true _ (c .if1 .taken)))
 
 add-work : tie.Need-add-work Inv-loop μ-loop
 add-work c = search needs
@@ -61,8 +61,8 @@ loop-less c = search needs
 loop-again : tie.Need-loop-again Inv-loop μ-loop
 loop-again c =
     push-more _ _ _ _ _ _ _ _ (c .before .before .before .before .loop .inv) _ _ (c .before .before .before .loop-test .taken) (c .before .before .before .before .before .before .before .before .pre .1 .1)
-    (child-is _ _ _ _ _ _ (c .before .before .before .before .before .before .before .before .pre .0) (c .before .before .part-word .ensures))
-    (child-passes _ _ _ _ _ _ (c .before .before .before .before .before .before .before .before .pre .0) (c .before .before .part-word .ensures) (sym (c .before .right-child .ensures) ∙ not-false _ (c .if1 .left)))
+    (child-is _ _ _ _ _ _ _ (c .before .before .before .before .before .before .before .before .pre .0) (c .before .before .part-word .ensures))
+    (child-passes _ _ _ _ _ _ _ (c .before .before .before .before .before .before .before .before .pre .0) (c .before .before .part-word .ensures) (sym (c .before .right-child .ensures) ∙ not-false _ (c .if1 .left)))
     (omega arith)
 
 same-length-2 : tie.Need-same-length-2 Inv-loop μ-loop

@@ -7,27 +7,25 @@ use Rattle.words.proofs.Words.{length-words}
 use Rattle.tree.specs.Tree.{namedRule}
 use Rattle.tree.specs.Parts.{partsOf, namedNode}
 use Rattle.tree.proofs.Stack.{Pushing, push-start, push-more, push-end, push-stop}
-use Rattle.tree.proofs.Tests.{named-is, last-good}
+use Rattle.tree.proofs.Tests.{named-is}
 use borrow.Author.Needs.{needs}
 use Rattle.tree.proofs.push_named.Statement.{statement}
 use Rattle.tree.proofs.push_named.Tie as tie
 
 abbrev Inv-loop : tie.InvT-loop
-Inv-loop nodes named strings id start count work₀ base depth j₀ work j =
-    Pushing (namedRule (partsOf nodes [] named strings) id) (namedNode (partsOf nodes [] named strings) id) count base depth work₀ work j
+Inv-loop nodes named strings id start count work₀ base depth version j₀ work j =
+    Pushing (namedRule (partsOf version nodes [] named strings) id) (namedNode (partsOf version nodes [] named strings) id) count base depth work₀ work j
 
 abbrev μ-loop : tie.MeasureT-loop
-μ-loop nodes named strings id start count work₀ base depth j₀ work j = count - j
+μ-loop nodes named strings id start count work₀ base depth version j₀ work j = count - j
 
 loop-holds : tie.Need-loop-holds Inv-loop μ-loop
 loop-holds c = push-start _ _ _ _ _ _
 
-add-at : tie.Need-add-at Inv-loop μ-loop
-add-at c = omega (arith, length-words (c .before .before .before .before .before .before .args .named .now))
-
 named-rule-requires : tie.Need-named-rule-requires Inv-loop μ-loop
 named-rule-requires c κs =
-    (omega (arith, length-words (c .before .before .before .before .before .before .args .named .now)), (omega arith, last-good _ _ _ (c .before .loop .inv .passed)))
+    let start = c .before .before .before .before .before .before in
+    (omega (arith, length-words (start .args .named .now)), start .pre .0)
 
 same-length : tie.Need-same-length Inv-loop μ-loop
 same-length c = search needs
@@ -36,14 +34,11 @@ returns : tie.Need-returns Inv-loop μ-loop
 returns c =
     push-stop _ _ _ _ _ _ _ _ (c .before .before .before .loop .inv) _ (c .before .before .loop-test .taken) (c .if1 .taken) (sym (c .before .named-rule .ensures))
 
-mul-part-word : tie.Need-mul-part-word Inv-loop μ-loop
-mul-part-word c = omega (arith, length-words (c .before .before .before .before .before .before .before .before .args .named .now))
+add-text-entry : tie.Need-add-text-entry Inv-loop μ-loop
+add-text-entry c = omega (arith, length-words (c .before .before .before .before .before .before .before .before .args .named .now))
 
-add-part-word : tie.Need-add-part-word Inv-loop μ-loop
-add-part-word c = omega (arith, length-words (c .before .before .before .before .before .before .before .before .args .named .now))
-
-part-word-requires : tie.Need-part-word-requires Inv-loop μ-loop
-part-word-requires c κs = omega (arith, length-words (c .before .before .before .before .before .before .before .before .args .named .now))
+text-entry-requires : tie.Need-text-entry-requires Inv-loop μ-loop
+text-entry-requires c κs = omega (arith, length-words (c .before .before .before .before .before .before .before .before .args .named .now))
 
 add-work : tie.Need-add-work Inv-loop μ-loop
 add-work c = search needs
@@ -66,7 +61,7 @@ loop-less c = search needs
 loop-again : tie.Need-loop-again Inv-loop μ-loop
 loop-again c =
     push-more _ _ _ _ _ _ _ _ (c .before .before .before .before .loop .inv) _ _ (c .before .before .before .loop-test .taken) (c .before .before .before .before .before .before .before .before .before .pre .1 .1)
-    (named-is _ _ _ _ _ _ _ (c .before .before .before .before .before .before .before .before .before .pre .0) (c .part-word .ensures)) (sym (c .before .before .named-rule .ensures) ∙ c .before .if1 .left) (omega arith)
+    (named-is _ _ _ _ _ _ _ _ (c .before .before .before .before .before .before .before .before .before .pre .0) (c .text-entry .ensures)) (sym (c .before .before .named-rule .ensures) ∙ c .before .if1 .left) (omega arith)
 
 same-length-2 : tie.Need-same-length-2 Inv-loop μ-loop
 same-length-2 c = search needs
@@ -81,13 +76,11 @@ push-named-spec =
     Inv-loop
     μ-loop
     loop-holds
-    add-at
     named-rule-requires
     same-length
     returns
-    mul-part-word
-    add-part-word
-    part-word-requires
+    add-text-entry
+    text-entry-requires
     add-work
     add-work-2
     mul-work

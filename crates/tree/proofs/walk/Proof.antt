@@ -10,10 +10,10 @@ use Rattle.tree.proofs.walk.Statement.{statement}
 use Rattle.tree.proofs.walk.Tie as tie
 
 abbrev Inv-loop : tie.InvT-loop
-Inv-loop nodes children named strings work₀ count depth₀ work depth = LoadWalking (partsOf nodes children named strings) count work₀ work depth
+Inv-loop nodes children named strings work₀ count version depth₀ work depth = LoadWalking (partsOf version nodes children named strings) count work₀ work depth
 
 abbrev μ-loop : tie.MeasureT-loop
-μ-loop nodes children named strings work₀ count depth₀ work depth = loadTurns (partsOf nodes children named strings) count work depth
+μ-loop nodes children named strings work₀ count version depth₀ work depth = loadTurns (partsOf version nodes children named strings) count work depth
 
 -- the function's start and the loop's head, from where the node is known
 abbrev St : tie.At-loop Inv-loop μ-loop → tie.Start Inv-loop μ-loop

@@ -7,8 +7,8 @@ use Rattle.image.proofs.encoding.put_header.Tie as tie
 cast-children : tie.Need-cast-children
 cast-children c = search needs
 
-mul-children : tie.Need-mul-children
-mul-children c = search needs
+nodes-length-requires : tie.Need-nodes-length-requires
+nodes-length-requires c κs = search needs
 
 add-children : tie.Need-add-children
 add-children c = search needs
@@ -55,8 +55,8 @@ mul-end c = search needs
 add-end : tie.Need-add-end
 add-end c = search needs
 
-cast-t14 : tie.Need-cast-t14
-cast-t14 c = search needs
+cast-t15 : tie.Need-cast-t15
+cast-t15 c = search needs
 
 put-magic-requires : tie.Need-put-magic-requires
 put-magic-requires c κs = search needs
@@ -71,14 +71,17 @@ same-length : tie.Need-same-length
 same-length c = search needs
 
 returns : tie.Need-returns
-returns c = λ s k. header-put s _ k _ _ _ _ (c .before .before .before .before .before .before .before .before .before .before .before .before .before .before .before .before .before .before .pre .0) (c .before .before .before .before .before .before .before .put-magic .ensures) (c .before .before .put-words .ensures)
+returns c =
+    let entry = c .before .before .before .before .before .before .before .before .before .before .before .before .before .before .before .before .before .before in
+    let counted = c .before .before .before .before .before .before .before .before .before .before .before .before .before .before .before .before .nodes-length .ensures in
+    λ s k. header-put _ _ s _ counted k _ _ _ _ (entry .pre .0) (c .before .before .before .before .before .before .before .put-magic .ensures) (c .before .before .put-words .ensures)
 
 pub put-header-spec : {M : Type 1} → statement M
 put-header-spec =
     tie.close
     (tie.spec
     cast-children
-    mul-children
+    nodes-length-requires
     add-children
     mul-named
     add-named
@@ -94,7 +97,7 @@ put-header-spec =
     add-strings
     mul-end
     add-end
-    cast-t14
+    cast-t15
     put-magic-requires
     slice-aggregate-put-words
     put-words-requires

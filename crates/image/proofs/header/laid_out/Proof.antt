@@ -1,24 +1,28 @@
 -- `image::header::laid_out` meets its contract. The loop's invariant: the table is that of the definition, the sections before k are right, and the last of them ends at `end`.
-use Prim.Native.Nat.{_*_, _-_, _≤_}
+use Prim.Native.Nat.{_-_}
 use native.Mathlib.Omega.{arith}
 use borrow.Author.Needs.{needs}
-use lib.ListN.{getD}
-use Rattle.words.specs.Words.{NONE}
-use mathlib.Core.Path.{_≡_, refl}
+use Rattle.words.specs.Words.{NONE, wordAt}
+use mathlib.Core.Path.{_≡_, ap, _∙_}
 use Rattle.image.specs.Header.{sizes}
-use Rattle.image.proofs.Rows.{Laid, laid-start, laid-next, laid-elsewhere, laid-past, laid-more, laid-empty, laid-right, size-bound, length-bound}
+use Rattle.image.proofs.Rows.{Laid, laid-start, laid-elsewhere, laid-more, laid-empty, laid-right, table-size, table-bound, table-past, table-next}
 use Rattle.image.proofs.header.laid_out.Statement.{statement}
 use Rattle.image.proofs.header.laid_out.Tie as tie
 
 abbrev Inv-loop : tie.InvT-loop
-Inv-loop bytes table end₀ k₀ end k = (table ≡ sizes) × Laid bytes end k
+Inv-loop bytes table end₀ k₀ end k = (table ≡ sizes (wordAt bytes 8)) × Laid bytes end k
 
 abbrev μ-loop : tie.MeasureT-loop
 μ-loop bytes table end₀ k₀ end k = 8 - k
 
+word-requires : tie.Need-word-requires Inv-loop μ-loop
+word-requires c κs = search needs
+
+section-sizes-requires : tie.Need-section-sizes-requires Inv-loop μ-loop
+section-sizes-requires c κs = search needs
+
 loop-holds : tie.Need-loop-holds Inv-loop μ-loop
-unfolding sizes
-loop-holds c = (refl, laid-start _)
+loop-holds c = (c .section-sizes .ensures ∙ ap sizes (c .before .word .ensures), laid-start _)
 
 section-at-requires : tie.Need-section-at-requires Inv-loop μ-loop
 section-at-requires c κs = search needs
@@ -41,25 +45,22 @@ array-read-end : tie.Need-array-read-end Inv-loop μ-loop
 array-read-end c = search needs
 
 cast-end-2 : tie.Need-cast-end-2 Inv-loop μ-loop
-unfolding sizes
-cast-end-2 c = omega (arith, size-bound (c .before .before .before .before .before .loop .k))
-
-bound : (c : tie.After-struct-known2 Inv-loop μ-loop) → c .before .before .before .section-at .result .count * getD sizes (c .before .before .before .before .before .loop .k) 0 ≤ NONE * 40
-bound c = length-bound (c .before .before .before .section-at .result .count) (c .before .before .before .before .before .loop .k) (omega arith)
+cast-end-2 c = let at = c .before .before .before .before .before .loop in omega (arith, table-size _ _ (at .k) (at .inv .0))
 
 mul-end-2 : tie.Need-mul-end-2 Inv-loop μ-loop
-unfolding sizes
-mul-end-2 c = omega (arith, bound c)
+mul-end-2 c =
+    let at = c .before .before .before .before .before .loop in
+    omega (arith, table-bound _ _ (c .before .before .before .section-at .result .count) (at .k) (at .inv .0) (omega arith))
 
 add-end : tie.Need-add-end Inv-loop μ-loop
-unfolding sizes
-add-end c = omega (arith, bound c)
+add-end c =
+    let at = c .before .before .before .before .before .loop in
+    omega (arith, table-bound _ _ (c .before .before .before .section-at .result .count) (at .k) (at .inv .0) (omega arith))
 
 returns-2 : tie.Need-returns-2 Inv-loop μ-loop
-unfolding sizes
 returns-2 c =
     let at = c .before .before .before .before .before .before .loop in
-    laid-past _ (at .end) (at .k) (at .inv .1) (c .before .before .before .before .section-at .result) (c .before .before .before .before .section-at .ensures) (search needs) (c .before .before .if1 .left) (c .if2 .taken)
+    table-past _ (at .end) (at .k) (at .inv .1) (c .before .before .before .before .section-at .result) (c .before .before .before .before .section-at .ensures) (search needs) _ (at .inv .0) (c .before .before .if1 .left) (c .if2 .taken)
 
 add-k : tie.Need-add-k Inv-loop μ-loop
 add-k c = search needs
@@ -68,10 +69,9 @@ loop-less : tie.Need-loop-less Inv-loop μ-loop
 loop-less c = search needs
 
 loop-again : tie.Need-loop-again Inv-loop μ-loop
-unfolding sizes
 loop-again c =
     let at = c .before .before .before .before .before .before .loop in
-    (at .inv .0, laid-next _ (at .end) (at .k) (at .inv .1) (c .before .before .before .before .section-at .result) (c .before .before .before .before .section-at .ensures) (search needs) (c .before .before .if1 .left) (c .if2 .left))
+    (at .inv .0, table-next _ (at .end) (at .k) (at .inv .1) (c .before .before .before .before .section-at .result) (c .before .before .before .before .section-at .ensures) (search needs) _ (at .inv .0) (c .before .before .if1 .left) (c .if2 .left))
 
 returns-3 : tie.Need-returns-3 Inv-loop μ-loop
 returns-3 c =
@@ -97,6 +97,8 @@ laid-out-spec =
     (tie.spec
     Inv-loop
     μ-loop
+    word-requires
+    section-sizes-requires
     loop-holds
     section-at-requires
     cast-offset

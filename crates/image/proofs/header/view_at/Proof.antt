@@ -7,6 +7,9 @@ use Rattle.image.proofs.header.view_at.Tie as tie
 word-requires : tie.Need-word-requires
 word-requires c κs = search needs
 
+word-requires-2 : tie.Need-word-requires-2
+word-requires-2 c κs = search needs
+
 section-at-requires : tie.Need-section-at-requires
 section-at-requires c κs = search needs
 
@@ -40,6 +43,7 @@ view-at-spec =
     tie.close
     (tie.spec
     word-requires
+    word-requires-2
     section-at-requires
     section-at-requires-2
     section-at-requires-3

@@ -1,11 +1,11 @@
--- `index::rises` meets its contract.
+-- `image::order::entry_rises` meets its contract.
 use mathlib.Core.Path.{_∙_, sym}
 use Rattle.words.specs.Words.{wordsOf}
-use Rattle.index.proofs.Readers.{entry-rises}
-use Rattle.index.proofs.RisingTexts.{rising-first}
+use Rattle.image.proofs.RisingTexts.{entry-rises}
+use Rattle.image.proofs.RisingTexts.{rising-first}
 use borrow.Author.Needs.{needs}
-use Rattle.index.proofs.rises.Statement.{statement}
-use Rattle.index.proofs.rises.Tie as tie
+use Rattle.image.proofs.order.entry_rises.Statement.{statement}
+use Rattle.image.proofs.order.entry_rises.Tie as tie
 
 returns : tie.Need-returns
 returns c = sym (rising-first _ _ (c .if1 .taken))
@@ -42,8 +42,8 @@ returns-2 c =
     (c .before .before .before .before .text-entry .ensures) (c .before .before .before .text-entry2 .ensures) (c .before .before .text-bytes .ensures)
     (c .before .text-bytes2 .ensures)
 
-pub rises-spec : {M : Type 1} → statement M
-rises-spec =
+pub entry-rises-spec : {M : Type 1} → statement M
+entry-rises-spec =
     tie.close
     (tie.spec
     returns

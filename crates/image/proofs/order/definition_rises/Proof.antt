@@ -1,10 +1,10 @@
--- `index::definition_rises` meets its contract.
+-- `image::order::definition_rises` meets its contract.
 use mathlib.Core.Path.{_∙_}
 use Rattle.words.specs.Words.{wordsOf}
-use Rattle.index.proofs.Readers.{definition-rises}
+use Rattle.image.proofs.RisingTexts.{definition-rises}
 use borrow.Author.Needs.{needs}
-use Rattle.index.proofs.definition_rises.Statement.{statement}
-use Rattle.index.proofs.definition_rises.Tie as tie
+use Rattle.image.proofs.order.definition_rises.Statement.{statement}
+use Rattle.image.proofs.order.definition_rises.Tie as tie
 
 returns : tie.Need-returns
 returns c = search needs

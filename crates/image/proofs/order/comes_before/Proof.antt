@@ -1,8 +1,8 @@
--- `index::comes_before` meets its contract.
+-- `image::order::comes_before` meets its contract.
 use Rattle.texts.specs.Text.{before}
 use borrow.Author.Needs.{needs}
-use Rattle.index.proofs.comes_before.Statement.{statement}
-use Rattle.index.proofs.comes_before.Tie as tie
+use Rattle.image.proofs.order.comes_before.Statement.{statement}
+use Rattle.image.proofs.order.comes_before.Tie as tie
 
 compare-requires : tie.Need-compare-requires
 compare-requires c κs = search needs

@@ -1,11 +1,11 @@
--- `index::text_bytes` meets its contract.
+-- `image::text_bytes` meets its contract.
 use mathlib.Core.Path.{sym}
 use native.Mathlib.Nat.{add-sub-cancel-left}
 use Rattle.image.specs.Sections.{partAt}
-use Rattle.index.proofs.Readers.{text-to-end, text-past}
+use Rattle.image.proofs.Parts.{text-to-end, text-past}
 use borrow.Author.Needs.{needs}
-use Rattle.index.proofs.text_bytes.Statement.{statement}
-use Rattle.index.proofs.text_bytes.Tie as tie
+use Rattle.image.proofs.text_bytes.Statement.{statement}
+use Rattle.image.proofs.text_bytes.Tie as tie
 
 add-end : tie.Need-add-end
 add-end c = search needs

@@ -1,5 +1,5 @@
 -- Texts that rise: one step of the test, and that each comes before all that follow.
-use Prim.Native.Nat.{ℕ, zero, suc, _-_, _<_}
+use Prim.Native.Nat.{ℕ, zero, suc, _+_, _-_, _<_}
 use mathlib.Core.Path.{_≡_, refl, sym}
 use mathlib.Core.List.{List}
 use mathlib.Core.Bool.{true}
@@ -8,6 +8,10 @@ use native.Mathlib.Nat.{not-suc-le-zero}
 use native.Mathlib.Decide.{ℕ-discrete, decLt}
 use Rattle.texts.specs.Text.{before, rising}
 use Rattle.texts.proofs.Text.{before-trans, before-unlike}
+use Rattle.image.specs.declared.TextEntry.{TextEntry}
+use Rattle.image.specs.declared.Definition.{Definition}
+use Rattle.image.specs.Sections.{partAt}
+use Rattle.image.specs.Entries.{textEntryOf, definitionOf, entryTextFrom, definitionTextIn}
 
 -- an entry after the first one
 pub rising-next : (t : ℕ → List ℕ) (j : ℕ) → (j ≡ 0 → ⊥) → rising t j ≡ before (t (j - 1)) (t j)
@@ -41,3 +45,20 @@ module _ (t : ℕ → List ℕ) (n : ℕ) (up : (j : ℕ) → j < n → rising t
       by (yes q) l = q
       by (no d) (yes l) = absurd (before-unlike (t j) (t k) (rising-before j k l g) e)
       by (no d) (no l) = absurd (before-unlike (t k) (t j) (rising-before k j (omega arith) h) (sym e))
+
+-- ---- entries
+
+-- the texts of an entry and of the one before it
+pub entry-rises : (ws strings : List ℕ) (first place : ℕ) (last entry : TextEntry) (a b : List ℕ) → (place ≡ 0 → ⊥)
+    → last ≡ textEntryOf ws (first + (place - 1)) → entry ≡ textEntryOf ws (first + place)
+    → a ≡ partAt strings (last .offset) (last .len) → b ≡ partAt strings (entry .offset) (entry .len)
+    → before a b ≡ rising (entryTextFrom ws strings first) place
+unfolding entryTextFrom
+entry-rises ws strings first place last entry a b h p q u v = rw (rising-next (entryTextFrom ws strings first) place h, u, v, p, q)
+
+pub definition-rises : (ws strings : List ℕ) (d : ℕ) (last entry : Definition) (a b : List ℕ) → (d ≡ 0 → ⊥)
+    → last ≡ definitionOf ws (d - 1) → entry ≡ definitionOf ws d
+    → a ≡ partAt strings (last .offset) (last .len) → b ≡ partAt strings (entry .offset) (entry .len)
+    → before a b ≡ rising (definitionTextIn ws strings) d
+unfolding definitionTextIn
+definition-rises ws strings d last entry a b h p q u v = rw (rising-next (definitionTextIn ws strings) d h, u, v, p, q)
