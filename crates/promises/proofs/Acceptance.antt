@@ -161,7 +161,7 @@ module _ (bs : List ℕ) where
       record {
         long = o .long;
         magic-first = same-equal _ _ (o .marked);
-        versioned = o .versioned;
+        versioned = eqb-true _ _ (o .versioned);
         ink-least = leb-true _ _ (ink .0);
         ink-most = leb-true _ _ (ink .1);
         total = o .total;
@@ -176,7 +176,7 @@ module _ (bs : List ℕ) where
       record {
         long = r .long;
         marked = equal-same _ _ (r .magic-first);
-        versioned = r .versioned;
+        versioned = eq-eqb _ _ (r .versioned);
         inked = rw (le-leb 18 (wordAt bs 12) (r .ink-least), le-leb (wordAt bs 12) 21 (r .ink-most));
         total = r .total;
         begins = r .begins;

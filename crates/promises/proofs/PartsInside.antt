@@ -282,7 +282,7 @@ module _ (payload strings : List ℕ) (j : ℕ) where
   -- the strings alone
   abbrev own : Sections
   own =
-      record { stride = 0; nodes = []; children = []; named = []; definitions = []; items = []; index = []; payload = []; strings = strings }
+      record { version = 0; nodes = []; children = []; named = []; definitions = []; items = []; index = []; payload = []; strings = strings }
 
   name-inside : found ≡ true → InStrings (itsEntry .name)
   name-inside h =

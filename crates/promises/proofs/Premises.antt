@@ -7,8 +7,7 @@ use lib.ListN.{length}
 use Rattle.laws.specs.Lists.{Below}
 use Rattle.words.specs.Words.{NONE}
 use Rattle.image.specs.Sections.{Sections, nodeCount, childCount}
-use Rattle.image.specs.Header.{sectionsOf, viewOf}
-use Rattle.image.proofs.Views.{stride-by}
+use Rattle.image.specs.Header.{sectionsOf}
 use Rattle.image.proofs.OpenedHeader.{view-inside, view-counts, length-word}
 use Rattle.load.specs.Load.{loadRule}
 use Rattle.promises.specs.Rules.{NodeRight, SectionsRight, BreaksNone}
@@ -17,7 +16,6 @@ use Rattle.promises.proofs.Acceptance.{right-header, some-node, accepte
 pub record Kept (s : Sections) : Type 0 where
   pub rules : SectionsRight s
   pub some : 0 < nodeCount s
-  pub wide : 0 < s .stride
   pub nodes : nodeCount s < NONE
   pub children : childCount s < NONE
 
@@ -30,7 +28,6 @@ kept bs b r =
     record {
       rules = r .sections;
       some = some-node bs (right-header bs (r .header));
-      wide = omega (arith, stride-by bs (viewOf bs));
       nodes = omega (arith, i .nodes, c .nodes);
       children = omega (arith, i .children, c .children);
     }

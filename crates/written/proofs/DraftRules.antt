@@ -13,7 +13,7 @@ use Rattle.laws.proofs.First.{both, then, passed, pass, zero-as, first-all, fir
 use Rattle.words.specs.Words.{NONE, isNone}
 use Rattle.texts.specs.Text.{same}
 use Rattle.texts.proofs.Text.{same-equal, equal-same}
-use Rattle.image.specs.Sections.{Sections, nodeCount, childCount, namedCount, definitionCount, itemCount, parentOf, placeOf, tagOf, childWord, namedWord, inside, isContainer}
+use Rattle.image.specs.Sections.{Sections, nodeWords, nodeCount, childCount, namedCount, definitionCount, itemCount, parentOf, placeOf, tagOf, childWord, namedWord, inside, isContainer}
 use Rattle.image.specs.Header.{inkRight}
 use Rattle.image.proofs.Tests.{both-true, all-at, all-of}
 use Rattle.records.specs.Records.{parentRule, fieldsRule, rootRight, usedUp}
@@ -75,7 +75,7 @@ module _ (s : Sections) where
   unfolding wholeEntries
   whole-entries t =
       rw (
-        eq-eqb (length (s .nodes) % s .stride) 0 (t .nodes-whole),
+        eq-eqb (length (s .nodes) % nodeWords (s .version)) 0 (t .nodes-whole),
         eq-eqb (length (s .named) % 3) 0 (t .named-whole),
         eq-eqb (length (s .definitions) % 4) 0 (t .definitions-whole),
         eq-eqb (length (s .items) % 3) 0 (t .items-whole),

@@ -7,7 +7,7 @@ use mathlib.Core.Bool.{true}
 use lib.ListN.{length}
 use Rattle.words.specs.Words.{NONE}
 use Rattle.texts.specs.Text.{rising}
-use Rattle.image.specs.Sections.{Sections, nodeCount, childCount, namedCount, definitionCount, itemCount, parentOf, placeOf, tagOf, childWord, namedWord, definitionWord, itemWord, isContainer}
+use Rattle.image.specs.Sections.{Sections, nodeWords, nodeCount, childCount, namedCount, definitionCount, itemCount, parentOf, placeOf, tagOf, childWord, namedWord, definitionWord, itemWord, isContainer}
 use Rattle.records.specs.Fields.{Field}
 use Rattle.records.specs.Records.{fieldsAt, numberOfChildren, numberOfNamed, childrenBefore, namedBefore, payloadBefore}
 use Rattle.tree.specs.Reach.{Reached}
@@ -26,7 +26,7 @@ pub record DraftDefinitionRight (s : Sections) (d : ℕ) : Type 0 where
 
 pub record TablesRight (s : Sections) : Type 0 where
   -- sections of whole entries, and a node
-  pub nodes-whole : length (s .nodes) % s .stride ≡ 0
+  pub nodes-whole : length (s .nodes) % nodeWords (s .version) ≡ 0
   pub named-whole : length (s .named) % 3 ≡ 0
   pub definitions-whole : length (s .definitions) % 4 ≡ 0
   pub items-whole : length (s .items) % 3 ≡ 0
