@@ -60,7 +60,8 @@ field-texts s i wrong r = tt
 past : (s : Sections) (n : ℕ) → nodeCount s < n → isContainer s n ≡ true → ⊥
 unfolding nodeWord
 past s n h c =
-    let long : length (s .nodes) < n * nodeWords (s .version) = div-lt-iff-lt-mul (omega (arith, words-some (s .version))) .0 h in
+    let some : 0 < nodeWords (s .version) = omega (arith, words-some (s .version)) in
+    let long : length (s .nodes) < n * nodeWords (s .version) = div-lt-iff-lt-mul some .0 h in
     false≢true (sym (ap (λ (t : ℕ). eqb t 1) (List·getD-eq-default (s .nodes) 0 {n = n * nodeWords (s .version) + 2} (omega arith))) ∙ c)
 
 module _ (s : Sections) (g : Kept s) where

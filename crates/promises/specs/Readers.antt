@@ -6,8 +6,7 @@ use mathlib.Core.Bool.{true}
 use lib.ListN.{length}
 use Rattle.laws.specs.Lists.{Below}
 use Rattle.words.specs.Words.{wordAt}
-use Rattle.utf8.specs.Utf8.{utf8}
-use Rattle.image.specs.Sections.{Sections, nodeCount, definitionCount, itemCount, f, isContainer}
+use Rattle.image.specs.Sections.{Sections, goodBytes, nodeCount, definitionCount, itemCount, f, isContainer}
 use Rattle.image.specs.declared.ImageView.{ImageView}
 use Rattle.image.specs.Header.{sectionsBy}
 use Rattle.load.specs.Load.{loadedOf}
@@ -34,11 +33,11 @@ use Rattle.promises.specs.Answers.{given, ofLoaded, ofNode, ofFound, ofC
 
 -- ---- texts
 
--- a text is handed back whole: it is found, its part of the strings has its length and is UTF-8
+-- a text is handed back whole: it is found, its part of the strings has its length, and its bytes are good
 pub record Whole (s : Sections) (t : Span) : Type 0 where
   pub found : ofText (textQuery s t) ≡ given t
   pub whole : length (shownText (s .strings) (t .offset) (t .len)) ≡ t .len
-  pub encoded : utf8 (shownText (s .strings) (t .offset) (t .len)) ≡ true
+  pub encoded : goodBytes (shownText (s .strings) (t .offset) (t .len)) ≡ true
 
 -- the text, where there is one
 abbrev pub textsIn : OptionalText → List Span

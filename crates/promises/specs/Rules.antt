@@ -6,11 +6,10 @@ use mathlib.Core.List.{List, List·Memᴰ}
 use mathlib.Core.Bool.{true}
 use lib.ListN.{length, take}
 use Rattle.words.specs.Words.{NONE, wordAt}
-use Rattle.utf8.specs.Utf8.{utf8}
 use Rattle.texts.specs.Text.{holds, rising}
 use Rattle.names.specs.Names.{commands, operators}
 use Rattle.checksum.specs.Crc.{checksumOf}
-use Rattle.image.specs.Sections.{Sections, nodeCount, childCount, namedCount, definitionCount, itemCount, indexCount, parentOf, placeOf, tagOf, f, definitionWord, itemWord, indexWord, textAt}
+use Rattle.image.specs.Sections.{Sections, goodBytes, nodeCount, childCount, namedCount, definitionCount, itemCount, indexCount, parentOf, placeOf, tagOf, f, definitionWord, itemWord, indexWord, textAt}
 use Rattle.image.specs.Header.{magic, headerLength, version, sectionAt, startBy, sectionsOf}
 use Rattle.records.specs.Fields.{Field, text, optional, command, operator, node, optionalNode, container, optionalContainer, plain, atMost, children, named, payload, wrong}
 use Rattle.records.specs.Records.{fieldsAt, numberOfChildren, numberOfNamed, childrenBefore, namedBefore, payloadBefore, containersBefore, listItems, listOrigins, listItemWord, listOriginWord}
@@ -23,12 +22,12 @@ use Rattle.load.specs.Load.{loadWords, loadRule, Accepted}
 
 -- ---- texts and nodes
 
--- present, inside and UTF-8
+-- present, inside and of good bytes
 pub record TextRight (s : Sections) (at len : ℕ) : Type 0 where
   pub offset-given : at ≢ NONE
   pub length-given : len ≢ NONE
   pub inside : at + len ≤ length (s .strings)
-  pub encoded : utf8 (textAt s at len) ≡ true
+  pub encoded : goodBytes (textAt s at len) ≡ true
 
 -- absent only if both words are NONE
 abbrev pub OptionalRight : Sections → ℕ → ℕ → Type 0
