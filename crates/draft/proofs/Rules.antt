@@ -42,14 +42,14 @@ pub record Tables (s : Sections) : Type 0 where
   pub items : (j : ℕ) → j < itemCount s → goodItem s j ≡ true
 
 -- the sections are whole, and there is a node
-record Checked (s : Sections) : Type 0 where
-  nodes : length (s .nodes) % nodeWords (s .version) ≡ 0
-  named : length (s .named) % textEntryWords ≡ 0
-  definitions : length (s .definitions) % definitionWords ≡ 0
-  items : length (s .items) % textEntryWords ≡ 0
-  some : zero < nodeCount s
+pub record Checked (s : Sections) : Type 0 where
+  pub nodes : length (s .nodes) % nodeWords (s .version) ≡ 0
+  pub named : length (s .named) % textEntryWords ≡ 0
+  pub definitions : length (s .definitions) % definitionWords ≡ 0
+  pub items : length (s .items) % textEntryWords ≡ 0
+  pub some : zero < nodeCount s
 
-checked : (s : Sections) → wholeEntries s ≡ true → Checked s
+pub checked : (s : Sections) → wholeEntries s ≡ true → Checked s
 unfolding wholeEntries
 checked s h =
     let e = both-true (eqb (length (s .nodes) % nodeWords (s .version)) 0 && eqb (length (s .named) % textEntryWords) 0 && eqb (length (s .definitions) % definitionWords) 0 && eqb (length (s .items) % textEntryWords) 0) _ h in

@@ -9,6 +9,7 @@ use Rattle.words.specs.Words.{NONE}
 use Rattle.image.specs.Sections.{Sections}
 use Rattle.draft.specs.Draft.{writeWords}
 use Rattle.draft_image.specs.Encode.{imageFor, encodeRule, outAfter, encodes}
+use Rattle.promises.specs.Answers.{Answer, given, refused}
 use Rattle.writer.specs.declared.Encoded.{Encoded}
 use Rattle.writer.specs.declared.Encoded.the-variants.{Written, Refused}
 
@@ -21,10 +22,10 @@ encodedBy (suc r) long = Refused (suc r)
 unfoldable pub encodedOf : ℕ → Sections → ℕ → ℕ → Encoded
 encodedOf ink s work room = encodedBy (encodeRule ink s work room) (length (imageFor ink s))
 
--- document 01's number for an answer, 0 where an image was written
-abbrev pub encodedNumber : Encoded → ℕ
-encodedNumber (Written long) = 0
-encodedNumber (Refused r) = r
+-- the number and the value of an answer: the length of the image that was written
+abbrev pub ofEncoded : Encoded → Answer ℕ
+ofEncoded (Written long) = given long
+ofEncoded (Refused r) = refused r
 
 -- ---- from step to step
 

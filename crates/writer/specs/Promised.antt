@@ -11,18 +11,24 @@ use Rattle.index.specs.Paths.{canonicalPath}
 use Rattle.load.specs.Load.{loadRule, loadWords}
 use Rattle.draft.specs.Numbering.{numbering, oldOf}
 use Rattle.draft_image.specs.Encode.{imageFor, encodeRule, outAfter}
+use Rattle.promises.specs.Answers.{given}
 use Rattle.promises.specs.Promises.{Sound, NamedOnce}
+use Rattle.promises.specs.Rules.{Iff}
+use Rattle.promises.specs.Readers.{ImageReads}
+use Rattle.promises.specs.Lookups.{Lookups}
+use Rattle.written.specs.DraftRules.{EncodeRight}
 use Rattle.written.specs.Written.{DraftWords}
 use Rattle.written_views.specs.Views.{SameViews}
-use Rattle.writer.specs.declared.Encoded.the-variants.{Written}
-use Rattle.writer.specs.Answer.{encodedOf}
+use Rattle.writer.specs.Answer.{encodedOf, ofEncoded}
 
 -- the output's first n bytes are an image
 pub record Promised (s : Sections) (image : List ℕ) : Type 0 where
   -- a load with work words enough accepts it
   pub loads : (enough : ℕ) → loadWords (sectionsOf image) ≤ enough → loadRule image enough ≡ 0
-  -- nothing sticks in it
+  -- nothing sticks in it, and no query on it misses what is there
   pub sound : Sound (sectionsOf image)
+  pub reads : ImageReads (sectionsOf image)
+  pub lookups : Lookups (sectionsOf image)
   -- its index names each container exactly once
   pub once : (i : ℕ) → i < nodeCount (sectionsOf image) → isContainer (sectionsOf image) i ≡ true → NamedOnce (sectionsOf image) i
   -- a reader sees in it what the author wrote, and its canonical paths are the draft's
@@ -33,13 +39,16 @@ pub record Promised (s : Sections) (image : List ℕ) : Type 0 where
 -- of every answer `Written n` of `encode`, by its contract: the output is that of the clause `output`
 abbrev pub EncodedKeeps : Type 0
 EncodedKeeps =
-    (ink : ℕ) (s : Sections) (work n : ℕ) (out : List ℕ) → s .version ≡ version → DraftWords s → encodedOf ink s work (length out) ≡ Written n
+    (ink : ℕ) (s : Sections) (work n : ℕ) (out : List ℕ) → s .version ≡ version → DraftWords s → ofEncoded (encodedOf ink s work (length out)) ≡ given n
     → (take n (outAfter (encodeRule ink s work (length out)) (imageFor ink s) out) ≡ imageFor ink s)
     × Promised s (take n (outAfter (encodeRule ink s work (length out)) (imageFor ink s) out))
 
--- exactly the drafts that break none of the writer's rules are written
+-- exactly the drafts that keep the writer's rules are written, and the length reported is the image's
+pub record WrittenExactly (ink : ℕ) (s : Sections) (work room : ℕ) : Type 0 where
+  pub taken : Iff (ofEncoded (encodedOf ink s work room) .number ≡ 0) (EncodeRight ink s work room)
+  pub reported : (n : ℕ) → ofEncoded (encodedOf ink s work room) ≡ given n → n ≡ length (imageFor ink s)
+  -- the number is that of the first rule broken
+  pub number : ofEncoded (encodedOf ink s work room) .number ≡ encodeRule ink s work room
+
 abbrev pub EncodedExactly : Type 0
-EncodedExactly =
-    (ink : ℕ) (s : Sections) (work room : ℕ)
-    → (encodeRule ink s work room ≡ 0 → encodedOf ink s work room ≡ Written (length (imageFor ink s)))
-    × ((n : ℕ) → encodedOf ink s work room ≡ Written n → (encodeRule ink s work room ≡ 0) × (n ≡ length (imageFor ink s)))
+EncodedExactly = (ink : ℕ) (s : Sections) (work room : ℕ) → WrittenExactly ink s work room

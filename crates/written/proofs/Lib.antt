@@ -13,3 +13,5 @@ pub mod Words
 pub mod Loads
 pub mod Bytes
 pub mod Sound
+pub mod DraftRules
+pub mod Spelling
