@@ -27,6 +27,7 @@ mod strange;
 mod tally;
 mod texts;
 mod writes;
+mod wrong;
 
 use library::Library;
 
