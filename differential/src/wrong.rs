@@ -3,7 +3,8 @@
 //! Behind the first record of each kind, and of each answer of a query and each number of a draft, stand copies with one
 //! word of the answer changed: a query that found something is said to have found nothing, and one word after another is
 //! another one; a query that found nothing is said to have found zeros. A load's row is another one. A draft's number is
-//! another one, its image has another byte, one byte less, or one more.
+//! another one, its image has another byte, one byte less, or one more. Besides, a record of no known kind, a query of an
+//! image that is refused, and a walk of more components than are replayed.
 
 use std::collections::HashSet;
 
@@ -65,6 +66,16 @@ fn wrong(kind: u32, words: &[u32]) -> Vec<Vec<u32>> {
     }
 }
 
+/// Records that no right one is like: behind the first image that is refused, and the first walk that finds nothing.
+fn strange(kind: u32, number: u32) -> Vec<(u32, Vec<u32>)> {
+    let nothing = |asked: &[u32], answer: usize| asked.iter().copied().chain([18]).chain(vec![0; answer]).collect();
+    match (kind, number) {
+        (1, 1) => vec![(9, vec![]), (10, nothing(&[0], 10))],
+        (19, 18) => vec![(19, [0, 0, 18, 0, 9].into_iter().chain([0; 28]).collect())],
+        _ => vec![],
+    }
+}
+
 /// What tells which wrong copies a record has: its kind, and the number of its answer.
 fn sort_of(kind: u32, words: &[u32]) -> (u32, u32) {
     match (kind, answer(kind)) {
@@ -83,8 +94,10 @@ pub fn among(right: &[u32]) -> (Vec<u32>, u32) {
         let (kind, length) = (right[at], right[at + 1] as usize);
         let record = &right[at + 2..][..length];
         words.extend(&right[at..at + 2 + length]);
-        if seen.insert(sort_of(kind, record)) {
-            for wrong in wrong(kind, record) {
+        let sort = sort_of(kind, record);
+        if seen.insert(sort) {
+            let copies = wrong(kind, record).into_iter().map(|wrong| (kind, wrong));
+            for (kind, wrong) in copies.chain(strange(kind, sort.1)) {
                 words.extend([kind, wrong.len() as u32]);
                 words.extend(wrong);
                 count += 1;
