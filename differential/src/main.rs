@@ -28,6 +28,7 @@ mod strange;
 mod tally;
 mod texts;
 mod writes;
+mod wrong;
 
 use library::Library;
 use std::process::ExitCode;

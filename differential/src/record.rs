@@ -2,7 +2,8 @@
 //!
 //! The file is little-endian words. First the word 1380272467 (`SIER`), 1, and the number of records. Each record is
 //! its kind, the number of words that follow, and these; bytes are stored in words, the last filled up with zeros.
-//! `number` is 0, or 18 where a query finds nothing (the answer's words are then 0).
+//! `number` is 0, or 18 where a query finds nothing (the answer's words are then 0). Some records are wrong on purpose
+//! (wrong.rs).
 //!
 //! | kind | words |
 //! |---|---|
@@ -32,6 +33,7 @@ use crate::rows::{row_of, writer_row};
 use crate::small::{self, FAMILIES};
 use crate::stories::{Shape, Story};
 use crate::texts;
+use crate::wrong;
 use reference::{Draft, Image, Kind, NodeView, Step, Written};
 use std::collections::HashMap;
 
@@ -62,10 +64,12 @@ pub fn run(file: &str) -> bool {
     recorder.rare(&mut random);
     recorder.drafts(&mut random);
     recorder.words[2] = recorder.records;
-    let bytes: Vec<u8> = recorder.words.iter().flat_map(|word| word.to_le_bytes()).collect();
     let counts = Counts::of(&recorder.words);
     counts.print();
-    println!("{} records, {} reasons, {} bytes in {file}", recorder.records, recorder.reasons.len(), bytes.len());
+    let (words, wrong) = wrong::among(&recorder.words);
+    let bytes: Vec<u8> = words.iter().flat_map(|word| word.to_le_bytes()).collect();
+    let (right, reasons) = (recorder.records, recorder.reasons.len());
+    println!("{right} right records, {wrong} wrong ones, {reasons} reasons, {} bytes in {file}", bytes.len());
     let mut failures = counts.missing();
     failures.extend(std::fs::write(file, bytes).err().map(|error| format!("{file}: {error}")));
     for failure in &failures {

@@ -59,6 +59,16 @@ fn largest() -> Vec<u8> {
     parts.bytes()
 }
 
+/// Exactly 65,536 bytes: one node, and children in all the rest, so that a load needs as many work words as it can.
+fn most_words() -> Vec<u8> {
+    let mut parts = small::smallest();
+    let children = (65_536 - 128) / 4;
+    parts.nodes[0][7] = children;
+    parts.children = vec![0; children as usize];
+    parts.index = vec![];
+    parts.bytes()
+}
+
 /// Root and two containers that are each other's parent and child.
 fn circle() -> Vec<u8> {
     let mut parts = small::smallest();
@@ -92,6 +102,7 @@ fn damaged(image: &[u8]) -> Vec<(&'static str, Vec<u8>, u32, &'static str)> {
         ("children-start", with_word(image, 88 + 24, 1), 11, "the root's children start at 1"),
         ("tag", with_word(image, field(image, 5, 2), 15), 12, "a glue's tag is 15"),
         ("index-count", two.bytes(), 13, "the smallest image with two index entries"),
+        ("most-words", most_words(), 13, "one node and 16,352 children: the most work words that an image can need"),
         ("place", with_word(image, field(image, 3, 1), 7), 14, "the first command says place 7"),
         ("circle", circle(), 15, "nodes 1 and 2 are each other's parent and child"),
         ("index-order", swapped(image, index + 20, index + 32), 16, "two index entries have each other's target"),

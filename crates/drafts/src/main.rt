@@ -1,6 +1,10 @@
 // Writes the small examples of document 01's rows 3, 7 and 19 to 23, and of the drafts at the edges. Standard input holds records of
 // words: ink version, output bytes and work words lent, the lengths of the draft's seven slices; then the slices. A line is printed for
 // each: its place, the number, the length that was written, the CRC-32 of the lent output and how many of the lent work words are 0.
+use draft_words::after;
+use draft_words::first;
+use draft_words::front;
+use draft_words::read_words;
 use libc::STDIN_FILENO;
 use libc::STDOUT_FILENO;
 use writer::Encoded;
@@ -50,37 +54,6 @@ fn size_of(head: Head) -> usize
     40 + 4 * words_in(head) + head.payload as usize + head.strings as usize
 }
 
-// The bytes behind the first n.
-fn after(bytes: &[u8], n: usize) -> &[u8] {
-    if n <= bytes.len() {
-        &bytes[n..]
-    } else {
-        &bytes[..0]
-    }
-}
-
-// The first so many bytes.
-fn front(bytes: &[u8], count: u32) -> &[u8] {
-    let n = count as usize;
-    if n <= bytes.len() { &bytes[..n] } else { bytes }
-}
-
-// The first so many of 64 words.
-fn first(words: &[u32; 64], count: u32) -> &[u32] {
-    let all: &[u32] = words;
-    let n = count as usize;
-    if n <= all.len() { &all[..n] } else { all }
-}
-
-// The words that bytes begin with.
-fn read_words(bytes: &[u8], to: &mut [u32; 64]) {
-    let mut i = 0;
-    while i < 64 {
-        to[i] = words::get(bytes, 4 * i);
-        i += 1;
-    }
-}
-
 // 1 for a word that is 0.
 fn zero(word: u32) -> u64
     ensures { λ r. ⌜ r ≤ 1 ⌝ }
@@ -102,6 +75,10 @@ fn zeros(words: &[u32]) -> u64 {
 fn print_number(n: u64) {
     io::write_all(STDOUT_FILENO, b" ");
     io::print_decimal(STDOUT_FILENO, n);
+}
+
+fn print_line(text: &[u8]) {
+    io::write_all(STDOUT_FILENO, text);
 }
 
 fn print_answer(answer: Encoded) {
@@ -164,10 +141,10 @@ fn write_draft(
     let m = head.out as usize;
     let n = head.work as usize;
     if 512 < m {
-        return;
+        return print_line(b" lends too much output\n");
     }
     if 512 < n {
-        return;
+        return print_line(b" lends too many work words\n");
     }
     let out: &mut [u8] = &mut bytes;
     let work: &mut [u32] = &mut words;

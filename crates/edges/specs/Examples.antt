@@ -5,6 +5,7 @@ use lib.ListN.{take, replicate}
 use Rattle.words.specs.Words.{NONE}
 use Rattle.texts.specs.Text.{ascii}
 use Rattle.image.specs.Sections.{Sections}
+use Rattle.draft.specs.Source.{draftOf}
 
 -- the smallest image, and 88 bytes with no sections, byte by byte
 unfoldable pub smallestImage : List ℕ
@@ -21,7 +22,7 @@ headerAlone =
     ∷ 0 ∷ 0 ∷ 0 ∷ 0 ∷ 0 ∷ 0 ∷ 0 ∷ 88 ∷ 0 ∷ 0 ∷ 0 ∷ 0 ∷ 0 ∷ 0 ∷ 0 ∷ 88 ∷ 0 ∷ 0 ∷ 0 ∷ 0 ∷ 0 ∷ 0 ∷ 0 ∷ 88 ∷ 0 ∷ 0 ∷ 0 ∷ 0 ∷ 0 ∷ 0 ∷ 0
     ∷ 88 ∷ 0 ∷ 0 ∷ 0 ∷ 0 ∷ 0 ∷ 0 ∷ 0 ∷ 88 ∷ 0 ∷ 0 ∷ 0 ∷ 0 ∷ 0 ∷ 0 ∷ 0 ∷ 88 ∷ 0 ∷ 0 ∷ 0 ∷ 0 ∷ 0 ∷ 0 ∷ 0 ∷ 39 ∷ 196 ∷ 49 ∷ 85 ∷ []
 
--- a container: parent, place, its name, children's count, named children's start and count; its children start at the given place
+-- a container without named children: parent, place, offset and length of its name, start and count of its children
 unfoldable pub containerWords : ℕ → ℕ → ℕ → ℕ → ℕ → ℕ → List ℕ
 containerWords parent place nameAt nameLength start count = parent ∷ place ∷ 1 ∷ nameAt ∷ nameLength ∷ 0 ∷ start ∷ count ∷ 0 ∷ 0 ∷ []
 
@@ -47,6 +48,10 @@ plainSections nodes children index strings =
 unfoldable pub rootNamed : ℕ → ℕ → Sections
 rootNamed at len = plainSections (containerWords NONE NONE at len 0 0) [] (0 ∷ 0 ∷ 0 ∷ []) []
 
+-- the smallest draft: that root without a name, and no index
+unfoldable pub rootDraft : Sections
+rootDraft = draftOf (containerWords NONE NONE NONE NONE 0 0) [] [] [] [] [] []
+
 -- a root with one ordered child, which is no container
 unfoldable pub withChild : ℕ → List ℕ → Sections
 withChild tag fs = plainSections (containerWords NONE NONE NONE NONE 0 1 ++ nodeWords 0 0 tag fs) (1 ∷ []) (0 ∷ 0 ∷ 0 ∷ []) []
@@ -62,7 +67,7 @@ withPlace3 strings len =
     ++ containerWords 0 3 NONE NONE 4 0)
     (1 ∷ 2 ∷ 3 ∷ 4 ∷ []) (0 ∷ 0 ∷ 0 ∷ 0 ∷ len ∷ 4 ∷ []) strings
 
--- a root with a container named a, node 1
+-- a root with a container named a, node 1; the index has the root, and that container at the given text
 unfoldable pub withA : List ℕ → ℕ → ℕ → Sections
 withA strings at len =
     plainSections (containerWords NONE NONE NONE NONE 0 1 ++ containerWords 0 0 0 1 1 0) (1 ∷ []) (0 ∷ 0 ∷ 0 ∷ at ∷ len ∷ 1 ∷ []) strings
@@ -83,5 +88,5 @@ withLists =
     }
 
 unfoldable pub examples : Unit {0}
-unfolding smallestImage headerAlone containerWords nodeWords plainSections rootNamed withChild withPlace3 withA withLists
+unfolding smallestImage headerAlone containerWords nodeWords plainSections rootNamed rootDraft withChild withPlace3 withA withLists
 examples = tt

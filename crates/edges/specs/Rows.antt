@@ -11,7 +11,7 @@ use Rattle.image.specs.Encoding.{imageOf, encodings}
 use Rattle.load.specs.Load.{loadRule, loads}
 use Rattle.views.specs.Children.{childQuery, foundNumber, childrens}
 use Rattle.draft_image.specs.Encode.{encodeRule, encodes}
-use Rattle.edges.specs.Examples.{smallestImage, containerWords, nodeWords, plainSections, rootNamed, withChild, withLists, examples}
+use Rattle.edges.specs.Examples.{smallestImage, containerWords, nodeWords, plainSections, rootNamed, rootDraft, withChild, examples}
 
 unfoldable pub list : List ℕ → List ℕ → List ℕ → Sections
 list definitions items strings =
@@ -119,8 +119,8 @@ pub record DraftRows : Type 0 where
   pub row-20 : encodeRule 21 (plainSections (containerWords NONE NONE NONE NONE 0 0 ++ nodeWords 0 0 5 []) [] [] []) 99 999 ≡ 20
   pub row-21 : encodeRule 21 (plainSections (containerWords NONE NONE NONE NONE 0 1 ++ nodeWords 0 1 5 []) (1 ∷ []) [] []) 99 999 ≡ 21
   pub row-22 : encodeRule 21 twoA 99 999 ≡ 22
-  pub row-23 : encodeRule 21 (rootNamed NONE NONE) 99 139 ≡ 23
-  pub write-7 : encodeRule 21 (rootNamed NONE NONE) 15 140 ≡ 7
+  pub row-23 : encodeRule 21 rootDraft 99 139 ≡ 23
+  pub write-7 : encodeRule 21 rootDraft 15 140 ≡ 7
 
 draft-rows : DraftRows
 unfolding rows encodes encodings childrens loads

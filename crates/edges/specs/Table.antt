@@ -11,28 +11,81 @@ use Rattle.image.specs.Sections.{Sections, textAt, partAt}
 use Rattle.image.specs.Encoding.{imageOf, encodings}
 use Rattle.index.specs.Paths.{fits}
 use Rattle.load.specs.Load.{loadRule, loads}
-use Rattle.views.specs.View.{optionalText, views}
+use Rattle.views.specs.View.{nodeView, views}
 use Rattle.lookups.specs.Lookup.{listItem, lookups}
 use Rattle.walks.specs.Walk.{resolve, walks}
 use Rattle.views.specs.declared.Found.the-variants.{Node}
 use Rattle.lookups.specs.declared.ListItemAnswer.the-variants.{Item}
 use Rattle.draft_image.specs.Encode.{encodeRule, imageFor, encodes}
 use Rattle.views.specs.declared.OptionalText.the-variants.{Present, Absent}
-use Rattle.edges.specs.Examples.{smallestImage, headerAlone, rootNamed, withChild, withDivert, withPlace3, withA, withLists, examples}
+use Rattle.views.specs.declared.OptionalText.{OptionalText}
+use Rattle.views.specs.declared.OptionalWord.the-variants as word
+use Rattle.views.specs.declared.NodeKindView.the-variants as kind
+use Rattle.views.specs.declared.NodeAnswer.{NodeAnswer}
+use Rattle.views.specs.declared.NodeAnswer.the-variants as node
+use Rattle.edges.specs.Examples.{smallestImage, headerAlone, rootNamed, rootDraft, withChild, withDivert, withPlace3, withA, withLists, examples}
 
-pub record Edges : Type 0 where
+-- the view of a root: no parent, no place, flags 0, and the name
+abbrev rootView : OptionalText → NodeAnswer
+rootView name = node.View (record { parent = word.Absent; «child_index» = word.Absent; kind = kind.Container (pos 0) name })
+
+-- the smallest image and its draft; 88 bytes with no sections
+pub record SmallestLines : Type 0 where
   pub smallest-length : length smallestImage ≡ 140
   pub smallest-accepted : loadRule smallestImage 2 ≡ 0
-  pub smallest-draft : encodeRule 21 (rootNamed NONE NONE) 16 140 ≡ 0
-  pub smallest-written : imageFor 21 (rootNamed NONE NONE) ≡ smallestImage
+  pub smallest-sections : imageOf 21 (rootNamed NONE NONE) ≡ smallestImage
+  pub smallest-draft : encodeRule 21 rootDraft 16 140 ≡ 0
+  pub smallest-written : imageFor 21 rootDraft ≡ smallestImage
   pub no-sections : loadRule headerAlone 0 ≡ 5
+
+smallest-lines : SmallestLines
+unfolding examples encodes encodings walks lookups views loads
+smallest-lines =
+    record {
+      smallest-length = refl;
+      smallest-accepted = refl;
+      smallest-sections = refl;
+      smallest-draft = refl;
+      smallest-written = refl;
+      no-sections = refl;
+    }
+
+-- a bool, a divert's flags
+pub record FieldLines : Type 0 where
   pub bool-1 : loadRule (imageOf 21 (withChild 8 (1 ∷ []))) 4 ≡ 0
   pub bool-2 : loadRule (imageOf 21 (withChild 8 (2 ∷ []))) 4 ≡ 12
   pub divert-23 : loadRule (imageOf 21 (withDivert 23)) 4 ≡ 0
   pub divert-24 : loadRule (imageOf 21 (withDivert 24)) 4 ≡ 12
-  pub name-empty : optionalText 0 0 0 ≡ Present (record { offset = 0; len = 0 })
+
+field-lines : FieldLines
+unfolding examples encodes encodings walks lookups views loads
+field-lines =
+    record {
+      bool-1 = refl;
+      bool-2 = refl;
+      divert-23 = refl;
+      divert-24 = refl;
+    }
+
+-- name words (0, 0) and (NONE, NONE), as the root's view has them
+pub record NameLines : Type 0 where
+  pub name-empty : nodeView (rootNamed 0 0) 0 ≡ rootView (Present (record { offset = 0; len = 0 }))
   pub name-empty-text : textAt (rootNamed 0 0) 0 0 ≡ []
-  pub name-absent : optionalText 0 NONE NONE ≡ Absent
+  pub name-empty-image : loadRule (imageOf 21 (rootNamed 0 0)) 2 ≡ 0
+  pub name-absent : nodeView (rootNamed NONE NONE) 0 ≡ rootView Absent
+
+name-lines : NameLines
+unfolding examples encodes encodings walks lookups views loads
+name-lines =
+    record {
+      name-empty = refl;
+      name-empty-text = refl;
+      name-empty-image = refl;
+      name-absent = refl;
+    }
+
+-- index texts of a container in place 3 and of one that is named a
+pub record PlaceLines : Type 0 where
   pub place-3 : fits (withPlace3 [] 0) 4 (ascii "3") ≡ true
   pub place-dot-3 : fits (withPlace3 [] 0) 4 (ascii ".3") ≡ true
   pub place-03 : fits (withPlace3 [] 0) 4 (ascii "03") ≡ false
@@ -42,26 +95,11 @@ pub record Edges : Type 0 where
   pub place-03-image : loadRule (imageOf 21 (withPlace3 (ascii "03") 2)) 10 ≡ 16
   pub named-a : fits (withA (ascii "a") 0 1) 1 (ascii ".a") ≡ false
   pub named-a-image : loadRule (imageOf 21 (withA (ascii "a.a") 1 2)) 4 ≡ 16
-  pub low : listItem withLists (ascii "low") ≡ Item (record { definition = 1; item = 1; value = pos 2 })
-  pub red-low : listItem withLists (ascii "red.low") ≡ Item (record { definition = 0; item = 0; value = pos 1 })
-  pub from-glue : resolve (withChild 5 []) true 1 [] ≡ Node 0
 
-pub edges : Edges
+place-lines : PlaceLines
 unfolding examples encodes encodings walks lookups views loads
-edges =
+place-lines =
     record {
-      smallest-length = refl;
-      smallest-accepted = refl;
-      smallest-draft = refl;
-      smallest-written = refl;
-      no-sections = refl;
-      bool-1 = refl;
-      bool-2 = refl;
-      divert-23 = refl;
-      divert-24 = refl;
-      name-empty = refl;
-      name-empty-text = refl;
-      name-absent = refl;
       place-3 = refl;
       place-dot-3 = refl;
       place-03 = refl;
@@ -71,7 +109,38 @@ edges =
       place-03-image = refl;
       named-a = refl;
       named-a-image = refl;
+    }
+
+-- an item in two definitions; a relative walk of no components
+pub record QueryLines : Type 0 where
+  pub lists-image : loadRule (imageOf 21 withLists) 2 ≡ 0
+  pub low : listItem withLists (ascii "low") ≡ Item (record { definition = 1; item = 1; value = pos 2 })
+  pub red-low : listItem withLists (ascii "red.low") ≡ Item (record { definition = 0; item = 0; value = pos 1 })
+  pub from-glue : resolve (withChild 5 []) true 1 [] ≡ Node 0
+
+query-lines : QueryLines
+unfolding examples encodes encodings walks lookups views loads
+query-lines =
+    record {
+      lists-image = refl;
       low = refl;
       red-low = refl;
       from-glue = refl;
+    }
+
+pub record Edges : Type 0 where
+  pub smallest : SmallestLines
+  pub fields : FieldLines
+  pub names : NameLines
+  pub places : PlaceLines
+  pub queries : QueryLines
+
+pub edges : Edges
+edges =
+    record {
+      smallest = smallest-lines;
+      fields = field-lines;
+      names = name-lines;
+      places = place-lines;
+      queries = query-lines;
     }

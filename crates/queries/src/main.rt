@@ -1,5 +1,7 @@
-// Runs document 01's examples of list items by name and of a relative walk through the code. Standard input holds two images, each
-// behind its length: one with the definitions red and size, which both hold low, and one whose root has a glue as its child.
+// Runs document 01's examples of list items by name and of a relative walk through the code. Standard input holds three images,
+// each behind its length: one with the definitions red and size, which both hold low; one whose root has a glue as its child; and that
+// one with a bit of its checksum turned, which is refused.
+ghost use Prim.Native.Nat.{_≤_};
 use image::ImageView;
 use image::Section;
 use libc::STDIN_FILENO;
@@ -71,19 +73,24 @@ fn both(bytes: &[u8], view: ImageView) {
     walk(bytes, view);
 }
 
+fn print_refusal(number: u32) {
+    print(b"refused: ");
+    print_number(number as u64);
+    print(b"\n");
+}
+
 fn run(bytes: &[u8]) {
     let mut work = [7u32; 64];
     match load::load(bytes, &mut work) {
         Loaded::View(view) => both(bytes, view),
-        Loaded::Refused(wrong) => print_number(wrong as u64),
+        Loaded::Refused(wrong) => print_refusal(wrong),
     }
 }
 
 // The image behind its length at `at`.
-fn part(records: &[u8], at: u32) -> &[u8] {
-    if 65536 < at {
-        return &records[..0];
-    }
+fn part(records: &[u8], at: u32) -> &[u8]
+    requires { ⌜ at ≤ 65536 ⌝ }
+{
     let len = words::get(records, at as usize);
     image::section_part(
         records,
@@ -102,4 +109,6 @@ fn main() {
     run(first);
     let second = part(&buffer[..n], 210);
     run(second);
+    let third = part(&buffer[..n], 398);
+    run(third);
 }

@@ -5,7 +5,7 @@ use mathlib.Core.List.{List, [], _∷_}
 use mathlib.Core.Bool.{Bool, true, false}
 use mathlib.Core.Option.{Option, none, some}
 use native.Mathlib.Nat.{not-suc-le-zero}
-use lib.ListN.{length, getD}
+use lib.ListN.{length, getD, take}
 use lib.Seq.{ext-getD}
 use lib.Dec.{eqb}
 use borrow.Author.Count.{below-more}
@@ -18,7 +18,13 @@ use Rattle.image.specs.Header.{sectionBytes}
 use Rattle.views.specs.declared.Found.{Found}
 use Rattle.views.specs.declared.Found.the-variants.{Node, NotFound}
 use Rattle.answers.specs.Handed.{foundAnswer}
-use Rattle.replay.specs.Recorded.{recorded}
+use Rattle.image.specs.declared.ImageView.{ImageView}
+use Rattle.load.specs.Load.{loadedOf, loadedNumber}
+use Rattle.load.specs.declared.Loaded.{Loaded}
+use Rattle.load.specs.declared.Loaded.the-variants as Loaded
+use Rattle.writer.specs.declared.Encoded.{Encoded}
+use Rattle.writer.specs.declared.Encoded.the-variants.{Written, Refused}
+use Rattle.replay.specs.Recorded.{recorded, recordedLoad, refusedAlike, sameWritten}
 
 -- ---- word by word
 
@@ -69,3 +75,43 @@ module _ (f : List ℕ) (at : ℕ) (a : Found) (r : Bool) where
   pub node-none : a ≡ NotFound → r ≡ recorded f at 0 none → r ≡ recorded f at 1 (foundAnswer a)
   unfolding recorded
   node-none e h = rw e h
+
+-- ---- a load
+
+module _ (a : Loaded) (n : ℕ) (bs : List ℕ) where
+  pub view-number : (v : ImageView) → a ≡ loadedOf bs n → a ≡ Loaded.View v → 0 ≡ loadedNumber (loadedOf bs n)
+  view-number v e q = ap loadedNumber (sym q ∙ e)
+
+  pub refused-number : (k : ℕ) → a ≡ loadedOf bs n → a ≡ Loaded.Refused k → k ≡ loadedNumber (loadedOf bs n)
+  refused-number k e q = ap loadedNumber (sym q ∙ e)
+
+pub load-recorded : (f : List ℕ) (a : Loaded) (x y : ℕ) → x ≡ loadedNumber a → y ≡ wordIn f 0 → eqb x y ≡ recordedLoad f a
+unfolding recordedLoad
+load-recorded f a x y e h = rw (e, h) refl
+
+-- ---- a draft
+
+pub none-alike : (ours theirs : ℕ) → theirs ≡ 0 → false ≡ refusedAlike ours theirs
+unfolding refusedAlike
+none-alike ours theirs e = eq-yes theirs 0 _ _ false e refl
+
+pub any-alike : (ours theirs : ℕ) → (theirs ≡ 0 → ⊥) → theirs ≡ 21 → true ≡ refusedAlike ours theirs
+unfolding refusedAlike
+any-alike ours theirs d e = eq-no theirs 0 _ _ true d (eq-yes theirs 21 _ _ true e refl)
+
+pub this-alike : (ours theirs : ℕ) → (theirs ≡ 0 → ⊥) → (theirs ≡ 21 → ⊥) → eqb ours theirs ≡ refusedAlike ours theirs
+unfolding refusedAlike
+this-alike ours theirs d e = eq-no theirs 0 _ _ (eqb ours theirs) d (eq-no theirs 21 _ _ (eqb ours theirs) e refl)
+
+module _ (a : Encoded) (out image : List ℕ) (number : ℕ) where
+  pub number-unlike : (n : ℕ) → a ≡ Written n → (number ≡ 0 → ⊥) → false ≡ sameWritten a out number image
+  unfolding sameWritten
+  number-unlike n e d = rw e (eq-no number 0 _ _ false d refl)
+
+  pub image-compared : (n : ℕ) (part : List ℕ) (r : Bool) → a ≡ Written n → number ≡ 0 → part ≡ take n out → r ≡ same part image → r ≡ sameWritten a out number image
+  unfolding sameWritten
+  image-compared n part r e z p h = rw e (eq-yes number 0 _ _ r z (h ∙ ap (λ (l : List ℕ). same l image) p))
+
+  pub refusal-compared : (k : ℕ) (r : Bool) → a ≡ Refused k → r ≡ refusedAlike k number → r ≡ sameWritten a out number image
+  unfolding sameWritten
+  refusal-compared k r e h = rw e h

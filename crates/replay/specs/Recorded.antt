@@ -1,16 +1,34 @@
--- What a record says of a query's answer.
+-- What a record says of a query's answer, of a load and of a draft.
 use Prim.Native.Nat.{ℕ, _+_}
 use mathlib.Core.List.{List}
-use mathlib.Core.Bool.{Bool, false, cond}
+use mathlib.Core.Bool.{Bool, true, false, cond}
 use mathlib.Core.Option.{Option, none, some}
+use lib.ListN.{take}
 use lib.Dec.{eqb}
 use Rattle.words.specs.Words.{wordIn, wordsOf}
 use Rattle.texts.specs.Text.{same}
 use Rattle.image.specs.declared.Section.{Section}
 use Rattle.image.specs.Header.{sectionBytes}
+use Rattle.load.specs.declared.Loaded.{Loaded}
+use Rattle.load.specs.Load.{loadedNumber}
+use Rattle.writer.specs.declared.Encoded.{Encoded}
+use Rattle.writer.specs.declared.Encoded.the-variants.{Written, Refused}
 
 -- whether a record has the answer at `at`: 0 and then `count` words, which are these, or 18 for none
 unfoldable pub recorded : List ℕ → ℕ → ℕ → Option (List ℕ) → Bool
 recorded r at count none = eqb (wordIn r at) 18
 recorded r at count (some ws) =
     cond (eqb (wordIn r at) 0) (same (wordsOf (sectionBytes r (record { offset = at + 4; count = count }) 4)) ws) false
+
+-- whether the first word of a record is the number of a load's answer
+unfoldable pub recordedLoad : List ℕ → Loaded → Bool
+recordedLoad r a = eqb (loadedNumber a) (wordIn r 0)
+
+-- whether a refusal is the recorded one: 0 is none, 21 stands for any
+unfoldable pub refusedAlike : ℕ → ℕ → Bool
+refusedAlike ours theirs = cond (eqb theirs 0) false (cond (eqb theirs 21) true (eqb ours theirs))
+
+-- whether a draft's answer and output are as recorded: the number 0 and the image, or a refusal
+unfoldable pub sameWritten : Encoded → List ℕ → ℕ → List ℕ → Bool
+sameWritten (Written n) out number image = cond (eqb number 0) (same (take n out) image) false
+sameWritten (Refused ours) out number image = refusedAlike ours number

@@ -1,6 +1,12 @@
 // Drafts: what the writer makes of them, against what the Rust wrote. A record is the ink version, the number, the lengths of nodes,
 // children, named, definitions and items in words and of payload, strings and image in bytes; then all of these. The number 21 says that
 // the Rust refuses, and that only refusal is compared.
+ghost use mathlib.Core.Path.{_≡_};
+ghost use Rattle.replay.specs.Recorded.{refusedAlike, sameWritten};
+use draft_words::after;
+use draft_words::first;
+use draft_words::front;
+use draft_words::read_words;
 use writer::Encoded;
 
 // What a record begins with.
@@ -34,41 +40,18 @@ fn head_of(fields: &[u8]) -> Head {
 
 // The bytes behind so many words.
 fn behind_words(bytes: &[u8], count: u32) -> &[u8] {
-    let n = 4 * count as usize;
-    if n <= bytes.len() {
-        &bytes[n..]
-    } else {
-        &bytes[..0]
-    }
+    after(bytes, 4 * count as usize)
 }
 
 // The bytes behind so many, which are filled up to whole words.
 fn behind_bytes(bytes: &[u8], count: u32) -> &[u8] {
-    let n = (count as usize + 3) / 4 * 4;
-    if n <= bytes.len() {
-        &bytes[n..]
-    } else {
-        &bytes[..0]
-    }
+    after(bytes, (count as usize + 3) / 4 * 4)
 }
 
-// The first so many of 256 words.
-fn first(words: &[u32; 256], count: u32) -> &[u32] {
-    let all: &[u32] = words;
-    let n = count as usize;
-    if n <= all.len() { &all[..n] } else { all }
-}
-
-// The words that bytes begin with.
-fn read_words(bytes: &[u8], to: &mut [u32; 256]) {
-    let mut i = 0;
-    while i < 256 {
-        to[i] = words::get(bytes, 4 * i);
-        i += 1;
-    }
-}
-
-fn refused_alike(ours: u32, theirs: u32) -> bool {
+// Whether a refusal is the recorded one. The number 21 stands for any.
+fn refused_alike(ours: u32, theirs: u32) -> bool
+    ensures { λ r. ⌜ r ≡ refusedAlike ours theirs ⌝ }
+{
     if theirs == 0 {
         return false;
     }
@@ -79,13 +62,15 @@ fn refused_alike(ours: u32, theirs: u32) -> bool {
 }
 
 // Whether the answer and the output are as recorded.
-fn same(answer: Encoded, out: &[u8], number: u32, image: &[u8]) -> bool {
+fn same(answer: Encoded, out: &[u8], number: u32, image: &[u8]) -> bool
+    ensures { λ r. ⌜ r ≡ sameWritten answer (now (out .entry)) number (now (image .entry)) ⌝ }
+{
     match answer {
         Encoded::Written(length) => {
             if number != 0 {
                 return false;
             }
-            texts::equal(image::text_part(out, 0, length), image)
+            texts::equal(front(out, length), image)
         }
         Encoded::Refused(ours) => refused_alike(ours, number),
     }
@@ -149,8 +134,8 @@ pub fn draft_agrees(fields: &[u8]) -> bool {
         first(&named, head.named),
         first(&definitions, head.definitions),
         first(&items, head.items),
-        image::text_part(from_payload, 0, head.payload),
-        image::text_part(from_strings, 0, head.strings),
-        image::text_part(from_image, 0, head.image),
+        front(from_payload, head.payload),
+        front(from_strings, head.strings),
+        front(from_image, head.image),
     )
 }

@@ -1,21 +1,34 @@
 // Loads of a recorded image, whole and damaged. The first word of each record is the number that the Rust gives, 0 for an accepted
 // image.
+ghost use mathlib.Core.Path.{_≡_};
+ghost use lib.ListN.{length};
+ghost use Rattle.load.specs.Load.{loadedOf, loadedNumber};
+ghost use Rattle.replay.specs.Recorded.{recordedLoad};
 use load::Loaded;
 
 // Where the checksum stands in an image.
 const CHECKSUM_AT: usize = 84;
 
 // What a load answers, as a number.
-fn number_of(bytes: &[u8]) -> u32 {
-    let mut work = [0u32; 2048];
-    match load::load(bytes, &mut work) {
+fn number_with(bytes: &[u8], work: &mut [u32]) -> u32
+    ensures { λ r. ⌜ r ≡ loadedNumber (loadedOf (now (bytes .entry)) (length (now (work .entry)))) ⌝ }
+{
+    match load::load(bytes, work) {
         Loaded::View(_) => 0,
         Loaded::Refused(wrong) => wrong,
     }
 }
 
+// Whether the load of these bytes gives the recorded number.
+fn agrees_with(fields: &[u8], bytes: &[u8], work: &mut [u32]) -> bool
+    ensures { λ r. ⌜ r ≡ recordedLoad (now (fields .entry)) (loadedOf (now (bytes .entry)) (length (now (work .entry)))) ⌝ }
+{
+    number_with(bytes, work) == words::get(fields, 0)
+}
+
 fn agrees(fields: &[u8], bytes: &[u8]) -> bool {
-    number_of(bytes) == words::get(fields, 0)
+    let mut work = [0u32; 2048];
+    agrees_with(fields, bytes, &mut work)
 }
 
 // Row, length; then the image.

@@ -13,27 +13,34 @@ fn number(answer: Loaded) -> u32 {
     }
 }
 
+fn print(text: &[u8]) {
+    io::write_all(STDOUT_FILENO, text);
+}
+
+fn print_answer(answer: u32) {
+    io::print_decimal(STDOUT_FILENO, answer as u64);
+    print(b"\n");
+}
+
 // Loads an image with so many of the words lent.
-fn answer_with(bytes: &[u8], work: &mut [u32], lent: u32) -> u32 {
+fn run_with(bytes: &[u8], work: &mut [u32], lent: u32) {
     let n = lent as usize;
     if n <= work.len() {
-        number(load::load(bytes, &mut work[..n]))
+        print_answer(number(load::load(bytes, &mut work[..n])));
     } else {
-        0
+        print(b"lends too many work words\n");
     }
 }
 
 // Loads an image with so many work words, of which there are 64.
-fn answer(bytes: &[u8], lent: u32) -> u32 {
+fn run(bytes: &[u8], lent: u32) {
     let mut work = [7u32; 64];
-    answer_with(bytes, &mut work, lent)
+    run_with(bytes, &mut work, lent);
 }
 
-fn print_line(place: u32, answer: u32) {
+fn print_place(place: u32) {
     io::print_decimal(STDOUT_FILENO, place as u64);
-    io::write_all(STDOUT_FILENO, b": ");
-    io::print_decimal(STDOUT_FILENO, answer as u64);
-    io::write_all(STDOUT_FILENO, b"\n");
+    print(b": ");
 }
 
 // One record, at `at`; answers where the next one begins, or 0 at the end.
@@ -44,10 +51,13 @@ fn run_one(records: &[u8], at: u32, place: u32) -> u32 {
     if len == 0 {
         return 0;
     }
-    if 65536 < len {
+    // never so: behind the input there is no length. Said for the sums below
+    if 65536 < at {
         return 0;
     }
-    if 65536 < at {
+    print_place(place);
+    if 65536 < len {
+        print(b"longer than is read\n");
         return 0;
     }
     let image = image::section_part(
@@ -58,7 +68,7 @@ fn run_one(records: &[u8], at: u32, place: u32) -> u32 {
         },
         1,
     );
-    print_line(place, answer(image, lent));
+    run(image, lent);
     at + 8 + len
 }
 

@@ -11,8 +11,20 @@ cast-m c = search needs
 cast-n : tie.Need-cast-n
 cast-n c = search needs
 
+slice-aggregate-print-line : tie.Need-slice-aggregate-print-line
+slice-aggregate-print-line c = search needs
+
+print-line-requires : tie.Need-print-line-requires
+print-line-requires c κs = search needs
+
 returns : tie.Need-returns
 returns c = search needs
+
+slice-aggregate-print-line-2 : tie.Need-slice-aggregate-print-line-2
+slice-aggregate-print-line-2 c = search needs
+
+print-line-requires-2 : tie.Need-print-line-requires-2
+print-line-requires-2 c κs = search needs
 
 returns-2 : tie.Need-returns-2
 returns-2 c = search needs
@@ -41,7 +53,11 @@ write-draft-spec =
     (tie.spec
     cast-m
     cast-n
+    slice-aggregate-print-line
+    print-line-requires
     returns
+    slice-aggregate-print-line-2
+    print-line-requires-2
     returns-2
     slice-aggregate-out
     slice-aggregate-work
