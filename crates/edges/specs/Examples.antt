@@ -27,13 +27,13 @@ unfoldable pub containerWords : ℕ → ℕ → ℕ → ℕ → ℕ → ℕ → 
 containerWords parent place nameAt nameLength start count = parent ∷ place ∷ 1 ∷ nameAt ∷ nameLength ∷ 0 ∷ start ∷ count ∷ 0 ∷ 0 ∷ []
 
 -- a node whose fields start with the given ones and are else NONE
-unfoldable pub nodeWords : ℕ → ℕ → ℕ → List ℕ → List ℕ
-nodeWords parent place tag fs = parent ∷ place ∷ tag ∷ take 7 (fs ++ replicate 7 NONE)
+unfoldable pub nodeEntry : ℕ → ℕ → ℕ → List ℕ → List ℕ
+nodeEntry parent place tag fs = parent ∷ place ∷ tag ∷ take 7 (fs ++ replicate 7 NONE)
 
 unfoldable pub plainSections : List ℕ → List ℕ → List ℕ → List ℕ → Sections
 plainSections nodes children index strings =
     record {
-      stride = 10;
+      version = 2;
       nodes = nodes;
       children = children;
       named = [];
@@ -50,11 +50,11 @@ rootNamed at len = plainSections (containerWords NONE NONE at len 0 0) [] (0 ∷
 
 -- the smallest draft: that root without a name, and no index
 unfoldable pub rootDraft : Sections
-rootDraft = draftOf (containerWords NONE NONE NONE NONE 0 0) [] [] [] [] [] []
+rootDraft = draftOf 2 (containerWords NONE NONE NONE NONE 0 0) [] [] [] [] [] []
 
 -- a root with one ordered child, which is no container
 unfoldable pub withChild : ℕ → List ℕ → Sections
-withChild tag fs = plainSections (containerWords NONE NONE NONE NONE 0 1 ++ nodeWords 0 0 tag fs) (1 ∷ []) (0 ∷ 0 ∷ 0 ∷ []) []
+withChild tag fs = plainSections (containerWords NONE NONE NONE NONE 0 1 ++ nodeEntry 0 0 tag fs) (1 ∷ []) (0 ∷ 0 ∷ 0 ∷ []) []
 
 abbrev pub withDivert : ℕ → Sections
 withDivert flags = withChild 4 (NONE ∷ NONE ∷ NONE ∷ NONE ∷ NONE ∷ 0 ∷ flags ∷ [])
@@ -63,7 +63,7 @@ withDivert flags = withChild 4 (NONE ∷ NONE ∷ NONE ∷ NONE ∷ NONE ∷ 0 �
 unfoldable pub withPlace3 : List ℕ → ℕ → Sections
 withPlace3 strings len =
     plainSections
-    (containerWords NONE NONE NONE NONE 0 4 ++ nodeWords 0 0 5 [] ++ nodeWords 0 1 5 [] ++ nodeWords 0 2 5 []
+    (containerWords NONE NONE NONE NONE 0 4 ++ nodeEntry 0 0 5 [] ++ nodeEntry 0 1 5 [] ++ nodeEntry 0 2 5 []
     ++ containerWords 0 3 NONE NONE 4 0)
     (1 ∷ 2 ∷ 3 ∷ 4 ∷ []) (0 ∷ 0 ∷ 0 ∷ 0 ∷ len ∷ 4 ∷ []) strings
 
@@ -76,7 +76,7 @@ withA strings at len =
 unfoldable pub withLists : Sections
 withLists =
     record {
-      stride = 10;
+      version = 2;
       nodes = containerWords NONE NONE NONE NONE 0 0;
       children = [];
       named = [];
@@ -88,5 +88,5 @@ withLists =
     }
 
 unfoldable pub examples : Unit {0}
-unfolding smallestImage headerAlone containerWords nodeWords plainSections rootNamed rootDraft withChild withPlace3 withA withLists
+unfolding smallestImage headerAlone containerWords nodeEntry plainSections rootNamed rootDraft withChild withPlace3 withA withLists
 examples = tt

@@ -9,14 +9,15 @@ use Rattle.texts.specs.Text.{ascii}
 use Rattle.image.specs.Sections.{Sections}
 use Rattle.image.specs.Encoding.{imageOf, encodings}
 use Rattle.load.specs.Load.{loadRule, loads}
-use Rattle.views.specs.Children.{childQuery, foundNumber, childrens}
+use Rattle.views.specs.Children.{childQuery, childrens}
+use Rattle.promises.specs.Answers.{ofFound}
 use Rattle.draft_image.specs.Encode.{encodeRule, encodes}
-use Rattle.edges.specs.Examples.{smallestImage, containerWords, nodeWords, plainSections, rootNamed, rootDraft, withChild, examples}
+use Rattle.edges.specs.Examples.{smallestImage, containerWords, nodeEntry, plainSections, rootNamed, rootDraft, withChild, examples}
 
 unfoldable pub list : List ℕ → List ℕ → List ℕ → Sections
 list definitions items strings =
     record {
-      stride = 10;
+      version = 2;
       nodes = containerWords NONE NONE NONE NONE 0 0;
       children = [];
       named = [];
@@ -71,7 +72,7 @@ header-rows =
 
 -- rows 8 to 13
 pub record RecordRows : Type 0 where
-  pub row-8 : loadRule (imageOf 21 (plainSections (nodeWords NONE NONE 5 []) [] (0 ∷ 0 ∷ 0 ∷ []) [])) 9 ≡ 8
+  pub row-8 : loadRule (imageOf 21 (plainSections (nodeEntry NONE NONE 5 []) [] (0 ∷ 0 ∷ 0 ∷ []) [])) 9 ≡ 8
   pub row-9 : loadRule (imageOf 21 (withChild 2 (NONE ∷ NONE ∷ NONE ∷ []))) 9 ≡ 9
   pub row-10 : loadRule (imageOf 21 (withChild 11 (NONE ∷ 0 ∷ []))) 9 ≡ 10
   pub row-11 : loadRule (imageOf 21 (plainSections (containerWords NONE NONE NONE NONE 1 0) [] (0 ∷ 0 ∷ 0 ∷ []) [])) 9 ≡ 11
@@ -96,11 +97,11 @@ record-rows =
 
 -- rows 14 to 18
 pub record TreeRows : Type 0 where
-  pub row-14 : loadRule (imageOf 21 (plainSections (containerWords NONE NONE NONE NONE 0 1 ++ nodeWords 0 1 5 []) (1 ∷ []) (0 ∷ 0 ∷ 0 ∷ []) [])) 9 ≡ 14
+  pub row-14 : loadRule (imageOf 21 (plainSections (containerWords NONE NONE NONE NONE 0 1 ++ nodeEntry 0 1 5 []) (1 ∷ []) (0 ∷ 0 ∷ 0 ∷ []) [])) 9 ≡ 14
   pub row-15 : loadRule (imageOf 21 ring) 9 ≡ 15
   pub row-16 : loadRule (imageOf 21 (plainSections (containerWords NONE NONE NONE NONE 0 0) [] (0 ∷ 1 ∷ 0 ∷ []) (ascii "a"))) 9 ≡ 16
   pub row-17 : loadRule (imageOf 21 (list (1 ∷ 1 ∷ 0 ∷ 0 ∷ 0 ∷ 1 ∷ 0 ∷ 0 ∷ []) [] (ascii "ab"))) 9 ≡ 17
-  pub row-18 : foundNumber (childQuery (rootNamed NONE NONE) 0 0) ≡ 18
+  pub row-18 : ofFound (childQuery (rootNamed NONE NONE) 0 0) .number ≡ 18
 
 tree-rows : TreeRows
 unfolding rows encodes encodings childrens loads
@@ -116,8 +117,8 @@ tree-rows =
 -- rows 19 to 23, and 7 for a writer
 pub record DraftRows : Type 0 where
   pub row-19 : encodeRule 21 (plainSections (containerWords NONE NONE NONE NONE 0 0 ++ (0 ∷ [])) [] [] []) 99 999 ≡ 19
-  pub row-20 : encodeRule 21 (plainSections (containerWords NONE NONE NONE NONE 0 0 ++ nodeWords 0 0 5 []) [] [] []) 99 999 ≡ 20
-  pub row-21 : encodeRule 21 (plainSections (containerWords NONE NONE NONE NONE 0 1 ++ nodeWords 0 1 5 []) (1 ∷ []) [] []) 99 999 ≡ 21
+  pub row-20 : encodeRule 21 (plainSections (containerWords NONE NONE NONE NONE 0 0 ++ nodeEntry 0 0 5 []) [] [] []) 99 999 ≡ 20
+  pub row-21 : encodeRule 21 (plainSections (containerWords NONE NONE NONE NONE 0 1 ++ nodeEntry 0 1 5 []) (1 ∷ []) [] []) 99 999 ≡ 21
   pub row-22 : encodeRule 21 twoA 99 999 ≡ 22
   pub row-23 : encodeRule 21 rootDraft 99 139 ≡ 23
   pub write-7 : encodeRule 21 rootDraft 15 140 ≡ 7

@@ -12,7 +12,7 @@ use Rattle.laws.specs.Counted.{sumOf}
 use Rattle.laws.proofs.First.{first, second, pass}
 use Rattle.image.specs.declared.ImageView.{ImageView}
 use Rattle.image.specs.Header.{headerRule, headerLength, startBy, sectionAt, sizes, viewOf, sectionsOf}
-use Rattle.image.proofs.Header.{Opens, opens}
+use Rattle.image.proofs.OpenedHeader.{Opens, opens}
 use Rattle.image.proofs.Rows.{start-next}
 use Rattle.load.specs.Load.{checksumRule, sectionsRule, loadRule, loadWords, loadedBy, loadedOf}
 use Rattle.load.specs.declared.Loaded.{Loaded}
