@@ -40,7 +40,7 @@ pub struct NamedChildView<'a> {
 /// assert_eq!(image.resolve_path(0, false, &[Step::Index(0)]), Some(first));
 /// # Ok::<(), story_image::Refusal>(())
 /// ```
-#[derive(Clone, Copy, Debug)]
+#[derive(Clone, Copy)]
 pub struct Image<'a> {
     asked: Queries<'a>,
     strings: &'a [u8],
@@ -65,6 +65,12 @@ pub fn load_words(bytes: &[u8]) -> usize {
     let count = |at: usize| u64::from(u32::from_le_bytes([bytes[at], bytes[at + 1], bytes[at + 2], bytes[at + 3]]));
     let needed = count(24) + count(32) + count(40) + 1;
     needed.min(bytes.len() as u64 / 4) as usize
+}
+
+impl core::fmt::Debug for Image<'_> {
+    fn fmt(&self, f: &mut core::fmt::Formatter<'_>) -> core::fmt::Result {
+        f.debug_struct("Image").field("bytes", &self.bytes().len()).field("view", &self.view()).finish()
+    }
 }
 
 impl<'a> Parts for Image<'a> {

@@ -8,6 +8,7 @@ use crate::node::{self, NodeViewOf, Parts};
 use crate::path::{self, Step};
 use crate::view::View;
 use crate::{NONE, Section};
+use core::fmt;
 use core::mem::MaybeUninit;
 
 /// A text, by its place in the strings.
@@ -64,11 +65,17 @@ pub struct ListItem {
 }
 
 /// Bytes and the words of a view, to be asked.
-#[derive(Clone, Copy, Debug)]
+#[derive(Clone, Copy)]
 pub struct Queries<'a> {
     bytes: &'a [u8],
     /// The view's words, as the library takes them.
     words: [u32; View::WORDS],
+}
+
+impl fmt::Debug for Queries<'_> {
+    fn fmt(&self, f: &mut fmt::Formatter<'_>) -> fmt::Result {
+        f.debug_struct("Queries").field("bytes", &self.bytes.len()).field("view", &self.view()).finish()
+    }
 }
 
 struct Places;
