@@ -336,7 +336,7 @@ uint32_t story_image_node_view(const uint8_t *bytes, size_t length, const uint32
                                uint32_t node, uint32_t *answer, size_t answer_length);
 
 /* STORY_IMAGE_TEXT_WORDS words: of a text, its start and its length in the image's bytes, where it is present
- * (neither word NONE) and inside the strings. A text does not end with a byte 0. */
+ * (neither word NONE) and inside the strings. No byte 0 is put behind a text. */
 uint32_t story_image_text(const uint8_t *bytes, size_t length, const uint32_t *view, size_t view_length,
                           uint32_t offset, uint32_t text_length, uint32_t *answer, size_t answer_length);
 
