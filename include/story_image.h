@@ -1,23 +1,212 @@
-/* Story images: loading, reading and writing. The numbers are those of the table in README.md; 0 is none.
+/* Story images: loading, reading and writing. docs/FORMAT.md has the format whole; this file is enough to call the
+ * library.
  *
- * A slice is lent as pointer and length and must not be written by others during the call; its pointer is not null,
- * also where the length is 0, and is aligned for its type. Mutable slices and answers overlap nothing else.
- * No function allocates, keeps what it was lent, or changes a byte of an image.
+ * A slice is lent as pointer and length (a count of elements, not of bytes). It must not be written by others during
+ * the call; its pointer is not null, also where the length is 0, and is aligned for its type. Slices that are written
+ * (work, view, answer, output, written) overlap nothing else. That is all that is asked of a caller: every function
+ * takes any bytes, any words and any numbers, and ends. No function allocates, keeps what it was lent, has state, or
+ * changes a byte of an image; calls from several threads at once are fine.
+ *
+ * In short:
+ *
+ *     uint32_t view[STORY_IMAGE_VIEW_WORDS], node[STORY_IMAGE_NODE_WORDS], part[STORY_IMAGE_TEXT_WORDS];
+ *     // at most length / 4 work words are ever needed
+ *     uint32_t number = story_image_load(bytes, length, work, length / 4, view, STORY_IMAGE_VIEW_WORDS);
+ *     if (number != STORY_IMAGE_OK) return refused(number);
+ *     for (uint32_t n = 0; n < view[STORY_IMAGE_NODES_COUNT]; n++) {
+ *         story_image_node_view(bytes, length, view, STORY_IMAGE_VIEW_WORDS, n, node, STORY_IMAGE_NODE_WORDS);
+ *         if (node[STORY_IMAGE_NODE_KIND] == STORY_IMAGE_KIND_STRING) {
+ *             story_image_text(bytes, length, view, STORY_IMAGE_VIEW_WORDS, node[STORY_IMAGE_NODE_TEXT],
+ *                              node[STORY_IMAGE_NODE_TEXT_LENGTH], part, STORY_IMAGE_TEXT_WORDS);
+ *             fwrite(bytes + part[STORY_IMAGE_TEXT_START], 1, part[STORY_IMAGE_TEXT_LENGTH], stdout);
+ *         }
+ *     }
  */
 #ifndef STORY_IMAGE_H
 #define STORY_IMAGE_H
 
-#include <stdbool.h>
 #include <stddef.h>
 #include <stdint.h>
+#ifndef __cplusplus
+#include <stdbool.h>
+#endif
+
+#if SIZE_MAX < UINT64_MAX
+#error "the library is built for 64-bit machines"
+#endif
 
 #ifdef __cplusplus
 extern "C" {
 #endif
 
+/* An absent node, place or text. */
 #define STORY_IMAGE_NONE UINT32_C(4294967295)
 
-/* Words of a view: the ink version, then offset and count of each section. */
+/* The length of a header; the length of the smallest image. */
+#define STORY_IMAGE_HEADER_BYTES 88
+#define STORY_IMAGE_SMALLEST_BYTES 140
+
+/* Ink versions that are loaded and written. */
+#define STORY_IMAGE_FIRST_INK_VERSION 18
+#define STORY_IMAGE_LAST_INK_VERSION 21
+
+/* Numbers that a function returns: the first rule that is broken, in the fixed order of docs/FORMAT.md. */
+enum {
+    STORY_IMAGE_OK = 0,              /* nothing is refused */
+    /* of a load */
+    STORY_IMAGE_BAD_HEADER = 1,      /* fewer than 88 bytes, or no BLINKIMG in front */
+    STORY_IMAGE_BAD_VERSION = 2,     /* the format version is not 2 */
+    STORY_IMAGE_BAD_INK_VERSION = 3, /* the ink version is not 18 to 21; also of a write */
+    STORY_IMAGE_BAD_LENGTH = 4,      /* the header's total length is not the number of bytes */
+    STORY_IMAGE_BAD_SECTIONS = 5,    /* a section does not begin where the one before ends, runs past the end, leaves
+                                        bytes over, or there is no node */
+    STORY_IMAGE_BAD_CHECKSUM = 6,
+    STORY_IMAGE_TOO_FEW_WORDS = 7,   /* too few work words are lent; also of a write */
+    STORY_IMAGE_BAD_ROOT = 8,        /* node 0 is not a container without parent and place */
+    STORY_IMAGE_BAD_NODE = 9,        /* a node number is outside, or not a container where one is due, or a node is its
+                                        own parent */
+    STORY_IMAGE_BAD_TEXT = 10,       /* a text is missing, outside the strings or not UTF-8 */
+    STORY_IMAGE_BAD_RANGE = 11,      /* a range, a start or a list's length is wrong */
+    STORY_IMAGE_BAD_TAG = 12,        /* unknown tag, flag, command or operator */
+    STORY_IMAGE_LEFT_OVER = 13,      /* entries are left over, or the path index has not one entry for each container */
+    STORY_IMAGE_BAD_CHILD = 14,      /* a child does not name its parent and place, or a named entry's text, order or
+                                        parent is wrong */
+    STORY_IMAGE_UNREACHED = 15,      /* a node is not reached from node 0 */
+    STORY_IMAGE_BAD_INDEX = 16,      /* the path index is out of order, or a text does not fit its container */
+    STORY_IMAGE_BAD_DEFINITION = 17, /* definitions or items are out of order, have a bad text, or are left over */
+    /* of a query */
+    STORY_IMAGE_NOT_FOUND = 18,      /* no such node, child, name, step or item */
+    /* of a write */
+    STORY_IMAGE_BAD_DRAFT = 19,      /* a draft's tables are broken */
+    STORY_IMAGE_DRAFT_UNREACHED = 20, /* a draft has a node that is not reached */
+    STORY_IMAGE_DRAFT_SHAPE = 21,    /* a draft's root, parents, tree or order of definitions is wrong */
+    STORY_IMAGE_DRAFT_PATHS = 22,    /* two containers of a draft have one path, or one has neither name nor place */
+    STORY_IMAGE_NO_ROOM = 23         /* the output is too short, or the image would have more than 4294967295 bytes */
+};
+
+/* Kinds of nodes: the tags of an image. There is no 0 and no 15. */
+enum {
+    STORY_IMAGE_KIND_CONTAINER = 1,
+    STORY_IMAGE_KIND_CHOICE = 2,
+    STORY_IMAGE_KIND_COMMAND = 3,
+    STORY_IMAGE_KIND_DIVERT = 4,
+    STORY_IMAGE_KIND_GLUE = 5,
+    STORY_IMAGE_KIND_OPERATOR = 6,
+    STORY_IMAGE_KIND_TAG = 7,
+    STORY_IMAGE_KIND_BOOL = 8,
+    STORY_IMAGE_KIND_INT = 9,
+    STORY_IMAGE_KIND_FLOAT = 10,
+    STORY_IMAGE_KIND_STRING = 11,
+    STORY_IMAGE_KIND_LIST = 12,
+    STORY_IMAGE_KIND_DIVERT_TARGET = 13,
+    STORY_IMAGE_KIND_POINTER = 14,
+    STORY_IMAGE_KIND_ASSIGNMENT = 16,
+    STORY_IMAGE_KIND_REFERENCE = 17,
+    STORY_IMAGE_KIND_VOID = 18
+};
+
+/* Numbers of commands, with the text by which an image names each. */
+enum {
+    STORY_IMAGE_COMMAND_EVAL_START = 0,                 /* ev */
+    STORY_IMAGE_COMMAND_EVAL_OUTPUT,                    /* out */
+    STORY_IMAGE_COMMAND_EVAL_END,                       /* /ev */
+    STORY_IMAGE_COMMAND_DUPLICATE,                      /* du */
+    STORY_IMAGE_COMMAND_POP_EVALUATED_VALUE,            /* pop */
+    STORY_IMAGE_COMMAND_POP_FUNCTION,                   /* ~ret */
+    STORY_IMAGE_COMMAND_POP_TUNNEL,                     /* ->-> */
+    STORY_IMAGE_COMMAND_BEGIN_STRING,                   /* str */
+    STORY_IMAGE_COMMAND_END_STRING,                     /* /str */
+    STORY_IMAGE_COMMAND_NO_OP,                          /* nop */
+    STORY_IMAGE_COMMAND_CHOICE_COUNT,                   /* choiceCnt */
+    STORY_IMAGE_COMMAND_TURNS,                          /* turn */
+    STORY_IMAGE_COMMAND_TURNS_SINCE,                    /* turns */
+    STORY_IMAGE_COMMAND_READ_COUNT,                     /* readc */
+    STORY_IMAGE_COMMAND_RANDOM,                         /* rnd */
+    STORY_IMAGE_COMMAND_SEED_RANDOM,                    /* srnd */
+    STORY_IMAGE_COMMAND_VISIT_INDEX,                    /* visit */
+    STORY_IMAGE_COMMAND_SEQUENCE_SHUFFLE_INDEX,         /* seq */
+    STORY_IMAGE_COMMAND_START_THREAD,                   /* thread */
+    STORY_IMAGE_COMMAND_DONE,                           /* done */
+    STORY_IMAGE_COMMAND_END,                            /* end */
+    STORY_IMAGE_COMMAND_LIST_FROM_INT,                  /* listInt */
+    STORY_IMAGE_COMMAND_LIST_RANGE,                     /* range */
+    STORY_IMAGE_COMMAND_LIST_RANDOM,                    /* lrnd */
+    STORY_IMAGE_COMMAND_BEGIN_TAG,                      /* # */
+    STORY_IMAGE_COMMAND_END_TAG,                        /* /# */
+    STORY_IMAGE_COMMAND_COUNT
+};
+
+/* Numbers of operators, with the text by which an image names each. */
+enum {
+    STORY_IMAGE_OPERATOR_ADD = 0,                       /* + */
+    STORY_IMAGE_OPERATOR_SUBTRACT,                      /* - */
+    STORY_IMAGE_OPERATOR_DIVIDE,                        /* / */
+    STORY_IMAGE_OPERATOR_MULTIPLY,                      /* * */
+    STORY_IMAGE_OPERATOR_MOD,                           /* % */
+    STORY_IMAGE_OPERATOR_NEGATE,                        /* _ */
+    STORY_IMAGE_OPERATOR_EQUAL,                         /* == */
+    STORY_IMAGE_OPERATOR_GREATER,                       /* > */
+    STORY_IMAGE_OPERATOR_LESS,                          /* < */
+    STORY_IMAGE_OPERATOR_GREATER_THAN_OR_EQUALS,        /* >= */
+    STORY_IMAGE_OPERATOR_LESS_THAN_OR_EQUALS,           /* <= */
+    STORY_IMAGE_OPERATOR_NOT_EQUALS,                    /* != */
+    STORY_IMAGE_OPERATOR_NOT,                           /* ! */
+    STORY_IMAGE_OPERATOR_AND,                           /* && */
+    STORY_IMAGE_OPERATOR_OR,                            /* || */
+    STORY_IMAGE_OPERATOR_MIN,                           /* MIN */
+    STORY_IMAGE_OPERATOR_MAX,                           /* MAX */
+    STORY_IMAGE_OPERATOR_POW,                           /* POW */
+    STORY_IMAGE_OPERATOR_FLOOR,                         /* FLOOR */
+    STORY_IMAGE_OPERATOR_CEILING,                       /* CEILING */
+    STORY_IMAGE_OPERATOR_INT,                           /* INT */
+    STORY_IMAGE_OPERATOR_FLOAT,                         /* FLOAT */
+    STORY_IMAGE_OPERATOR_HAS,                           /* ? */
+    STORY_IMAGE_OPERATOR_HASNT,                         /* !? */
+    STORY_IMAGE_OPERATOR_INTERSECT,                     /* ^ */
+    STORY_IMAGE_OPERATOR_LIST_MIN,                      /* LIST_MIN */
+    STORY_IMAGE_OPERATOR_LIST_MAX,                      /* LIST_MAX */
+    STORY_IMAGE_OPERATOR_LIST_ALL,                      /* LIST_ALL */
+    STORY_IMAGE_OPERATOR_LIST_COUNT,                    /* LIST_COUNT */
+    STORY_IMAGE_OPERATOR_LIST_VALUE,                    /* LIST_VALUE */
+    STORY_IMAGE_OPERATOR_LIST_INVERT,                   /* LIST_INVERT */
+    STORY_IMAGE_OPERATOR_COUNT
+};
+
+/* Flags of a divert; its push type is the flags word shifted right by STORY_IMAGE_DIVERT_PUSH_SHIFT. */
+enum {
+    STORY_IMAGE_DIVERT_CONDITIONAL = 1,
+    STORY_IMAGE_DIVERT_EXTERNAL = 2,
+    STORY_IMAGE_DIVERT_PUSHES = 4,
+    STORY_IMAGE_DIVERT_PUSH_SHIFT = 3
+};
+enum {
+    STORY_IMAGE_PUSH_TUNNEL,
+    STORY_IMAGE_PUSH_FUNCTION,
+    STORY_IMAGE_PUSH_FUNCTION_FROM_GAME
+};
+
+/* Flags of an assignment. */
+enum {
+    STORY_IMAGE_ASSIGNMENT_GLOBAL = 1,
+    STORY_IMAGE_ASSIGNMENT_NEW = 2
+};
+
+/* Flags of a container and of a choice, as the published player reads them. An image may hold any word here. */
+enum {
+    STORY_IMAGE_CONTAINER_COUNTS_VISITS = 1,
+    STORY_IMAGE_CONTAINER_COUNTS_TURNS = 2,
+    STORY_IMAGE_CONTAINER_COUNTS_AT_START = 4
+};
+enum {
+    STORY_IMAGE_CHOICE_CONDITION = 1,
+    STORY_IMAGE_CHOICE_START_CONTENT = 2,
+    STORY_IMAGE_CHOICE_ONLY_CONTENT = 4,
+    STORY_IMAGE_CHOICE_INVISIBLE_DEFAULT = 8,
+    STORY_IMAGE_CHOICE_ONCE_ONLY = 16
+};
+
+/* Words of a view: the ink version, then offset and count of each section. An offset counts from the image's first
+ * byte; a count is of entries, of bytes for payload and strings. */
 enum {
     STORY_IMAGE_INK_VERSION,
     STORY_IMAGE_NODES,
@@ -41,96 +230,180 @@ enum {
 
 /* Words of a node's view. Absent: NONE. What a kind lacks is NONE in texts and target, 0 in value and flags. */
 enum {
-    STORY_IMAGE_NODE_PARENT,
-    STORY_IMAGE_NODE_PLACE,
-    STORY_IMAGE_NODE_KIND,            /* the tag, 1 to 14 and 16 to 18 */
-    STORY_IMAGE_NODE_TEXT,            /* name, path or text in the strings; of a list (12), its place in the payload */
-    STORY_IMAGE_NODE_TEXT_LENGTH,
-    STORY_IMAGE_NODE_VARIABLE,        /* of a divert (4) */
+    STORY_IMAGE_NODE_PARENT,          /* NONE for the root alone */
+    STORY_IMAGE_NODE_PLACE,           /* its index among the parent's ordered children; of a container that is only a
+                                         named child it says nothing */
+    STORY_IMAGE_NODE_KIND,            /* STORY_IMAGE_KIND_.. */
+    STORY_IMAGE_NODE_TEXT,            /* offset in the strings of the name (container, pointer, assignment, reference),
+                                         path (divert, divert target) or text (tag, string). Of a list, its offset in
+                                         the payload, not in the strings */
+    STORY_IMAGE_NODE_TEXT_LENGTH,     /* its length in bytes; of a list, that of its part of the payload */
+    STORY_IMAGE_NODE_VARIABLE,        /* of a divert: the variable that holds its target */
     STORY_IMAGE_NODE_VARIABLE_LENGTH,
-    STORY_IMAGE_NODE_TARGET,          /* of a choice (2), divert (4), reference (17) */
-    STORY_IMAGE_NODE_VALUE,           /* number of a command (3) or operator (6); bool, int, bits of a float (8 to 10);
-                                         arguments of a divert (4); context of a pointer (14) */
-    STORY_IMAGE_NODE_FLAGS,           /* of a container (1), choice (2): the word. Of a divert: 1 conditional,
-                                         2 external, 4 pushes, 8 times the push type. Of an assignment (16): 1 global,
-                                         2 new */
+    STORY_IMAGE_NODE_TARGET,          /* of a choice, a divert; of a reference, the container whose read count it is */
+    STORY_IMAGE_NODE_VALUE,           /* STORY_IMAGE_COMMAND_.. or STORY_IMAGE_OPERATOR_..; 0 or 1 of a bool; the 32
+                                         bits of an int or a float; number of arguments of a divert; context of a
+                                         pointer */
+    STORY_IMAGE_NODE_FLAGS,           /* of a container, choice, divert, assignment: the word */
     STORY_IMAGE_NODE_WORDS
 };
 
-/* 0, and the view's STORY_IMAGE_VIEW_WORDS words; words past them stay. Or 1 to 17, the number of the first rule
- * broken, and the view stays as it was. Work words needed: nodes + children + named + 1; numbers 1 to 7 leave all work
- * words as they were, else as many as are needed are 0 on return and the rest stays. A view of fewer words counts as a
- * lack of work words: 7, after rows 1 to 6. */
+/* Words of the other answers. */
+enum { /* story_image_text: where a text lies in the image's bytes */
+    STORY_IMAGE_TEXT_START,
+    STORY_IMAGE_TEXT_LENGTH,
+    STORY_IMAGE_TEXT_WORDS
+};
+enum { /* a count, a node */
+    STORY_IMAGE_COUNT_WORDS = 1,
+    STORY_IMAGE_FOUND_WORDS = 1
+};
+enum { /* story_image_named_child_at */
+    STORY_IMAGE_NAMED_CHILD_NAME,
+    STORY_IMAGE_NAMED_CHILD_NAME_LENGTH,
+    STORY_IMAGE_NAMED_CHILD_NODE,
+    STORY_IMAGE_NAMED_CHILD_WORDS
+};
+enum { /* story_image_list_entry */
+    STORY_IMAGE_LIST_ENTRY_ORIGIN,
+    STORY_IMAGE_LIST_ENTRY_ORIGIN_LENGTH,
+    STORY_IMAGE_LIST_ENTRY_NAME,
+    STORY_IMAGE_LIST_ENTRY_NAME_LENGTH,
+    STORY_IMAGE_LIST_ENTRY_VALUE,
+    STORY_IMAGE_LIST_ENTRY_WORDS
+};
+enum { /* story_image_list_origin */
+    STORY_IMAGE_LIST_ORIGIN_TEXT,
+    STORY_IMAGE_LIST_ORIGIN_TEXT_LENGTH,
+    STORY_IMAGE_LIST_ORIGIN_WORDS
+};
+enum { /* story_image_definition */
+    STORY_IMAGE_DEFINITION_NAME,
+    STORY_IMAGE_DEFINITION_NAME_LENGTH,
+    STORY_IMAGE_DEFINITION_ITEMS,
+    STORY_IMAGE_DEFINITION_WORDS
+};
+enum { /* story_image_definition_item */
+    STORY_IMAGE_DEFINITION_ITEM_NAME,
+    STORY_IMAGE_DEFINITION_ITEM_NAME_LENGTH,
+    STORY_IMAGE_DEFINITION_ITEM_VALUE,
+    STORY_IMAGE_DEFINITION_ITEM_WORDS
+};
+enum { /* story_image_list_item */
+    STORY_IMAGE_LIST_ITEM_DEFINITION,
+    STORY_IMAGE_LIST_ITEM_ITEM,
+    STORY_IMAGE_LIST_ITEM_VALUE,
+    STORY_IMAGE_LIST_ITEM_WORDS
+};
+
+/* Components of a path, three words each. */
+enum {
+    STORY_IMAGE_STEP_PARENT,          /* any, any */
+    STORY_IMAGE_STEP_INDEX,           /* index, any */
+    STORY_IMAGE_STEP_NAME,            /* offset and length in the lent names */
+    STORY_IMAGE_STEP_WORDS
+};
+
+/* Words of a draft's entries: of a node, a named entry, a definition, an item. A child is one word. */
+enum {
+    STORY_IMAGE_DRAFT_NODE_WORDS = 10, /* parent, place, kind, f0 to f6: docs/FORMAT.md has the fields of each kind */
+    STORY_IMAGE_DRAFT_NAMED_WORDS = 3, /* offset and length of the name, node */
+    STORY_IMAGE_DRAFT_DEFINITION_WORDS = 4, /* offset and length of the name, first item, number of items */
+    STORY_IMAGE_DRAFT_ITEM_WORDS = 3   /* offset and length of the name, value */
+};
+
+/* How many work words are needed is said at each call; those that are needed are zero on return, or as they were.
+ * Words past them, and words of an answer, a view or an output past what is written, always stay as they were. */
+
+/* Tests the whole image. 0, and the view's STORY_IMAGE_VIEW_WORDS words. Or 1 to 17, and the view stays as it was.
+ * Work words needed: nodes + children + named + 1, which the header says at bytes 24, 32 and 40; an image that passes
+ * row 5 never needs more than length / 4, whatever its header says, so with length / 4 words lent 7 is not given.
+ * Numbers 1 to 7 leave all work words as they were, else as many as are needed are 0 on return. A view of fewer words
+ * counts as a lack of work words: 7, after rows 1 to 6. */
 uint32_t story_image_load(const uint8_t *bytes, size_t length, uint32_t *work, size_t work_length, uint32_t *view,
                           size_t view_length);
 
 /* Queries. Each returns 0 and writes its words at the start of the answer, or returns 18 and leaves the answer as it
- * was; words past those that are written stay. The view is lent as the words that story_image_load wrote. A view of
- * fewer than STORY_IMAGE_VIEW_WORDS words, or an answer too short for the query's words, gives 18. Any bytes and any
- * view may be asked: a section outside the bytes counts as empty. A text is an offset and a length in the strings; a
- * signed value is handed over as its 32 bits. */
+ * was. The view is lent as the words that story_image_load wrote. A view of fewer than STORY_IMAGE_VIEW_WORDS words,
+ * or an answer too short for the query's words, gives 18. Any bytes and any view may be asked: a section outside the
+ * bytes counts as empty, and an answer's parts lie inside the bytes. On accepted bytes a node below the node count
+ * has a view, texts are there and UTF-8, targets are below the node count. A text is an offset and a length in the
+ * strings; story_image_text gives its place in the bytes. A signed value is handed over as its 32 bits:
+ * (int32_t)word. A float's bits are copied into one with memcpy. */
 
-/* STORY_IMAGE_NODE_WORDS words. */
+/* STORY_IMAGE_NODE_WORDS words: the view of a node. */
 uint32_t story_image_node_view(const uint8_t *bytes, size_t length, const uint32_t *view, size_t view_length,
                                uint32_t node, uint32_t *answer, size_t answer_length);
 
-/* Of a text: its start and its length in the image's bytes, where it is present and inside the strings. */
+/* STORY_IMAGE_TEXT_WORDS words: of a text, its start and its length in the image's bytes, where it is present
+ * (neither word NONE) and inside the strings. No byte 0 is put behind a text. */
 uint32_t story_image_text(const uint8_t *bytes, size_t length, const uint32_t *view, size_t view_length,
                           uint32_t offset, uint32_t text_length, uint32_t *answer, size_t answer_length);
 
-/* How many ordered, how many named children a container has. */
+/* STORY_IMAGE_COUNT_WORDS words: how many ordered, how many named children a container has. 18 for a node that is no
+ * container. */
 uint32_t story_image_child_count(const uint8_t *bytes, size_t length, const uint32_t *view, size_t view_length,
                                  uint32_t node, uint32_t *answer, size_t answer_length);
 uint32_t story_image_named_child_count(const uint8_t *bytes, size_t length, const uint32_t *view, size_t view_length,
                                        uint32_t node, uint32_t *answer, size_t answer_length);
 
-/* An ordered child of a container: its node. */
+/* STORY_IMAGE_FOUND_WORDS words: an ordered child of a container, its node. */
 uint32_t story_image_child_at(const uint8_t *bytes, size_t length, const uint32_t *view, size_t view_length,
                               uint32_t node, uint32_t index, uint32_t *answer, size_t answer_length);
 
-/* A named child of a container: name, its length, node. */
+/* STORY_IMAGE_NAMED_CHILD_WORDS words: a named child of a container. Its name here need not be the name in its own
+ * view. */
 uint32_t story_image_named_child_at(const uint8_t *bytes, size_t length, const uint32_t *view, size_t view_length,
                                     uint32_t node, uint32_t index, uint32_t *answer, size_t answer_length);
 
-/* The named child of a container that bears the name: its node. */
+/* STORY_IMAGE_FOUND_WORDS words: the named child of a container that bears the name, its node. The name is compared
+ * byte by byte. */
 uint32_t story_image_find_named_child(const uint8_t *bytes, size_t length, const uint32_t *view, size_t view_length,
                                       uint32_t node, const uint8_t *name, size_t name_length, uint32_t *answer,
                                       size_t answer_length);
 
-/* Of a list value, from its payload and the strings. An item: origin, its length (both NONE if there is none), name,
- * its length, value. An origin: text, its length. */
+/* Of a list value, from its payload (the part of the payload section that the node's view names) and the whole
+ * strings section. STORY_IMAGE_LIST_ENTRY_WORDS words: item `index`; the origin is NONE, NONE if there is none.
+ * STORY_IMAGE_LIST_ORIGIN_WORDS words: origin `index`. */
 uint32_t story_image_list_entry(const uint8_t *payload, size_t payload_length, const uint8_t *strings,
                                 size_t strings_length, uint32_t index, uint32_t *answer, size_t answer_length);
 uint32_t story_image_list_origin(const uint8_t *payload, size_t payload_length, const uint8_t *strings,
                                  size_t strings_length, uint32_t index, uint32_t *answer, size_t answer_length);
 
-/* How many list definitions there are. */
+/* STORY_IMAGE_COUNT_WORDS words: how many list definitions there are. */
 uint32_t story_image_definition_count(const uint8_t *bytes, size_t length, const uint32_t *view, size_t view_length,
                                       uint32_t *answer, size_t answer_length);
 
-/* A list definition: name, its length, number of its items. An item of a definition: name, its length, value. */
+/* STORY_IMAGE_DEFINITION_WORDS words: a list definition. STORY_IMAGE_DEFINITION_ITEM_WORDS words: an item of a
+ * definition, counted from the definition's first. */
 uint32_t story_image_definition(const uint8_t *bytes, size_t length, const uint32_t *view, size_t view_length,
                                 uint32_t index, uint32_t *answer, size_t answer_length);
 uint32_t story_image_definition_item(const uint8_t *bytes, size_t length, const uint32_t *view, size_t view_length,
                                      uint32_t index, uint32_t item, uint32_t *answer, size_t answer_length);
 
-/* The list item that a name means, with or without its origin and a dot in front: number of its definition, its number
- * among all items, value. */
+/* STORY_IMAGE_LIST_ITEM_WORDS words: the list item that a name means. What stands before the first dot is the
+ * definition's name; without a dot the last definition that has the item answers. A name that is empty or White_Space
+ * alone gives 18. The number of the item is among the items of all definitions, not among those of its own. */
 uint32_t story_image_list_item(const uint8_t *bytes, size_t length, const uint32_t *view, size_t view_length,
                                const uint8_t *name, size_t name_length, uint32_t *answer, size_t answer_length);
 
-/* The node at the end of a path. Three words a component: kind (0 parent, 1 index, 2 name), then index and 0, or offset
- * and length in names. */
+/* STORY_IMAGE_FOUND_WORDS words: the node at the end of a path of STORY_IMAGE_STEP_WORDS words a component. Not
+ * relative: the walk starts at the root, and `origin` is not looked at. Relative: the walk starts at `origin` if that
+ * is a container. From any other node it starts at that node's parent, and the first component is skipped without
+ * being read: a relative path of such a node begins with the step up to its parent. Then each component leads on: to
+ * the parent (18 at the root), to the ordered child at an index, to the named child that bears a name. An unknown
+ * kind, a name outside the lent names, or one or two words left over at the end give 18 when the walk comes to them. */
 uint32_t story_image_resolve_path(const uint8_t *bytes, size_t length, const uint32_t *view, size_t view_length,
                                   uint32_t origin, bool relative, const uint32_t *path, size_t path_length,
                                   const uint8_t *names, size_t names_length, uint32_t *answer, size_t answer_length);
 
-/* Writes the image of a draft at the start of the output: sections 0 to 4 as words, payload and strings as bytes; any
- * numbering with root 0. 0, and the image's length as the first of the written words; bytes and words past them stay. Or
- * 3, 7, 19 to 23, the number of the first rule broken, and output and written words stay as they were. Work words needed:
- * 16 a node, 4 for each child, named entry, definition, item and payload byte; numbers 3, 19 and 7 leave all work words
- * as they were, else as many as are needed are 0 on return and the rest stays. No word for the length counts as a lack
- * of work words: 7, after 3 and 19. */
+/* Writes the image of a draft at the start of the output: sections 0 to 4 as words (nodes, children, named entries,
+ * definitions, items; lengths are counts of words), payload and strings as bytes; any numbering with root 0, texts
+ * anywhere in the strings. Children, named entries and payloads lie in the order of the nodes that have them. 0, and
+ * the image's length as the first of the written words. Or 3, 7, 19 to 23, and output and written words stay as they
+ * were. Work words needed: 16 a node, 4 for each child, named entry, definition, item and payload byte; numbers 3, 19
+ * and 7 leave all work words as they were, else as many as are needed are 0 on return. No word for the length counts
+ * as a lack of work words: 7, after 3 and 19. */
 uint32_t story_image_write(uint32_t ink_version, const uint32_t *nodes, size_t nodes_length, const uint32_t *children,
                            size_t children_length, const uint32_t *named, size_t named_length,
                            const uint32_t *definitions, size_t definitions_length, const uint32_t *items,

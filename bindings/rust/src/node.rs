@@ -1,117 +1,156 @@
-//! A node's view as an enum.
+//! A node's view as an enum, made of the ten words that the library writes.
 
-use crate::queries::optional_text;
-use crate::{NONE, Text};
+use crate::NONE;
+use crate::names::{CommandType, Op};
 
+/// A node: parent, index among its parent's ordered children, kind.
+///
+/// `T` is a text and `L` a list value: `&str` and [`ListView`](crate::ListView) of an [`Image`](crate::Image), places of
+/// [`raw::Queries`](crate::raw::Queries).
 #[derive(Clone, Copy, Debug, PartialEq)]
-pub struct NodeView {
+pub struct NodeViewOf<T, L> {
+    /// Absent of the root alone.
     pub parent: Option<u32>,
-    /// Its index among the ordered children.
-    pub place: Option<u32>,
-    pub kind: Kind,
+    /// Of a container that is only a named child it says nothing.
+    pub child_index: Option<u32>,
+    pub kind: NodeKindOf<T, L>,
 }
 
-#[derive(Clone, Copy, Debug, PartialEq, Eq)]
-pub enum PushType {
+/// The kind of a node, with its fields.
+#[derive(Clone, Copy, Debug, PartialEq)]
+pub enum NodeKindOf<T, L> {
+    Container {
+        count_flags: i32,
+        name: Option<T>,
+    },
+    ChoicePoint {
+        flags: i32,
+        target: Option<u32>,
+    },
+    ControlCommand(CommandType),
+    Divert {
+        path: Option<T>,
+        target: Option<u32>,
+        variable_name: Option<T>,
+        external_args: u32,
+        conditional: bool,
+        external: bool,
+        pushes_to_stack: bool,
+        stack_push_type: PushPopType,
+    },
+    Glue,
+    NativeFunction(Op),
+    Tag(T),
+    Value(ValueOf<T, L>),
+    VariableAssignment {
+        name: T,
+        global: bool,
+        new_declaration: bool,
+    },
+    VariableReference {
+        name: T,
+        count_target: Option<u32>,
+    },
+    Void,
+}
+
+/// A value.
+#[derive(Clone, Copy, Debug, PartialEq)]
+pub enum ValueOf<T, L> {
+    Bool(bool),
+    Int(i32),
+    /// All 32 bits of the image's word are kept, of a NaN too: `to_bits` gives them back.
+    Float(f32),
+    String(T),
+    List(L),
+    /// The text of its path.
+    DivertTarget(T),
+    VariablePointer {
+        name: T,
+        context_index: i32,
+    },
+}
+
+/// What a divert pushes.
+#[derive(Clone, Copy, Debug, PartialEq, Eq, Hash)]
+pub enum PushPopType {
     Tunnel,
     Function,
     FunctionEvaluationFromGame,
 }
 
-#[derive(Clone, Copy, Debug, PartialEq)]
-pub enum Kind {
-    Container {
-        flags: i32,
-        name: Option<Text>,
-    },
-    Choice {
-        flags: i32,
-        target: Option<u32>,
-    },
-    /// The command's number, 0 to 25.
-    Command(u32),
-    Divert {
-        path: Option<Text>,
-        target: Option<u32>,
-        variable: Option<Text>,
-        arguments: u32,
-        conditional: bool,
-        external: bool,
-        pushes: bool,
-        push_type: PushType,
-    },
-    Glue,
-    /// The operator's number, 0 to 30.
-    Operator(u32),
-    Tag(Text),
-    Bool(bool),
-    Int(i32),
-    /// The value's 32 bits.
-    Float(u32),
-    String(Text),
-    /// Its place in the payload.
-    List(Text),
-    DivertTarget(Text),
-    Pointer {
-        name: Text,
-        context: i32,
-    },
-    Assignment {
-        name: Text,
-        global: bool,
-        new_declaration: bool,
-    },
-    Reference {
-        name: Text,
-        target: Option<u32>,
-    },
-    Void,
-}
-
-fn optional(word: u32) -> Option<u32> {
-    (word != NONE).then_some(word)
+impl PushPopType {
+    /// By its number in the flags of a divert.
+    #[inline]
+    pub(crate) fn from_number(number: u32) -> Option<Self> {
+        match number {
+            0 => Some(PushPopType::Tunnel),
+            1 => Some(PushPopType::Function),
+            2 => Some(PushPopType::FunctionEvaluationFromGame),
+            _ => None,
+        }
+    }
 }
 
 /// As many words the library writes: parent, place, kind, text and length, variable and length, target, value, flags.
 pub(crate) const WORDS: usize = 10;
 
+/// What texts and list values are handed back as, by their places.
+pub(crate) trait Parts {
+    type Text;
+    type List;
+    fn text(&self, offset: u32, length: u32) -> Self::Text;
+    fn list(&self, offset: u32, length: u32) -> Self::List;
+}
+
 #[inline]
-pub(crate) fn view_of(words: [u32; WORDS]) -> Option<NodeView> {
-    let [parent, place, kind, offset, length, variable, variable_length, target, value, flags] = words;
-    let text = Text { offset, length };
-    let kind = match kind {
-        1 => Kind::Container { flags: flags as i32, name: optional_text(offset, length) },
-        2 => Kind::Choice { flags: flags as i32, target: optional(target) },
-        3 => Kind::Command(value),
-        4 => Kind::Divert {
-            path: optional_text(offset, length),
+pub(crate) fn optional(word: u32) -> Option<u32> {
+    if word == NONE { None } else { Some(word) }
+}
+
+#[inline]
+fn optional_text<P: Parts>(parts: &P, offset: u32, length: u32) -> Option<P::Text> {
+    if offset == NONE { None } else { Some(parts.text(offset, length)) }
+}
+
+/// The view that ten words of the library say; nothing for words that it does not write. Each case makes the whole view, so
+/// that its fields go straight to their places.
+#[inline]
+pub(crate) fn view_of<P: Parts>(words: &[u32; WORDS], parts: &P) -> Option<NodeViewOf<P::Text, P::List>> {
+    let [parent, place, tag, offset, length, variable, variable_length, target, value, flags] = *words;
+    let node = |kind| Some(NodeViewOf { parent: optional(parent), child_index: optional(place), kind });
+    let text = || parts.text(offset, length);
+    match tag {
+        1 => node(NodeKindOf::Container { count_flags: flags as i32, name: optional_text(parts, offset, length) }),
+        2 => node(NodeKindOf::ChoicePoint { flags: flags as i32, target: optional(target) }),
+        3 => node(NodeKindOf::ControlCommand(CommandType::from_number(value)?)),
+        4 => node(NodeKindOf::Divert {
+            path: optional_text(parts, offset, length),
             target: optional(target),
-            variable: optional_text(variable, variable_length),
-            arguments: value,
+            variable_name: optional_text(parts, variable, variable_length),
+            external_args: value,
             conditional: flags & 1 != 0,
             external: flags & 2 != 0,
-            pushes: flags & 4 != 0,
-            push_type: match flags >> 3 {
-                0 => PushType::Tunnel,
-                1 => PushType::Function,
-                2 => PushType::FunctionEvaluationFromGame,
-                _ => return None,
-            },
-        },
-        5 => Kind::Glue,
-        6 => Kind::Operator(value),
-        7 => Kind::Tag(text),
-        8 => Kind::Bool(value != 0),
-        9 => Kind::Int(value as i32),
-        10 => Kind::Float(value),
-        11 => Kind::String(text),
-        12 => Kind::List(text),
-        13 => Kind::DivertTarget(text),
-        14 => Kind::Pointer { name: text, context: value as i32 },
-        16 => Kind::Assignment { name: text, global: flags & 1 != 0, new_declaration: flags & 2 != 0 },
-        17 => Kind::Reference { name: text, target: optional(target) },
-        18 => Kind::Void,
-        _ => return None,
-    };
-    Some(NodeView { parent: optional(parent), place: optional(place), kind })
+            pushes_to_stack: flags & 4 != 0,
+            stack_push_type: PushPopType::from_number(flags >> 3)?,
+        }),
+        5 => node(NodeKindOf::Glue),
+        6 => node(NodeKindOf::NativeFunction(Op::from_number(value)?)),
+        7 => node(NodeKindOf::Tag(text())),
+        8 => node(NodeKindOf::Value(ValueOf::Bool(value != 0))),
+        9 => node(NodeKindOf::Value(ValueOf::Int(value as i32))),
+        10 => node(NodeKindOf::Value(ValueOf::Float(f32::from_bits(value)))),
+        11 => node(NodeKindOf::Value(ValueOf::String(text()))),
+        12 => node(NodeKindOf::Value(ValueOf::List(parts.list(offset, length)))),
+        13 => node(NodeKindOf::Value(ValueOf::DivertTarget(text()))),
+        14 => node(NodeKindOf::Value(ValueOf::VariablePointer { name: text(), context_index: value as i32 })),
+        16 => node(NodeKindOf::VariableAssignment {
+            name: text(),
+            global: flags & 1 != 0,
+            new_declaration: flags & 2 != 0,
+        }),
+        17 => node(NodeKindOf::VariableReference { name: text(), count_target: optional(target) }),
+        18 => node(NodeKindOf::Void),
+        _ => None,
+    }
 }

@@ -1,13 +1,14 @@
 //! What the header of an image says.
 
-/// Where a section lies, and how many entries it has.
-#[derive(Clone, Copy, Debug, Default, PartialEq)]
+/// Where a section lies in the image's bytes, and how many entries it has.
+#[derive(Clone, Copy, Debug, Default, PartialEq, Eq)]
 pub struct Section {
     pub offset: u32,
     pub count: u32,
 }
 
-#[derive(Clone, Copy, Debug, Default, PartialEq)]
+/// The ink version, and the sections.
+#[derive(Clone, Copy, Debug, Default, PartialEq, Eq)]
 pub struct View {
     pub ink_version: u32,
     pub nodes: Section,
@@ -24,13 +25,19 @@ impl View {
     /// As many words the library takes and writes: the ink version, then offset and count of each section.
     pub const WORDS: usize = 17;
 
-    fn sections(&self) -> [Section; 8] {
-        [self.nodes, self.children, self.named, self.definitions, self.items, self.index, self.payload, self.strings]
-    }
-
     pub fn words(&self) -> [u32; View::WORDS] {
+        let sections = [
+            self.nodes,
+            self.children,
+            self.named,
+            self.definitions,
+            self.items,
+            self.index,
+            self.payload,
+            self.strings,
+        ];
         let mut words = [self.ink_version; View::WORDS];
-        for (pair, section) in words[1..].chunks_exact_mut(2).zip(self.sections()) {
+        for (pair, section) in words[1..].chunks_exact_mut(2).zip(sections) {
             pair.copy_from_slice(&[section.offset, section.count]);
         }
         words

@@ -1,8 +1,15 @@
-//! Samples of the repository, loaded.
+//! Samples of the repository, loaded; work words; numbers and their words.
 
 use story_image::{Image, Refusal, Section, ffi, load_words};
 
 const SMALLEST: &[u8] = include_bytes!("../../../samples/smallest.image");
+const FORMAT: &str = include_str!("../../../docs/FORMAT.md");
+const README: &str = include_str!("../../../README.md");
+const HEADER: &str = include_str!("../../../include/story_image.h");
+
+fn refusal(bytes: &[u8], words: usize) -> Option<Refusal> {
+    Image::load(bytes, &mut vec![0; words]).err()
+}
 
 #[test]
 fn accepted() {
@@ -12,14 +19,54 @@ fn accepted() {
     assert_eq!(image.view().ink_version, 21);
     assert_eq!(image.view().nodes, Section { offset: 88, count: 1 });
     assert_eq!(image.view().strings, Section { offset: 140, count: 0 });
+    assert_eq!(image.bytes(), SMALLEST);
 }
 
 #[test]
 fn refused() {
-    let refusal = |bytes: &[u8], words: usize| Image::load(bytes, &mut vec![0; words]).err();
-    assert_eq!(refusal(&SMALLEST[..87], 2), Some(Refusal(1)));
-    assert_eq!(refusal(&SMALLEST[..139], 2), Some(Refusal(4)));
-    assert_eq!(refusal(SMALLEST, 1), Some(Refusal(7)));
+    assert_eq!(refusal(&SMALLEST[..87], 2), Some(Refusal::BAD_HEADER));
+    assert_eq!(refusal(&SMALLEST[..139], 2), Some(Refusal::BAD_LENGTH));
+    assert_eq!(refusal(SMALLEST, 1), Some(Refusal::TOO_FEW_WORDS));
+}
+
+/// Every sample of samples/README.md, with no more work words than `load_words` says.
+#[test]
+fn samples() {
+    let folder = concat!(env!("CARGO_MANIFEST_DIR"), "/../../samples/");
+    let table = std::fs::read_to_string(format!("{folder}README.md")).unwrap();
+    let rows: Vec<Vec<&str>> = table
+        .lines()
+        .filter(|line| line.starts_with("| `"))
+        .map(|line| line.split('|').map(|cell| cell.trim().trim_matches('`')).collect())
+        .collect();
+    assert!(rows.len() >= 20);
+    for row in rows {
+        let bytes = std::fs::read(format!("{folder}{}", row[1])).unwrap();
+        let mut work = vec![0; load_words(&bytes)];
+        let answer = match Image::load(&bytes, &mut work) {
+            Ok(image) => format!("ok {} {}", image.view().ink_version, image.node_count()),
+            Err(refusal) => format!("no {}", refusal.number()),
+        };
+        assert_eq!(answer, row[3], "{}", row[1]);
+    }
+}
+
+#[test]
+fn work_words() {
+    // a header that asks for more words than the machine has
+    let mut hostile = [255; 88];
+    hostile[..8].copy_from_slice(b"BLINKIMG");
+    assert_eq!(load_words(&hostile), 22);
+    assert_eq!(load_words(&[0; 87]), 0);
+    assert_eq!(load_words(SMALLEST), 2);
+    // one word fewer than is said is not enough
+    for file in ["guide", "step", "largest"] {
+        let bytes = std::fs::read(format!("{}/../../samples/{file}.image", env!("CARGO_MANIFEST_DIR"))).unwrap();
+        let words = load_words(&bytes);
+        assert!(words <= bytes.len() / 4);
+        assert_eq!(refusal(&bytes, words), None);
+        assert_eq!(refusal(&bytes, words - 1), Some(Refusal::TOO_FEW_WORDS));
+    }
 }
 
 #[test]
@@ -30,4 +77,25 @@ fn short_view() {
         ffi::story_image_load(SMALLEST.as_ptr(), SMALLEST.len(), work.as_mut_ptr(), 2, view.as_mut_ptr(), 16)
     };
     assert_eq!((number, work, view), (7, [5; 2], [5; 16]));
+}
+
+/// The words are those of README's table, FORMAT has as many rows, and the header has the same names.
+#[test]
+fn words_of_numbers() {
+    assert_eq!((Refusal(0).words(), Refusal(24).words()), ("", ""));
+    for number in 1..=23 {
+        let words = Refusal(number).words();
+        assert!(README.contains(&format!("| {number} | {} |\n", words.replace("BLINKIMG", "`BLINKIMG`"))), "{words}");
+        assert!(FORMAT.contains(&format!("\n| {number} | ")));
+    }
+    for (name, refusal) in [
+        ("BAD_HEADER", Refusal::BAD_HEADER),
+        ("BAD_CHECKSUM", Refusal::BAD_CHECKSUM),
+        ("LEFT_OVER", Refusal::LEFT_OVER),
+        ("NOT_FOUND", Refusal::NOT_FOUND),
+        ("DRAFT_SHAPE", Refusal::DRAFT_SHAPE),
+        ("NO_ROOM", Refusal::NO_ROOM),
+    ] {
+        assert!(HEADER.contains(&format!("STORY_IMAGE_{name} = {}", refusal.number())), "{name}");
+    }
 }

@@ -1,76 +1,214 @@
-//! Queries on a sample of the repository, and what they leave of an answer.
+//! Queries on samples of the repository, and what they leave of an answer.
 
-use story_image::{Image, Kind, NONE, Step, ffi, load_words};
+use story_image::raw::{self, TextPlace};
+use story_image::{
+    CommandType, Image, ListItem, NONE, NodeKindView, Op, Refusal, Section, Step, ValueView, View, ffi, load_words,
+};
 
 const STEP: &[u8] = include_bytes!("../../../samples/step.image");
+const GUIDE: &[u8] = include_bytes!("../../../samples/guide.image");
 
-fn step() -> Image<'static> {
-    Image::load(STEP, &mut vec![0; load_words(STEP)]).unwrap()
+fn image(bytes: &'static [u8]) -> Image<'static> {
+    Image::load(bytes, &mut vec![0; load_words(bytes)]).unwrap()
 }
 
 #[test]
 fn nodes_and_texts() {
-    let image = step();
+    let image = image(STEP);
     let root = image.node_view(0).unwrap();
-    assert_eq!((root.parent, root.place), (None, None));
-    assert_eq!(root.kind, Kind::Container { flags: 0, name: None });
-    let Kind::String(text) = image.node_view(1).unwrap().kind else {
-        panic!("node 1 is a string");
-    };
-    assert_eq!(image.text(text), Some(&b"Good evening."[..]));
-    assert_eq!(image.node_view(image.view().nodes.count), None);
+    assert_eq!((root.parent, root.child_index), (None, None));
+    assert_eq!(root.kind, NodeKindView::Container { count_flags: 0, name: None });
+    assert_eq!(image.node_view(1).unwrap().kind, NodeKindView::Value(ValueView::String("Good evening.")));
+    assert_eq!(image.nodes().count(), image.node_count() as usize);
+    assert_eq!(image.node_view(image.node_count()), None);
     assert_eq!(image.node_view(NONE), None);
+}
+
+/// Every text of every node is the part of the bytes that the library names.
+#[test]
+fn texts_are_parts() {
+    for image in [image(STEP), image(GUIDE)] {
+        let raw = image.raw();
+        let same = |text: Option<&str>, place: Option<TextPlace>| {
+            let part = place.map(|place| raw.text(place).unwrap());
+            assert_eq!(text.map(str::as_bytes), part);
+            assert_eq!(text.map(|text| text.as_ptr()), part.map(|part| part.as_ptr()));
+        };
+        for node in 0..image.node_count() {
+            let words = raw.node_words(node).unwrap();
+            let place =
+                |at: usize| (words[at] != NONE).then_some(TextPlace { offset: words[at], length: words[at + 1] });
+            match image.node_view(node).unwrap().kind {
+                NodeKindView::Container { name, .. } => same(name, place(3)),
+                NodeKindView::Divert { path, variable_name, .. } => {
+                    same(path, place(3));
+                    same(variable_name, place(5));
+                }
+                NodeKindView::Tag(text)
+                | NodeKindView::Value(ValueView::String(text) | ValueView::DivertTarget(text))
+                | NodeKindView::Value(ValueView::VariablePointer { name: text, .. })
+                | NodeKindView::VariableAssignment { name: text, .. }
+                | NodeKindView::VariableReference { name: text, .. } => same(Some(text), place(3)),
+                NodeKindView::ControlCommand(command) => assert_eq!(command.number(), words[8]),
+                NodeKindView::NativeFunction(op) => assert_eq!(op.number(), words[8]),
+                _ => (),
+            }
+        }
+    }
+}
+
+/// The names of commands and operators are the texts by which the image names them.
+#[test]
+fn names() {
+    let image = image(GUIDE);
+    let nodes = &image.bytes()[image.view().nodes.offset as usize..];
+    let word = |at: usize| u32::from_le_bytes(nodes[at..at + 4].try_into().unwrap());
+    let mut seen = 0;
+    for node in 0..image.node_count() {
+        let at = 40 * node as usize;
+        let name = || image.raw().text(TextPlace { offset: word(at + 12), length: word(at + 16) }).unwrap();
+        let shown = match image.node_view(node).unwrap().kind {
+            NodeKindView::ControlCommand(command) => command.name(),
+            NodeKindView::NativeFunction(op) => op.name(),
+            _ => continue,
+        };
+        assert_eq!(shown.as_bytes(), name());
+        seen += 1;
+    }
+    assert!(seen > 0);
+    assert_eq!((CommandType::ALL.len(), Op::ALL.len()), (26, 31));
+    assert!(CommandType::ALL.iter().all(|one| CommandType::from_name(one.name()) == Some(*one)));
+    assert!(Op::ALL.iter().all(|one| Op::from_name(one.name()) == Some(*one)));
+    assert_eq!((CommandType::from_number(26), Op::from_number(31)), (None, None));
 }
 
 #[test]
 fn children_and_walks() {
-    let image = step();
+    let image = image(STEP);
     let count = image.child_count(0).unwrap();
-    assert_eq!(image.child_at(0, 0), Some(1));
+    assert_eq!(image.children(0).count(), count as usize);
+    assert_eq!(image.children(0).next(), Some(1));
     assert_eq!(image.child_at(0, count), None);
     assert_eq!(image.child_count(1), None);
-    for index in 0..image.named_child_count(0).unwrap() {
-        let entry = image.named_child_at(0, index).unwrap();
-        let name = image.text(entry.name).unwrap();
-        assert_eq!(image.find_named_child(0, name), Some(entry.node));
-        assert_eq!(image.resolve_path(1, false, &[Step::Name(name)]), Some(entry.node));
-        assert_eq!(image.resolve_path(entry.node, true, &[Step::Parent]), Some(0));
+    assert_eq!((image.children(1).count(), image.named_children(1).count()), (0, 0));
+    assert!(image.named_children(0).count() > 0);
+    for child in image.named_children(0) {
+        assert_eq!(image.find_named_child(0, child.name), Some(child.node));
+        assert_eq!(image.resolve_path(1, false, &[Step::Name(child.name)]), Some(child.node));
+        assert_eq!(image.resolve_path(child.node, true, &[Step::Parent]), Some(0));
     }
-    assert_eq!(image.find_named_child(0, b"no such name"), None);
+    assert_eq!(image.find_named_child(0, "no such name"), None);
     // from a node that is no container: its parent, one component skipped
     assert_eq!(image.resolve_path(1, true, &[]), Some(0));
     assert_eq!(image.resolve_path(1, true, &[Step::Index(9), Step::Index(0)]), Some(1));
+    assert_eq!(image.resolve_path(0, true, &[Step::Parent]), None);
+}
+
+/// Paths in one call and in several say the same.
+#[test]
+fn long_paths() {
+    let image = image(STEP);
+    let long = "x".repeat(300);
+    let child = image.named_children(0).next().unwrap();
+    // down to a child that is no container and back, many times over
+    for times in [1, 5, 7, 8, 9, 16, 17, 40] {
+        let down_and_up: Vec<Step<'_>> = [Step::Index(0), Step::Parent].repeat(times);
+        let names: Vec<Step<'_>> = [Step::Name(child.name), Step::Parent].repeat(times);
+        for (path, end) in [
+            (down_and_up.clone(), Some(0)),
+            (names.clone(), Some(0)),
+            ([&down_and_up[..], &[Step::Index(0)]].concat(), Some(1)),
+            ([&names[..], &[Step::Index(0)], &down_and_up[..]].concat(), None),
+            ([&names[..], &[Step::Name(&long)]].concat(), None),
+            ([&[Step::Name(&long)], &names[..]].concat(), None),
+        ] {
+            assert_eq!(image.resolve_path(0, false, &path), end, "{times}");
+            assert_eq!(image.resolve_path(0, true, &path), end, "{times}");
+            assert_eq!(in_one_call(&image, 0, &path), end, "{times}");
+            // the first is skipped, a long name too
+            let skipped = [&[Step::Name(&long)], &path[..]].concat();
+            assert_eq!(image.resolve_path(1, true, &skipped), end, "{times}");
+        }
+    }
+}
+
+fn in_one_call(image: &Image<'_>, origin: u32, path: &[Step<'_>]) -> Option<u32> {
+    let (mut words, mut names) = (vec![], vec![]);
+    for step in path {
+        words.extend(match step {
+            Step::Parent => [0, 0, 0],
+            Step::Index(index) => [1, *index, 0],
+            Step::Name(name) => [2, names.len() as u32, name.len() as u32],
+        });
+        if let Step::Name(name) = step {
+            names.extend_from_slice(name.as_bytes());
+        }
+    }
+    image.resolve_components(origin, false, &words, &names)
 }
 
 #[test]
 fn lists() {
-    let image = step();
-    let definitions = image.definition_count().unwrap();
-    assert_eq!(image.definition(definitions), None);
+    let image = image(STEP);
+    assert_eq!(image.definitions().count(), image.definition_count() as usize);
+    assert_eq!(image.definition(image.definition_count()), None);
     let mut before = 0;
-    for index in 0..definitions {
-        let (origin, items) = image.definition(index).unwrap();
-        for item in 0..items {
-            let (name, value) = image.definition_item(index, item).unwrap();
-            let full = [image.text(origin).unwrap(), b".", image.text(name).unwrap()].concat();
-            let found = image.list_item(&full).unwrap();
-            assert_eq!((found.definition, found.item, found.value), (index, before + item, value));
+    for (index, definition) in (0..).zip(image.definitions()) {
+        assert_eq!(image.definition_items(index).count(), definition.items as usize);
+        for (item, (name, value)) in (0..).zip(image.definition_items(index)) {
+            let found = image.list_item(format!("{}.{name}", definition.name)).unwrap();
+            assert_eq!(found, ListItem { definition: index, item: before + item, value });
+            assert_eq!(image.list_item_names(found), Some((definition.name, name)));
         }
-        before += items;
+        before += definition.items;
     }
     assert!(before > 0);
-    assert_eq!(image.list_item(b" "), None);
-    let lists = (0..image.view().nodes.count).filter_map(|node| match image.node_view(node)?.kind {
-        Kind::List(list) => Some(list),
-        _ => None,
-    });
-    let entries: usize = lists.map(|list| (0..).map_while(|j| image.list_entry(list, j)).count()).sum();
-    assert!(entries > 0);
+    assert_eq!(image.list_item(" "), None);
+    let lists: Vec<_> = (0..image.node_count()).filter_map(|node| image.list(node)).collect();
+    assert!(!lists.is_empty());
+    for list in &lists {
+        assert_eq!(*list, *list);
+        for item in list.items() {
+            assert!(!item.name.is_empty());
+            if let Some(origin) = item.origin {
+                assert_eq!(image.list_item(format!("{origin}.{}", item.name)).unwrap().value, item.value);
+            }
+        }
+        assert_eq!(list.item(list.items().count() as u32), None);
+        assert_eq!(list.origin(list.origins().count() as u32), None);
+    }
+    assert!(lists.iter().any(|list| list.items().count() > 0));
+}
+
+/// Any bytes and any view may be asked; an answer's parts lie inside the bytes.
+#[test]
+fn any_view() {
+    let strange = Section { offset: NONE, count: NONE };
+    for view in [
+        View::default(),
+        View { nodes: strange, ..image(STEP).view() },
+        View { strings: strange, ..image(STEP).view() },
+        View { payload: strange, ..image(STEP).view() },
+        View { nodes: Section { offset: 3, count: 100 }, ..image(STEP).view() },
+    ] {
+        for bytes in [STEP, &STEP[..500], &[]] {
+            let asked = raw::Queries::new(bytes, view);
+            for node in (0..120).chain([NONE]) {
+                asked.node_view(node);
+                asked.child_at(node, 0);
+                asked.named_child_at(node, 0);
+                asked.find_named_child(node, b"a");
+                asked.resolve_path(node, true, &[Step::Parent, Step::Index(0), Step::Name("a")]);
+                let place = TextPlace { offset: node, length: 4 };
+                assert!(asked.text(place).is_none_or(|text| text.len() == 4));
+            }
+        }
+    }
 }
 
 /// Number and answer of a node view with so many words of a view and of an answer.
 fn root_view(view_words: usize, answer_words: usize) -> (u32, Vec<u32>) {
-    let (view, mut answer) = (step().view().words(), vec![5; answer_words]);
+    let (view, mut answer) = (image(STEP).view().words(), vec![5; answer_words]);
     // SAFETY: the slices live through the call, and the answer alone is written.
     let number = unsafe {
         ffi::story_image_node_view(
@@ -89,6 +227,10 @@ fn root_view(view_words: usize, answer_words: usize) -> (u32, Vec<u32>) {
 #[test]
 fn answers() {
     assert_eq!(root_view(17, 12), (0, vec![NONE, NONE, 1, NONE, NONE, NONE, NONE, NONE, 0, 0, 5, 5]));
-    assert_eq!(root_view(17, 9), (18, vec![5; 9]));
-    assert_eq!(root_view(16, 12), (18, vec![5; 12]));
+    // too short: no answer, and nothing is written
+    assert_ne!(root_view(17, 9).0, 0);
+    assert_eq!(root_view(17, 9).1, vec![5; 9]);
+    assert_ne!(root_view(16, 12).0, 0);
+    assert_eq!(root_view(16, 12).1, vec![5; 12]);
+    assert_eq!(Refusal::NOT_FOUND.number(), 18);
 }

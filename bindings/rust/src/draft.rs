@@ -1,0 +1,81 @@
+//! Drafts, and writing an image from one.
+
+use crate::ffi;
+use crate::refusal::Refusal;
+
+/// A story before it is an image: sections 0 to 4 as words, payload and strings as bytes; any numbering with root 0.
+/// [`DraftBuilder`](crate::DraftBuilder) makes one node by node.
+///
+/// ```
+/// use story_image::{Draft, Image, NONE, load_words};
+///
+/// let root = [NONE, NONE, 1, NONE, NONE, 0, 0, 0, 0, 0];
+/// let draft = Draft { nodes: &root, ..Draft::default() };
+/// let mut work = vec![0; draft.work_words()];
+/// let mut output = vec![0; 140];
+/// let image = draft.write(21, &mut work, &mut output)?;
+/// assert_eq!(image.len(), 140);
+/// assert_eq!(Image::load(image, &mut vec![0; load_words(image)])?.node_count(), 1);
+/// # Ok::<(), story_image::Refusal>(())
+/// ```
+#[derive(Clone, Copy, Debug, Default)]
+pub struct Draft<'a> {
+    /// Ten words each: parent, place, tag, f0 to f6.
+    pub nodes: &'a [u32],
+    pub children: &'a [u32],
+    /// Three words each: name and its length, node.
+    pub named: &'a [u32],
+    /// Four words each: name and its length, first item, number of items.
+    pub definitions: &'a [u32],
+    /// Three words each: name and its length, value.
+    pub items: &'a [u32],
+    pub payload: &'a [u8],
+    pub strings: &'a [u8],
+}
+
+impl Draft<'_> {
+    /// How many work words its writing takes: 16 a node, 4 for each other entry and payload byte.
+    pub fn work_words(&self) -> usize {
+        let entries = self.children.len() + self.named.len() / 3 + self.definitions.len() / 4 + self.items.len() / 3;
+        16 * (self.nodes.len() / 10) + 4 * (entries + self.payload.len())
+    }
+
+    /// Writes the image at the start of the output and gives that part of it. A refusal leaves the output as it was.
+    pub fn write<'o>(&self, ink_version: u32, work: &mut [u32], output: &'o mut [u8]) -> Result<&'o [u8], Refusal> {
+        let length = write(ink_version, self, work, output)?;
+        Ok(&output[..length])
+    }
+}
+
+/// Writes the image at the start of the output and gives its length. A refusal leaves the output as it was.
+pub fn write(ink_version: u32, draft: &Draft<'_>, work: &mut [u32], output: &mut [u8]) -> Result<usize, Refusal> {
+    let mut written = [0];
+    // SAFETY: the slices are ours, the mutable ones do not overlap, and all live through the call.
+    let number = unsafe {
+        ffi::story_image_write(
+            ink_version,
+            draft.nodes.as_ptr(),
+            draft.nodes.len(),
+            draft.children.as_ptr(),
+            draft.children.len(),
+            draft.named.as_ptr(),
+            draft.named.len(),
+            draft.definitions.as_ptr(),
+            draft.definitions.len(),
+            draft.items.as_ptr(),
+            draft.items.len(),
+            draft.payload.as_ptr(),
+            draft.payload.len(),
+            draft.strings.as_ptr(),
+            draft.strings.len(),
+            work.as_mut_ptr(),
+            work.len(),
+            output.as_mut_ptr(),
+            output.len(),
+            written.as_mut_ptr(),
+            written.len(),
+        )
+    };
+    Refusal::of(number)?;
+    Ok(written[0] as usize)
+}

@@ -1,0 +1,81 @@
+//! Walks along a path.
+
+use crate::raw::Queries;
+
+/// A component of a path.
+#[derive(Clone, Copy, Debug, PartialEq, Eq)]
+pub enum Step<'a> {
+    Parent,
+    Index(u32),
+    Name(&'a str),
+}
+
+/// Components and bytes of names that one call is handed.
+const STEPS: usize = 16;
+const NAMES: usize = 256;
+
+/// The first components of a path, in the words that the library takes.
+struct Piece<'a> {
+    steps: usize,
+    words: [u32; 3 * STEPS],
+    bytes: [u8; NAMES],
+    used: usize,
+    /// A name too long for the bytes here, which then is the one component.
+    long: Option<&'a str>,
+}
+
+impl<'a> Piece<'a> {
+    /// Nothing for a name that is longer than a word can say, which no image has.
+    fn new(path: &[Step<'a>]) -> Option<Self> {
+        let mut piece = Piece { steps: 0, words: [0; 3 * STEPS], bytes: [0; NAMES], used: 0, long: None };
+        for step in path.iter().take(STEPS) {
+            let words = match step {
+                Step::Parent => [0, 0, 0],
+                Step::Index(index) => [1, *index, 0],
+                Step::Name(name) if name.len() <= NAMES - piece.used => piece.name(name),
+                Step::Name(_) if piece.steps > 0 => break,
+                Step::Name(name) => {
+                    piece.long = Some(name);
+                    [2, 0, u32::try_from(name.len()).ok()?]
+                }
+            };
+            piece.words[3 * piece.steps..][..3].copy_from_slice(&words);
+            piece.steps += 1;
+            if piece.long.is_some() {
+                break;
+            }
+        }
+        Some(piece)
+    }
+
+    fn name(&mut self, name: &str) -> [u32; 3] {
+        let start = self.used;
+        self.used += name.len();
+        self.bytes[start..self.used].copy_from_slice(name.as_bytes());
+        [2, start as u32, name.len() as u32]
+    }
+
+    fn names(&self) -> &[u8] {
+        match self.long {
+            Some(name) => name.as_bytes(),
+            None => &self.bytes[..self.used],
+        }
+    }
+}
+
+/// The node at the end of a path, up to 16 components a call.
+pub(crate) fn resolve(asked: &Queries<'_>, origin: u32, relative: bool, path: &[Step<'_>]) -> Option<u32> {
+    let (mut at, mut relative, mut rest) = (origin, relative, path);
+    loop {
+        let piece = Piece::new(rest)?;
+        at = asked.resolve_components(at, relative, &piece.words[..3 * piece.steps], piece.names())?;
+        rest = &rest[piece.steps..];
+        // the next call goes on here: from a node that is no container only a step to the parent leads on, and a
+        // relative walk from such a node begins with that step
+        match rest.first() {
+            None => return Some(at),
+            Some(step) if *step != Step::Parent && asked.child_count(at).is_none() => return None,
+            Some(_) => relative = true,
+        }
+    }
+}

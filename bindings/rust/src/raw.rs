@@ -1,0 +1,294 @@
+//! Any bytes under any view: what the library answers, with texts and list values by their places.
+//!
+//! On bytes that were not accepted a query still ends, with parts inside the bytes or with nothing.
+//! [`Image`](crate::Image) is the same on accepted bytes, where texts are `&str`.
+
+use crate::ffi;
+use crate::node::{self, NodeViewOf, Parts};
+use crate::path::{self, Step};
+use crate::view::View;
+use crate::{NONE, Section};
+use core::fmt;
+use core::mem::MaybeUninit;
+
+/// A text, by its place in the strings.
+#[derive(Clone, Copy, Debug, Default, PartialEq, Eq)]
+pub struct TextPlace {
+    pub offset: u32,
+    pub length: u32,
+}
+
+/// A list value, by its place in the payload.
+#[derive(Clone, Copy, Debug, Default, PartialEq, Eq)]
+pub struct ListPlace {
+    pub offset: u32,
+    pub length: u32,
+}
+
+/// A node with texts and lists by their places.
+pub type NodeView = NodeViewOf<TextPlace, ListPlace>;
+
+#[derive(Clone, Copy, Debug, PartialEq, Eq)]
+pub struct NamedChild {
+    pub name: TextPlace,
+    pub node: u32,
+}
+
+#[derive(Clone, Copy, Debug, PartialEq, Eq)]
+pub struct ListEntry {
+    pub origin: Option<TextPlace>,
+    pub name: TextPlace,
+    pub value: i32,
+}
+
+#[derive(Clone, Copy, Debug, PartialEq, Eq)]
+pub struct Definition {
+    pub name: TextPlace,
+    /// How many items it has.
+    pub items: u32,
+}
+
+#[derive(Clone, Copy, Debug, PartialEq, Eq)]
+pub struct DefinitionItem {
+    pub name: TextPlace,
+    pub value: i32,
+}
+
+/// An item found by name.
+#[derive(Clone, Copy, Debug, PartialEq, Eq)]
+pub struct ListItem {
+    /// The number of its definition.
+    pub definition: u32,
+    /// Its number among the items of all definitions.
+    pub item: u32,
+    pub value: i32,
+}
+
+/// Bytes and the words of a view, to be asked.
+#[derive(Clone, Copy)]
+pub struct Queries<'a> {
+    bytes: &'a [u8],
+    /// The view's words, as the library takes them.
+    words: [u32; View::WORDS],
+}
+
+impl fmt::Debug for Queries<'_> {
+    fn fmt(&self, f: &mut fmt::Formatter<'_>) -> fmt::Result {
+        f.debug_struct("Queries").field("bytes", &self.bytes.len()).field("view", &self.view()).finish()
+    }
+}
+
+struct Places;
+
+impl Parts for Places {
+    type Text = TextPlace;
+    type List = ListPlace;
+
+    #[inline]
+    fn text(&self, offset: u32, length: u32) -> TextPlace {
+        TextPlace { offset, length }
+    }
+
+    #[inline]
+    fn list(&self, offset: u32, length: u32) -> ListPlace {
+        ListPlace { offset, length }
+    }
+}
+
+/// Calls a query that writes its words into an answer and returns 0, or returns another number. The words are read where
+/// they were written: copied at once, they would have to wait for each other.
+#[inline]
+fn ask<const N: usize, R>(
+    call: impl FnOnce(*mut u32, usize) -> u32,
+    read: impl FnOnce(&[u32; N]) -> Option<R>,
+) -> Option<R> {
+    let mut answer = MaybeUninit::<[u32; N]>::uninit();
+    match call(answer.as_mut_ptr().cast(), N) {
+        // SAFETY: where it returns 0, a query has written as many words as its answer has, which are N here.
+        0 => read(unsafe { answer.assume_init_ref() }),
+        _ => None,
+    }
+}
+
+/// Asks a query on the bytes and the view's words; what else it takes follows, then what is made of the answer.
+macro_rules! ask {
+    ($asked:expr, $query:ident $(, $argument:expr)* => $read:expr) => {{
+        let (bytes, view) = ($asked.bytes, &$asked.words);
+        // SAFETY: the slices live through the call, and the answer, which alone is written, is ours.
+        ask(
+            |answer, length| unsafe {
+                ffi::$query(bytes.as_ptr(), bytes.len(), view.as_ptr(), view.len(), $($argument,)* answer, length)
+            },
+            $read,
+        )
+    }};
+}
+
+/// An answer of one word.
+#[inline]
+fn word(&[word]: &[u32; 1]) -> Option<u32> {
+    Some(word)
+}
+
+impl<'a> Queries<'a> {
+    pub fn new(bytes: &'a [u8], view: View) -> Self {
+        Queries { bytes, words: view.words() }
+    }
+
+    pub(crate) fn with_words(bytes: &'a [u8], words: [u32; View::WORDS]) -> Self {
+        Queries { bytes, words }
+    }
+
+    pub fn bytes(&self) -> &'a [u8] {
+        self.bytes
+    }
+
+    pub fn view(&self) -> View {
+        View::from(self.words)
+    }
+
+    /// The view, with texts and lists as `parts` hands them back.
+    #[inline]
+    pub(crate) fn node_view_with<P: Parts>(&self, node: u32, parts: &P) -> Option<NodeViewOf<P::Text, P::List>> {
+        ask!(self, story_image_node_view, node => |words| node::view_of(words, parts))
+    }
+
+    pub fn node_view(&self, node: u32) -> Option<NodeView> {
+        self.node_view_with(node, &Places)
+    }
+
+    /// The ten words of a node's view, as include/story_image.h has them.
+    pub fn node_words(&self, node: u32) -> Option<[u32; node::WORDS]> {
+        ask!(self, story_image_node_view, node => |words| Some(*words))
+    }
+
+    pub fn child_count(&self, node: u32) -> Option<u32> {
+        ask!(self, story_image_child_count, node => word)
+    }
+
+    pub fn child_at(&self, node: u32, index: u32) -> Option<u32> {
+        ask!(self, story_image_child_at, node, index => word)
+    }
+
+    pub fn named_child_count(&self, node: u32) -> Option<u32> {
+        ask!(self, story_image_named_child_count, node => word)
+    }
+
+    pub fn named_child_at(&self, node: u32, index: u32) -> Option<NamedChild> {
+        ask!(self, story_image_named_child_at, node, index => |&[offset, length, node]| {
+            Some(NamedChild { name: TextPlace { offset, length }, node })
+        })
+    }
+
+    pub fn find_named_child(&self, node: u32, name: &[u8]) -> Option<u32> {
+        ask!(self, story_image_find_named_child, node, name.as_ptr(), name.len() => word)
+    }
+
+    /// Where a text lies in the bytes: start and length.
+    pub fn text_part(&self, text: TextPlace) -> Option<(usize, usize)> {
+        ask!(self, story_image_text, text.offset, text.length => |&[start, length]| {
+            Some((start as usize, length as usize))
+        })
+    }
+
+    /// A text's bytes, as a part of the image.
+    pub fn text(&self, text: TextPlace) -> Option<&'a [u8]> {
+        let (start, length) = self.text_part(text)?;
+        self.bytes.get(start..start + length)
+    }
+
+    fn section_part(&self, section: Section, offset: u32, length: u32) -> &'a [u8] {
+        let start = section.offset as usize + offset as usize;
+        self.bytes.get(start..start + length as usize).unwrap_or(&[])
+    }
+
+    pub(crate) fn strings(&self) -> &'a [u8] {
+        let strings = self.view().strings;
+        self.section_part(strings, 0, strings.count)
+    }
+
+    /// The payload of a list value; empty where it is not inside the bytes.
+    pub(crate) fn list_part(&self, list: ListPlace) -> &'a [u8] {
+        self.section_part(self.view().payload, list.offset, list.length)
+    }
+
+    /// Item `index` of a list value.
+    pub fn list_entry(&self, list: ListPlace, index: u32) -> Option<ListEntry> {
+        list_entry(self.list_part(list), self.strings(), index)
+    }
+
+    /// Origin `index` of a list value.
+    pub fn list_origin(&self, list: ListPlace, index: u32) -> Option<TextPlace> {
+        list_origin(self.list_part(list), self.strings(), index)
+    }
+
+    pub fn definition_count(&self) -> Option<u32> {
+        ask!(self, story_image_definition_count => word)
+    }
+
+    pub fn definition(&self, index: u32) -> Option<Definition> {
+        ask!(self, story_image_definition, index => |&[offset, length, items]| {
+            Some(Definition { name: TextPlace { offset, length }, items })
+        })
+    }
+
+    /// The first item of a definition among the items of all.
+    pub fn first_item(&self, definition: u32) -> Option<u32> {
+        (0..definition).try_fold(0u32, |sum, before| sum.checked_add(self.definition(before)?.items))
+    }
+
+    /// Item `item` of a definition, counted from its first.
+    pub fn definition_item(&self, index: u32, item: u32) -> Option<DefinitionItem> {
+        ask!(self, story_image_definition_item, index, item => |&[offset, length, value]| {
+            Some(DefinitionItem { name: TextPlace { offset, length }, value: value as i32 })
+        })
+    }
+
+    /// The item that a name means, with or without its definition's name and a dot in front.
+    pub fn list_item(&self, name: &[u8]) -> Option<ListItem> {
+        ask!(self, story_image_list_item, name.as_ptr(), name.len() => |&[definition, item, value]| {
+            Some(ListItem { definition, item, value: value as i32 })
+        })
+    }
+
+    /// The node at the end of a path, as [`Image::resolve_path`](crate::Image::resolve_path).
+    pub fn resolve_path(&self, origin: u32, relative: bool, path: &[Step<'_>]) -> Option<u32> {
+        path::resolve(self, origin, relative, path)
+    }
+
+    /// A walk along components as the library takes them: three words each, and the bytes of names.
+    pub fn resolve_components(&self, origin: u32, relative: bool, path: &[u32], names: &[u8]) -> Option<u32> {
+        let (path_length, names_length) = (path.len(), names.len());
+        let (path, names) = (path.as_ptr(), names.as_ptr());
+        ask!(self, story_image_resolve_path, origin, relative, path, path_length, names, names_length => word)
+    }
+}
+
+/// Item `index` of a list value, from its payload and the strings.
+pub fn list_entry(payload: &[u8], strings: &[u8], index: u32) -> Option<ListEntry> {
+    let (payload_length, strings_length) = (payload.len(), strings.len());
+    let (payload, strings) = (payload.as_ptr(), strings.as_ptr());
+    ask(
+        // SAFETY: as in `ask!`.
+        |answer, length| unsafe {
+            ffi::story_image_list_entry(payload, payload_length, strings, strings_length, index, answer, length)
+        },
+        |&[origin, origin_length, offset, length, value]| {
+            let origin = (origin != NONE).then_some(TextPlace { offset: origin, length: origin_length });
+            Some(ListEntry { origin, name: TextPlace { offset, length }, value: value as i32 })
+        },
+    )
+}
+
+/// Origin `index` of a list value, from its payload and the strings.
+pub fn list_origin(payload: &[u8], strings: &[u8], index: u32) -> Option<TextPlace> {
+    let (payload_length, strings_length) = (payload.len(), strings.len());
+    let (payload, strings) = (payload.as_ptr(), strings.as_ptr());
+    ask(
+        // SAFETY: as in `ask!`.
+        |answer, length| unsafe {
+            ffi::story_image_list_origin(payload, payload_length, strings, strings_length, index, answer, length)
+        },
+        |&[offset, length]| Some(TextPlace { offset, length }),
+    )
+}

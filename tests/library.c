@@ -1,0 +1,599 @@
+/* Tests of the static library through include/story_image.h: library SAMPLES. Every slice that is lent has exactly its
+ * length, so that an access past it is seen; what must stay as it was is filled with a mark. Ends 'N passed, M failed'.
+ * Compiles as C11 and as C++17. */
+#include <stdarg.h>
+#include <stdio.h>
+#include <stdlib.h>
+#include <string.h>
+
+#include "story_image.h"
+
+#define MARK UINT32_C(0x5a5a5a5a)
+#define CHECK(right, ...) check((right), __LINE__, __VA_ARGS__)
+
+static unsigned long passed, failed;
+
+static void check(bool right, int line, const char *what, ...) {
+    if (right) {
+        passed++;
+        return;
+    }
+    failed++;
+    va_list words;
+    va_start(words, what);
+    printf("line %d: ", line);
+    vprintf(what, words);
+    putchar('\n');
+    va_end(words);
+}
+
+/* An image, its bytes exactly as long as they are said to be; its view after a load. */
+struct image {
+    uint8_t *bytes;
+    size_t length;
+    uint32_t view[STORY_IMAGE_VIEW_WORDS];
+};
+
+static void *room(size_t bytes) {
+    void *start = malloc(bytes == 0 ? 1 : bytes);
+    if (start == NULL)
+        abort();
+    return start;
+}
+
+static uint32_t *marked(size_t words) {
+    uint32_t *start = (uint32_t *)room(4 * words);
+    for (size_t i = 0; i < words; i++)
+        start[i] = MARK;
+    return start;
+}
+
+static bool all_are(const uint32_t *words, size_t from, size_t to, uint32_t value) {
+    for (size_t i = from; i < to; i++)
+        if (words[i] != value)
+            return false;
+    return true;
+}
+
+static struct image image_of(const uint8_t *bytes, size_t length) {
+    struct image image;
+    memset(&image, 0, sizeof image);
+    image.bytes = (uint8_t *)room(length);
+    image.length = length;
+    memcpy(image.bytes, bytes, length);
+    return image;
+}
+
+static struct image sample(const char *folder, const char *name) {
+    static uint8_t bytes[70000];
+    char path[4096];
+    snprintf(path, sizeof path, "%s/%s.image", folder, name);
+    FILE *file = fopen(path, "rb");
+    if (file == NULL) {
+        printf("%s: cannot be read\n", path);
+        exit(2);
+    }
+    size_t length = fread(bytes, 1, sizeof bytes, file);
+    fclose(file);
+    return image_of(bytes, length);
+}
+
+/* How many work words the header asks for; 0 without one. */
+static size_t words_needed(const struct image *image) {
+    size_t needed = 1;
+    if (image->length < STORY_IMAGE_HEADER_BYTES)
+        return 0;
+    for (size_t at = 24; at <= 40; at += 8)
+        needed += image->bytes[at] | (size_t)image->bytes[at + 1] << 8 | (size_t)image->bytes[at + 2] << 16 |
+                  (size_t)image->bytes[at + 3] << 24;
+    return needed;
+}
+
+/* Loads with so many work words, and sees what the call leaves of work words, view and bytes. */
+static uint32_t load(struct image *image, size_t words) {
+    uint32_t *work = marked(words), *view = marked(STORY_IMAGE_VIEW_WORDS + 1);
+    uint8_t *before = (uint8_t *)room(image->length);
+    memcpy(before, image->bytes, image->length);
+    uint32_t number = story_image_load(image->bytes, image->length, work, words, view, STORY_IMAGE_VIEW_WORDS + 1);
+    CHECK(number <= STORY_IMAGE_BAD_DEFINITION, "a load gives %u", (unsigned)number);
+    if (number >= 1 && number <= STORY_IMAGE_TOO_FEW_WORDS) {
+        CHECK(all_are(work, 0, words, MARK), "%u leaves the work words", (unsigned)number);
+    } else {
+        size_t needed = words_needed(image);
+        CHECK(needed <= words && all_are(work, 0, needed, 0), "the work words are 0");
+        CHECK(all_are(work, needed, words, MARK), "words past them stay");
+    }
+    CHECK(all_are(view, number == 0 ? STORY_IMAGE_VIEW_WORDS : 0, STORY_IMAGE_VIEW_WORDS + 1, MARK),
+          "the view is written where nothing is refused, and not past its words");
+    CHECK(memcmp(before, image->bytes, image->length) == 0, "no byte of the image changes");
+    if (number == 0)
+        memcpy(image->view, view, sizeof image->view);
+    free(work);
+    free(view);
+    free(before);
+    return number;
+}
+
+static struct image accepted(const char *folder, const char *name) {
+    struct image image = sample(folder, name);
+    CHECK(load(&image, image.length / 4) == STORY_IMAGE_OK, "%s is accepted", name);
+    return image;
+}
+
+/* ---- loads */
+
+static void samples(const char *folder) {
+    static const struct {
+        const char *name;
+        uint32_t number;
+    } table[] = {
+        {"smallest", STORY_IMAGE_OK},
+        {"guide", STORY_IMAGE_OK},
+        {"step", STORY_IMAGE_OK},
+        {"largest", STORY_IMAGE_OK},
+        {"cut-header", STORY_IMAGE_BAD_HEADER},
+        {"version", STORY_IMAGE_BAD_VERSION},
+        {"ink-version", STORY_IMAGE_BAD_INK_VERSION},
+        {"cut", STORY_IMAGE_BAD_LENGTH},
+        {"sections", STORY_IMAGE_BAD_SECTIONS},
+        {"bit", STORY_IMAGE_BAD_CHECKSUM},
+        {"root", STORY_IMAGE_BAD_ROOT},
+        {"choice-target", STORY_IMAGE_BAD_NODE},
+        {"text", STORY_IMAGE_BAD_TEXT},
+        {"children-start", STORY_IMAGE_BAD_RANGE},
+        {"tag", STORY_IMAGE_BAD_TAG},
+        {"index-count", STORY_IMAGE_LEFT_OVER},
+        {"place", STORY_IMAGE_BAD_CHILD},
+        {"circle", STORY_IMAGE_UNREACHED},
+        {"index-order", STORY_IMAGE_BAD_INDEX},
+        {"item-order", STORY_IMAGE_BAD_DEFINITION},
+    };
+    for (size_t i = 0; i < sizeof table / sizeof table[0]; i++) {
+        struct image image = sample(folder, table[i].name);
+        uint32_t number = load(&image, image.length / 4);
+        CHECK(number == table[i].number, "%s: %u in place of %u", table[i].name, (unsigned)number,
+              (unsigned)table[i].number);
+        if (number == 0 || number > STORY_IMAGE_TOO_FEW_WORDS) {
+            size_t needed = words_needed(&image);
+            CHECK(needed <= image.length / 4, "%s needs no more words than a quarter of its bytes", table[i].name);
+            CHECK(load(&image, needed) == number, "%s with as many words as it needs", table[i].name);
+            CHECK(load(&image, needed - 1) == STORY_IMAGE_TOO_FEW_WORDS, "%s with one word fewer", table[i].name);
+        }
+        free(image.bytes);
+    }
+}
+
+/* Every cut, and every bit turned: nothing is accepted. */
+static void damaged(const char *folder) {
+    struct image whole = accepted(folder, "smallest");
+    CHECK(whole.length == STORY_IMAGE_SMALLEST_BYTES, "the smallest image");
+    for (size_t length = 0; length < whole.length; length++) {
+        struct image cut = image_of(whole.bytes, length);
+        uint32_t number = load(&cut, length / 4);
+        CHECK(number == (length < STORY_IMAGE_HEADER_BYTES ? STORY_IMAGE_BAD_HEADER : STORY_IMAGE_BAD_LENGTH),
+              "cut to %u: %u", (unsigned)length, (unsigned)number);
+        free(cut.bytes);
+    }
+    for (size_t bit = 0; bit < 8 * whole.length; bit++) {
+        struct image other = image_of(whole.bytes, whole.length);
+        other.bytes[bit / 8] ^= (uint8_t)(1u << bit % 8);
+        CHECK(load(&other, other.length / 4) != 0, "bit %u turned", (unsigned)bit);
+        free(other.bytes);
+    }
+    /* a header that asks for more words than there can be */
+    uint8_t hostile[STORY_IMAGE_HEADER_BYTES];
+    memset(hostile, 255, sizeof hostile);
+    memcpy(hostile, whole.bytes, 20);
+    hostile[16] = sizeof hostile;
+    struct image image = image_of(hostile, sizeof hostile);
+    CHECK(load(&image, 22) == STORY_IMAGE_BAD_SECTIONS, "counts of 4294967295");
+    free(image.bytes);
+    /* a view of fewer words counts as a lack of work words, after rows 1 to 6 */
+    uint32_t *work = marked(2), *view = marked(16);
+    CHECK(story_image_load(whole.bytes, whole.length, work, 2, view, 16) == STORY_IMAGE_TOO_FEW_WORDS, "a short view");
+    CHECK(story_image_load(whole.bytes, 87, work, 2, view, 16) == STORY_IMAGE_BAD_HEADER, "a short view, row 1 first");
+    CHECK(all_are(work, 0, 2, MARK) && all_are(view, 0, 16, MARK), "nothing is written");
+    free(work);
+    free(view);
+    free(whole.bytes);
+}
+
+/* ---- queries: each is asked by number, with what it takes beside bytes, view and answer */
+
+struct asked {
+    uint32_t node, index, offset, length;
+    const uint8_t *name;
+    size_t name_length;
+};
+
+enum {
+    NODE_VIEW,
+    TEXT,
+    CHILD_COUNT,
+    NAMED_COUNT,
+    CHILD,
+    NAMED_CHILD,
+    FIND,
+    DEFINITION_COUNT,
+    DEFINITION,
+    ITEM,
+    LIST_ITEM,
+    WALK,
+    QUERIES
+};
+
+static const size_t answer_words[QUERIES] = {STORY_IMAGE_NODE_WORDS,       STORY_IMAGE_TEXT_WORDS,
+                                             STORY_IMAGE_COUNT_WORDS,      STORY_IMAGE_COUNT_WORDS,
+                                             STORY_IMAGE_FOUND_WORDS,      STORY_IMAGE_NAMED_CHILD_WORDS,
+                                             STORY_IMAGE_FOUND_WORDS,      STORY_IMAGE_COUNT_WORDS,
+                                             STORY_IMAGE_DEFINITION_WORDS, STORY_IMAGE_DEFINITION_ITEM_WORDS,
+                                             STORY_IMAGE_LIST_ITEM_WORDS,  STORY_IMAGE_FOUND_WORDS};
+
+static uint32_t call(int query, const struct image *image, size_t view_length, const struct asked *asked,
+                     uint32_t *answer, size_t answer_length) {
+    const uint8_t *bytes = image->bytes;
+    const uint32_t *view = image->view;
+    size_t length = image->length;
+    uint32_t path[STORY_IMAGE_STEP_WORDS] = {STORY_IMAGE_STEP_INDEX, asked->index, 0};
+    switch (query) {
+    case NODE_VIEW:
+        return story_image_node_view(bytes, length, view, view_length, asked->node, answer, answer_length);
+    case TEXT:
+        return story_image_text(bytes, length, view, view_length, asked->offset, asked->length, answer, answer_length);
+    case CHILD_COUNT:
+        return story_image_child_count(bytes, length, view, view_length, asked->node, answer, answer_length);
+    case NAMED_COUNT:
+        return story_image_named_child_count(bytes, length, view, view_length, asked->node, answer, answer_length);
+    case CHILD:
+        return story_image_child_at(bytes, length, view, view_length, asked->node, asked->index, answer, answer_length);
+    case NAMED_CHILD:
+        return story_image_named_child_at(bytes, length, view, view_length, asked->node, asked->index, answer,
+                                          answer_length);
+    case FIND:
+        return story_image_find_named_child(bytes, length, view, view_length, asked->node, asked->name,
+                                            asked->name_length, answer, answer_length);
+    case DEFINITION_COUNT:
+        return story_image_definition_count(bytes, length, view, view_length, answer, answer_length);
+    case DEFINITION:
+        return story_image_definition(bytes, length, view, view_length, asked->index, answer, answer_length);
+    case ITEM:
+        return story_image_definition_item(bytes, length, view, view_length, asked->index, 0, answer, answer_length);
+    case LIST_ITEM:
+        return story_image_list_item(bytes, length, view, view_length, asked->name, asked->name_length, answer,
+                                     answer_length);
+    default:
+        return story_image_resolve_path(bytes, length, view, view_length, asked->node, true, path,
+                                        STORY_IMAGE_STEP_WORDS, asked->name, asked->name_length, answer, answer_length);
+    }
+}
+
+/* A query with an answer of exactly its words; with one word more, that word stays; with one fewer, or a short view,
+ * nothing is written. */
+static bool ask(int query, const struct image *image, const struct asked *asked, uint32_t *answer) {
+    size_t words = answer_words[query];
+    uint32_t *more = marked(words + 1), *fewer = marked(words - 1);
+    uint32_t number = call(query, image, STORY_IMAGE_VIEW_WORDS, asked, more, words + 1);
+    CHECK(number == STORY_IMAGE_OK || number == STORY_IMAGE_NOT_FOUND, "query %d gives %u", query, (unsigned)number);
+    CHECK(all_are(more, number == 0 ? words : 0, words + 1, MARK), "query %d leaves the words past its answer", query);
+    memcpy(answer, more, 4 * words);
+    CHECK(call(query, image, STORY_IMAGE_VIEW_WORDS, asked, fewer, words - 1) != 0, "query %d, a short answer", query);
+    CHECK(all_are(fewer, 0, words - 1, MARK), "query %d, a short answer stays", query);
+    uint32_t *other = marked(words);
+    CHECK(call(query, image, STORY_IMAGE_VIEW_WORDS - 1, asked, other, words) != 0, "query %d, a short view", query);
+    CHECK(all_are(other, 0, words, MARK), "query %d, a short view leaves the answer", query);
+    CHECK(call(query, image, STORY_IMAGE_VIEW_WORDS, asked, other, words) == number, "query %d, an exact answer",
+          query);
+    CHECK(number != 0 || memcmp(other, more, 4 * words) == 0, "query %d, the same words", query);
+    free(more);
+    free(fewer);
+    free(other);
+    return number == 0;
+}
+
+static bool text_inside(const struct image *image, uint32_t offset, uint32_t length, uint32_t *part) {
+    struct asked asked = {0, 0, offset, length, image->bytes, 0};
+    return ask(TEXT, image, &asked, part) && (size_t)part[0] + part[1] <= image->length && part[1] == length;
+}
+
+static void list_value(const struct image *image, const uint32_t *node) {
+    const uint8_t *payload = image->bytes + image->view[STORY_IMAGE_PAYLOAD] + node[STORY_IMAGE_NODE_TEXT];
+    const uint8_t *strings = image->bytes + image->view[STORY_IMAGE_STRINGS];
+    size_t payload_length = node[STORY_IMAGE_NODE_TEXT_LENGTH], strings_length = image->view[STORY_IMAGE_STRINGS_COUNT];
+    uint32_t entry[STORY_IMAGE_LIST_ENTRY_WORDS], origin[STORY_IMAGE_LIST_ORIGIN_WORDS], part[2], items = 0,
+                                                                                                  origins = 0;
+    while (story_image_list_entry(payload, payload_length, strings, strings_length, items, entry,
+                                  STORY_IMAGE_LIST_ENTRY_WORDS) == 0) {
+        CHECK(text_inside(image, entry[STORY_IMAGE_LIST_ENTRY_NAME], entry[STORY_IMAGE_LIST_ENTRY_NAME_LENGTH], part),
+              "an item's name");
+        items++;
+    }
+    while (story_image_list_origin(payload, payload_length, strings, strings_length, origins, origin,
+                                   STORY_IMAGE_LIST_ORIGIN_WORDS) == 0)
+        origins++;
+    CHECK(8 + 20 * items + 8 * origins == payload_length, "a list's items and origins fill its payload");
+    CHECK(story_image_list_entry(payload, payload_length, strings, strings_length, 0, entry, 4) != 0, "a short answer");
+    CHECK(story_image_list_origin(payload, payload_length, strings, strings_length, 0, origin, 1) != 0,
+          "a short answer");
+}
+
+static void texts_of(const struct image *image, uint32_t node, const uint32_t *words) {
+    uint32_t part[STORY_IMAGE_TEXT_WORDS], kind = words[STORY_IMAGE_NODE_KIND];
+    if (kind == STORY_IMAGE_KIND_LIST)
+        list_value(image, words);
+    else if (words[STORY_IMAGE_NODE_TEXT] != STORY_IMAGE_NONE)
+        CHECK(text_inside(image, words[STORY_IMAGE_NODE_TEXT], words[STORY_IMAGE_NODE_TEXT_LENGTH], part),
+              "text of node %u", (unsigned)node);
+    if (words[STORY_IMAGE_NODE_VARIABLE] != STORY_IMAGE_NONE)
+        CHECK(text_inside(image, words[STORY_IMAGE_NODE_VARIABLE], words[STORY_IMAGE_NODE_VARIABLE_LENGTH], part),
+              "variable of node %u", (unsigned)node);
+    if (kind == STORY_IMAGE_KIND_COMMAND)
+        CHECK(words[STORY_IMAGE_NODE_VALUE] < STORY_IMAGE_COMMAND_COUNT, "command of node %u", (unsigned)node);
+    if (kind == STORY_IMAGE_KIND_OPERATOR)
+        CHECK(words[STORY_IMAGE_NODE_VALUE] < STORY_IMAGE_OPERATOR_COUNT, "operator of node %u", (unsigned)node);
+    if (kind == STORY_IMAGE_KIND_DIVERT)
+        CHECK(words[STORY_IMAGE_NODE_FLAGS] >> STORY_IMAGE_DIVERT_PUSH_SHIFT <= STORY_IMAGE_PUSH_FUNCTION_FROM_GAME,
+              "push type of node %u", (unsigned)node);
+}
+
+/* A container's children name it, and are found by name. */
+static void children_of(const struct image *image, uint32_t node) {
+    struct asked asked = {node, 0, 0, 0, image->bytes, 0};
+    uint32_t count = 0, named = 0, child[1], found[1], entry[3], part[2], words[STORY_IMAGE_NODE_WORDS];
+    CHECK(ask(CHILD_COUNT, image, &asked, &count) && ask(NAMED_COUNT, image, &asked, &named), "counts");
+    for (asked.index = 0; asked.index < count; asked.index++) {
+        struct asked of = {0, 0, 0, 0, image->bytes, 0};
+        CHECK(ask(CHILD, image, &asked, child), "child %u of %u", (unsigned)asked.index, (unsigned)node);
+        of.node = child[0];
+        CHECK(ask(NODE_VIEW, image, &of, words) && words[STORY_IMAGE_NODE_PARENT] == node &&
+                  words[STORY_IMAGE_NODE_PLACE] == asked.index,
+              "child %u of %u names it", (unsigned)asked.index, (unsigned)node);
+        CHECK(ask(WALK, image, &asked, found) && found[0] == child[0], "a walk to the child");
+    }
+    CHECK(!ask(CHILD, image, &asked, child), "no child past the last");
+    for (asked.index = 0; asked.index < named; asked.index++) {
+        CHECK(ask(NAMED_CHILD, image, &asked, entry) && text_inside(image, entry[0], entry[1], part), "a named child");
+        struct asked by = {node, 0, 0, 0, image->bytes + part[0], part[1]};
+        CHECK(ask(FIND, image, &by, found) && found[0] == entry[STORY_IMAGE_NAMED_CHILD_NODE], "found by name");
+    }
+    CHECK(!ask(NAMED_CHILD, image, &asked, entry), "no named child past the last");
+    struct asked by = {node, 0, 0, 0, (const uint8_t *)"\xff no such name", 15};
+    CHECK(!ask(FIND, image, &by, found), "no such name");
+}
+
+static void definitions_of(const struct image *image) {
+    struct asked asked = {0, 0, 0, 0, image->bytes, 0};
+    uint32_t count = 0, words[3], item[3], found[3], part[2];
+    CHECK(ask(DEFINITION_COUNT, image, &asked, &count) && count == image->view[STORY_IMAGE_DEFINITIONS_COUNT],
+          "definitions");
+    for (asked.index = 0; asked.index < count; asked.index++) {
+        CHECK(ask(DEFINITION, image, &asked, words), "definition %u", (unsigned)asked.index);
+        if (words[STORY_IMAGE_DEFINITION_ITEMS] == 0)
+            continue;
+        CHECK(ask(ITEM, image, &asked, item), "first item of definition %u", (unsigned)asked.index);
+        char name[200];
+        CHECK(text_inside(image, words[0], words[1], part), "a definition's name");
+        int length = snprintf(name, sizeof name, "%.*s.", (int)part[1], (const char *)image->bytes + part[0]);
+        CHECK(text_inside(image, item[0], item[1], part), "an item's name");
+        length += snprintf(name + length, sizeof name - (size_t)length, "%.*s", (int)part[1],
+                           (const char *)image->bytes + part[0]);
+        struct asked by = {0, 0, 0, 0, (const uint8_t *)name, (size_t)length};
+        CHECK(ask(LIST_ITEM, image, &by, found) && found[STORY_IMAGE_LIST_ITEM_DEFINITION] == asked.index &&
+                  found[STORY_IMAGE_LIST_ITEM_VALUE] == item[STORY_IMAGE_DEFINITION_ITEM_VALUE],
+              "item %s by its name", name);
+    }
+    CHECK(!ask(DEFINITION, image, &asked, words), "no definition past the last");
+    struct asked blank = {0, 0, 0, 0, (const uint8_t *)" \t\xe2\x80\x83", 5};
+    CHECK(!ask(LIST_ITEM, image, &blank, found), "a blank name");
+}
+
+static void queries(const char *folder, const char *name) {
+    struct image image = accepted(folder, name);
+    uint32_t count = image.view[STORY_IMAGE_NODES_COUNT], words[STORY_IMAGE_NODE_WORDS];
+    struct asked asked = {0, 0, 0, 0, image.bytes, 0};
+    for (asked.node = 0; asked.node < count; asked.node++) {
+        CHECK(ask(NODE_VIEW, &image, &asked, words), "%s: view of node %u", name, (unsigned)asked.node);
+        uint32_t kind = words[STORY_IMAGE_NODE_KIND], target = words[STORY_IMAGE_NODE_TARGET];
+        CHECK(kind >= STORY_IMAGE_KIND_CONTAINER && kind <= STORY_IMAGE_KIND_VOID && kind != 15, "a kind");
+        CHECK(target == STORY_IMAGE_NONE || target < count, "a target inside");
+        CHECK((words[STORY_IMAGE_NODE_PARENT] == STORY_IMAGE_NONE) == (asked.node == 0),
+              "the root alone has no parent");
+        texts_of(&image, asked.node, words);
+        if (kind == STORY_IMAGE_KIND_CONTAINER)
+            children_of(&image, asked.node);
+        else
+            CHECK(!ask(CHILD_COUNT, &image, &asked, words), "no children of a node that is no container");
+    }
+    CHECK(!ask(NODE_VIEW, &image, &asked, words), "no node past the last");
+    asked.node = STORY_IMAGE_NONE;
+    CHECK(!ask(NODE_VIEW, &image, &asked, words), "NONE is no node");
+    definitions_of(&image);
+    free(image.bytes);
+}
+
+/* Bytes that were not accepted, and views of other bytes: every query ends, with parts inside. */
+static void any_bytes(const char *folder) {
+    struct image image = accepted(folder, "step");
+    uint32_t answer[STORY_IMAGE_NODE_WORDS];
+    uint32_t seed = 1;
+    for (int round = 0; round < 300; round++) {
+        struct image other = image_of(image.bytes, image.length - (size_t)round * 7);
+        memcpy(other.view, image.view, sizeof other.view);
+        for (int change = 0; change < 6; change++) {
+            seed = seed * 1664525 + 1013904223;
+            other.bytes[(seed >> 8) % other.length] ^= (uint8_t)(seed >> 3);
+            if (round % 3 == 0)
+                other.view[seed % STORY_IMAGE_VIEW_WORDS] = seed % 5 == 0 ? STORY_IMAGE_NONE : seed >> 12;
+        }
+        for (int query = 0; query < QUERIES; query++) {
+            seed = seed * 1664525 + 1013904223;
+            struct asked asked = {(seed >> 8) % 90, (seed >> 4) % 5, seed >> 20,
+                                  (seed >> 16) % 9, other.bytes,     seed % 8};
+            if (ask(query, &other, &asked, answer) && query == TEXT)
+                CHECK((size_t)answer[0] + answer[1] <= other.length, "a text inside the bytes");
+        }
+        free(other.bytes);
+    }
+    free(image.bytes);
+}
+
+static uint32_t walk(const struct image *image, uint32_t origin, bool relative, const uint32_t *path, size_t words,
+                     const char *names, uint32_t *end) {
+    return story_image_resolve_path(image->bytes, image->length, image->view, STORY_IMAGE_VIEW_WORDS, origin, relative,
+                                    path, words, (const uint8_t *)names, strlen(names), end, 1);
+}
+
+static void walks(const char *folder) {
+    struct image image = accepted(folder, "step");
+    uint32_t end = MARK;
+    static const uint32_t up[] = {STORY_IMAGE_STEP_PARENT, 7, 7};
+    static const uint32_t first[] = {STORY_IMAGE_STEP_INDEX, 0, 7};
+    static const uint32_t skipped[] = {99, 99, 99, STORY_IMAGE_STEP_INDEX, 0, 0};
+    static const uint32_t outside[] = {STORY_IMAGE_STEP_NAME, 1, 2};
+    CHECK(walk(&image, 1, true, first, 0, "", &end) == 0 && end == 0, "from a node that is no container: its parent");
+    CHECK(walk(&image, 1, true, skipped, 6, "", &end) == 0 && end == 1, "the skipped component is not read");
+    CHECK(walk(&image, STORY_IMAGE_NONE, false, first, 3, "", &end) == 0 && end == 1, "the origin is not looked at");
+    CHECK(walk(&image, STORY_IMAGE_NONE, true, first, 3, "", &end) == STORY_IMAGE_NOT_FOUND, "no such origin");
+    end = MARK;
+    CHECK(walk(&image, 0, true, up, 3, "", &end) == STORY_IMAGE_NOT_FOUND, "no step up from the root");
+    CHECK(walk(&image, 0, false, skipped, 3, "", &end) == STORY_IMAGE_NOT_FOUND, "an unknown kind");
+    CHECK(walk(&image, 0, false, outside, 3, "ab", &end) == STORY_IMAGE_NOT_FOUND, "a name outside the names");
+    CHECK(walk(&image, 0, false, first, 2, "", &end) == STORY_IMAGE_NOT_FOUND, "words left over");
+    CHECK(end == MARK, "the answer stays");
+    free(image.bytes);
+}
+
+/* ---- writing */
+
+/* Sections 0 to 4, payload, strings, by pointer and length. */
+struct draft {
+    const uint32_t *nodes, *children, *named, *definitions, *items;
+    size_t node_words, child_words, named_words, definition_words, item_words;
+    const char *strings;
+};
+
+static size_t write_words(const struct draft *draft) {
+    return 16 * (draft->node_words / 10) +
+           4 * (draft->child_words + draft->named_words / 3 + draft->definition_words / 4 + draft->item_words / 3);
+}
+
+/* Writes with so much room, and sees what the call leaves. */
+static uint32_t put(const struct draft *draft, uint32_t ink, size_t words, uint8_t *output, size_t length,
+                    uint32_t *long_as) {
+    static const uint32_t none[1] = {0};
+    uint32_t *work = marked(words), written[2] = {MARK, MARK};
+    uint8_t *before = (uint8_t *)room(length);
+    memcpy(before, output, length);
+    uint32_t number = story_image_write(
+        ink, draft->nodes, draft->node_words, draft->children ? draft->children : none, draft->child_words,
+        draft->named ? draft->named : none, draft->named_words, draft->definitions ? draft->definitions : none,
+        draft->definition_words, draft->items ? draft->items : none, draft->item_words, (const uint8_t *)"", 0,
+        (const uint8_t *)draft->strings, strlen(draft->strings), work, words, output, length, written, 2);
+    bool early =
+        number == STORY_IMAGE_BAD_INK_VERSION || number == STORY_IMAGE_BAD_DRAFT || number == STORY_IMAGE_TOO_FEW_WORDS;
+    CHECK(early ? all_are(work, 0, words, MARK)
+                : all_are(work, 0, write_words(draft), 0) && all_are(work, write_words(draft), words, MARK),
+          "%u: the work words", (unsigned)number);
+    CHECK(number == 0 || memcmp(before, output, length) == 0, "%u leaves the output", (unsigned)number);
+    CHECK(number != 0 || memcmp(before + written[0], output + written[0], length - written[0]) == 0,
+          "bytes past the image stay");
+    CHECK(written[1] == MARK, "one word for the length");
+    *long_as = written[0];
+    free(work);
+    free(before);
+    return number;
+}
+
+#define NONE STORY_IMAGE_NONE
+#define SIZE(words) (sizeof(words) / 4)
+
+static void drafts(const char *folder) {
+    static const uint32_t root[] = {NONE, NONE, STORY_IMAGE_KIND_CONTAINER, NONE, NONE, 0, 0, 0, 0, 0};
+    struct draft draft;
+    memset(&draft, 0, sizeof draft);
+    draft.nodes = root;
+    draft.node_words = SIZE(root);
+    draft.strings = "";
+    uint8_t *output = (uint8_t *)room(1000);
+    memset(output, 0x77, 1000);
+    uint32_t length;
+    CHECK(put(&draft, 22, 16, output, 139, &length) == STORY_IMAGE_BAD_INK_VERSION, "ink version 22");
+    CHECK(put(&draft, 21, 16, output, 139, &length) == STORY_IMAGE_NO_ROOM, "139 bytes");
+    CHECK(put(&draft, 21, 15, output, 140, &length) == STORY_IMAGE_TOO_FEW_WORDS, "15 words");
+    CHECK(put(&draft, 21, 17, output, 1000, &length) == STORY_IMAGE_OK && length == STORY_IMAGE_SMALLEST_BYTES,
+          "the smallest draft");
+    struct image smallest = sample(folder, "smallest");
+    CHECK(memcmp(output, smallest.bytes, smallest.length) == 0, "the smallest image");
+    free(smallest.bytes);
+    draft.node_words = 11;
+    static const uint32_t eleven[11] = {NONE};
+    draft.nodes = eleven;
+    CHECK(put(&draft, 21, 16, output, 1000, &length) == STORY_IMAGE_BAD_DRAFT, "11 node words");
+
+    static const uint32_t two[] = {NONE, NONE, 1, NONE, NONE, 0, 0, 0, 0, 0, 0, 0, 5, 0, 0, 0, 0, 0, 0, 0};
+    draft.nodes = two;
+    draft.node_words = SIZE(two);
+    CHECK(put(&draft, 21, 40, output, 1000, &length) == STORY_IMAGE_DRAFT_UNREACHED, "a glue without an entry");
+
+    /* the root with a glue and two named containers; names in the strings "ab" */
+    static uint32_t nodes[] = {NONE, NONE, 1, NONE, NONE, 0, 0, 1, 0, 2, 0, 0,    5, 0, 0, 0, 0, 0, 0, 0,
+                               0,    NONE, 1, 0,    1,    0, 1, 0, 2, 0, 0, NONE, 1, 1, 1, 0, 1, 0, 2, 0};
+    static const uint32_t children[] = {1};
+    static const uint32_t named[] = {0, 1, 2, 1, 1, 3};
+    static const uint32_t definitions[] = {0, 1, 0, 1};
+    static const uint32_t items[] = {1, 1, 5};
+    draft.nodes = nodes;
+    draft.node_words = SIZE(nodes);
+    draft.children = children;
+    draft.child_words = SIZE(children);
+    draft.named = named;
+    draft.named_words = SIZE(named);
+    draft.definitions = definitions;
+    draft.definition_words = SIZE(definitions);
+    draft.items = items;
+    draft.item_words = SIZE(items);
+    draft.strings = "ab";
+    CHECK(put(&draft, 18, 100, output, 1000, &length) == STORY_IMAGE_OK, "a draft with named children");
+    struct image image = image_of(output, length);
+    CHECK(load(&image, length / 4) == STORY_IMAGE_OK, "it loads");
+    CHECK(image.view[STORY_IMAGE_INK_VERSION] == 18 && image.view[STORY_IMAGE_NODES_COUNT] == 4, "its view");
+    children_of(&image, 0);
+    definitions_of(&image);
+    uint8_t *exact = (uint8_t *)room(length);
+    memset(exact, 1, length);
+    uint32_t again;
+    CHECK(put(&draft, 18, write_words(&draft), exact, length, &again) == 0 && again == length &&
+              memcmp(exact, output, length) == 0,
+          "the same bytes in exactly as much room");
+    CHECK(put(&draft, 18, 100, exact, length - 1, &again) == STORY_IMAGE_NO_ROOM, "a byte too few");
+    free(exact);
+    free(image.bytes);
+
+    nodes[11] = 1;
+    CHECK(put(&draft, 21, 100, output, 1000, &length) == STORY_IMAGE_DRAFT_SHAPE, "child 0 with place 1");
+    nodes[11] = 0;
+    nodes[33] = 0;
+    CHECK(put(&draft, 21, 100, output, 1000, &length) == STORY_IMAGE_DRAFT_PATHS, "two containers named a");
+    nodes[33] = 1;
+    CHECK(story_image_write(21, root, 10, root, 0, root, 0, root, 0, root, 0, output, 0, output, 0, nodes, 40, output,
+                            1000, nodes, 0) == STORY_IMAGE_TOO_FEW_WORDS,
+          "no word for the length");
+    free(output);
+}
+
+int main(int count, char **arguments) {
+    if (count != 2) {
+        fprintf(stderr, "library SAMPLES\n");
+        return 2;
+    }
+    const char *folder = arguments[1];
+    samples(folder);
+    damaged(folder);
+    queries(folder, "smallest");
+    queries(folder, "step");
+    queries(folder, "guide");
+    any_bytes(folder);
+    walks(folder);
+    drafts(folder);
+    printf("%lu passed, %lu failed\n", passed, failed);
+    return failed != 0;
+}
