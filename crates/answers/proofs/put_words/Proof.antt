@@ -1,4 +1,4 @@
--- `answers::put_words` meets its contract: after i turns the first i words are written. Assumes nothing.
+-- `answers::put_words` meets its contract: after i turns the first i words are written.
 use Prim.Native.Nat.{_≤_, _-_}
 use mathlib.Core.Path.{_≡_, refl}
 use mathlib.Core.List.{_++_}

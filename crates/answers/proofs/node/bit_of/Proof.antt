@@ -1,0 +1,12 @@
+-- `answers::node::bit_of` meets its contract.
+use Rattle.answers.proofs.node.bit_of.Statement.{statement}
+use Rattle.answers.proofs.node.bit_of.Tie as tie
+
+returns : tie.Need-returns
+returns c = ?
+
+returns-2 : tie.Need-returns-2
+returns-2 c = ?
+
+pub bit-of-spec : {M : Type 1} → statement M
+bit-of-spec = tie.close (tie.spec returns returns-2)

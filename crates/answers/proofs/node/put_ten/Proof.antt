@@ -1,0 +1,57 @@
+-- `answers::node::put_ten` meets its contract.
+use borrow.Author.Needs.{needs}
+use Rattle.answers.proofs.node.put_ten.Statement.{statement}
+use Rattle.answers.proofs.node.put_ten.Tie as tie
+
+slice-write-out : tie.Need-slice-write-out
+slice-write-out c = search needs
+
+slice-write-out-2 : tie.Need-slice-write-out-2
+slice-write-out-2 c = ?
+
+slice-write-out-3 : tie.Need-slice-write-out-3
+slice-write-out-3 c = ?
+
+slice-write-out-4 : tie.Need-slice-write-out-4
+slice-write-out-4 c = ?
+
+slice-write-out-5 : tie.Need-slice-write-out-5
+slice-write-out-5 c = ?
+
+slice-write-out-6 : tie.Need-slice-write-out-6
+slice-write-out-6 c = ?
+
+slice-write-out-7 : tie.Need-slice-write-out-7
+slice-write-out-7 c = ?
+
+slice-write-out-8 : tie.Need-slice-write-out-8
+slice-write-out-8 c = ?
+
+slice-write-out-9 : tie.Need-slice-write-out-9
+slice-write-out-9 c = ?
+
+slice-write-out-10 : tie.Need-slice-write-out-10
+slice-write-out-10 c = search needs
+
+same-length : tie.Need-same-length
+same-length c = search needs
+
+returns : tie.Need-returns
+returns c = ?
+
+pub put-ten-spec : {M : Type 1} → statement M
+put-ten-spec =
+    tie.close
+    (tie.spec
+    slice-write-out
+    slice-write-out-2
+    slice-write-out-3
+    slice-write-out-4
+    slice-write-out-5
+    slice-write-out-6
+    slice-write-out-7
+    slice-write-out-8
+    slice-write-out-9
+    slice-write-out-10
+    same-length
+    returns)
