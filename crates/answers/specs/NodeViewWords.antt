@@ -74,7 +74,7 @@ nodeAnswer node.NotFound = none
 
 -- ---- a list value, by the view of its node
 
-abbrev listOfValue : ValueView → Option Span
+abbrev pub listOfValue : ValueView → Option Span
 listOfValue (value.Bool b) = none
 listOfValue (value.Int i) = none
 listOfValue (value.Float bits x) = none
@@ -83,7 +83,7 @@ listOfValue (value.List t) = some t
 listOfValue (value.DivertTarget t) = none
 listOfValue (value.VariablePointer t context) = none
 
-abbrev listOfKind : NodeKindView → Option Span
+abbrev pub listOfKind : NodeKindView → Option Span
 listOfKind (kind.Container flags name) = none
 listOfKind (kind.ChoicePoint flags target) = none
 listOfKind (kind.ControlCommand c) = none

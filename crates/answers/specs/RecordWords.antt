@@ -1,7 +1,9 @@
 -- What inner functions answer of a node's record, in words. Laws tie it to the views; it need not be believed.
 use Prim.Native.Nat.{ℕ}
 use mathlib.Core.List.{List}
+use mathlib.Core.Bool.{cond}
 use mathlib.Core.Option.{Option, none, some}
+use lib.Dec.{eqb}
 use Rattle.words.specs.Words.{NONE}
 use Rattle.names.specs.declared.Number.{Number}
 use Rattle.names.specs.declared.Number.the-variants as number
@@ -43,3 +45,8 @@ numberFound tag number.Unknown = found.NotFound
 abbrev pub placed : ListPlace → Option Span
 placed (place.List t) = some t
 placed place.NotFound = none
+
+-- of a kind that was found: a list shows its place as its text
+abbrev pub placeFound : KindFound → Option Span
+placeFound (found.Kind k) = cond (eqb (k .tag) 12) (some (k .text)) none
+placeFound found.NotFound = none

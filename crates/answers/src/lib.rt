@@ -18,7 +18,8 @@ ghost use Prim.Native.Nat.{_≤_};
 ghost use mathlib.Core.List.{_++_};
 ghost use mathlib.Core.Option.{some};
 ghost use lib.ListN.{length, drop};
-ghost use Rattle.answers.specs.AnswerWords.{Answered, spanOr, noSpan, unsigned, namedWords, foundAnswer, countAnswer, namedAnswer, placeAnswer, partWords, partAnswer};
+ghost use Rattle.answers.specs.AnswerWords.{spanOr, noSpan, unsigned, namedWords};
+ghost use Rattle.answers.specs.AnswerWords.{Answered, foundAnswer, countAnswer, namedAnswer, placeAnswer, partWords, partAnswer};
 
 // The largest number that a word holds.
 const LARGEST_WORD: usize = 4294967295;

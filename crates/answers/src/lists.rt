@@ -1,6 +1,7 @@
 // List values, definitions and items in words.
 use crate::LARGEST_WORD;
-use crate::node::put_node_view;
+use crate::node::KindFound;
+use crate::node::kind_words;
 use crate::put_answer;
 use crate::span_or;
 use crate::unsigned_of;
@@ -15,17 +16,36 @@ use views::ItemAnswer;
 use views::ItemView;
 use views::ListEntry;
 use views::Span;
+use views::entries::RecordFound;
 ghost use mathlib.Core.Path.{_≡_};
 ghost use Rattle.image.specs.Header.{sectionsBy};
 ghost use Rattle.views.specs.View.{nodeView};
-ghost use Rattle.answers.specs.AnswerWords.{Answered, entryWords, definitionWords, itemWords, countWords, listItemWords, entryAnswer, definitionAnswer, itemAnswer, listItemAnswer, listCountWords};
+ghost use Rattle.answers.specs.AnswerWords.{entryWords, definitionWords, itemWords, countWords, listItemWords};
+ghost use Rattle.answers.specs.AnswerWords.{Answered, entryAnswer, definitionAnswer, itemAnswer, listItemAnswer, listCountWords};
 ghost use Rattle.answers.specs.NodeViewWords.{listPlace};
-ghost use Rattle.answers.specs.RecordWords.{placed};
+ghost use Rattle.answers.specs.RecordWords.{placed, placeFound};
 
 // The place of a list value in the payload, where the node is one.
 pub enum ListPlace {
     List(Span),
     NotFound,
+}
+
+// The same of a kind: the place that a list shows as its text.
+fn place_of(kind: KindFound) -> ListPlace
+    ensures { λ r. ⌜ placed r ≡ placeFound kind ⌝ }
+{
+    match kind {
+        KindFound::NotFound => ListPlace::NotFound,
+        KindFound::Kind(words) => {
+            let place = words.text;
+            if words.tag == 12 {
+                ListPlace::List(place)
+            } else {
+                ListPlace::NotFound
+            }
+        }
+    }
 }
 
 // Origin, origin_length, name, name_length, value.
@@ -151,18 +171,15 @@ pub fn put_list_counts(payload: &[u8], answer: &mut [u32]) -> u32
 }
 
 // The place of a node's list value: where its view shows a list.
-pub fn list_place(bytes: &[u8], view: ImageView, node: u32) -> ListPlace
-    ensures { λ r. ⌜ placed r ≡ listPlace (nodeView (sectionsBy (now (bytes .entry)) view) node) ⌝ }
+pub fn list_place(bytes: &[u8], view: ImageView, id: u32) -> ListPlace
+    ensures { λ r. ⌜ placed r ≡ listPlace (nodeView (sectionsBy (now (bytes .entry)) view) id) ⌝ }
 {
-    let mut words = [0u32; 10];
-    if put_node_view(bytes, view, node, &mut words) != 0 {
-        return ListPlace::NotFound;
+    match views::entries::node_of(bytes, view, id) {
+        RecordFound::NotFound => ListPlace::NotFound,
+        RecordFound::Record(node) => {
+            let payload = image::section_part(bytes, view.payload, ImageView::PAYLOAD_SIZE);
+            let strings = image::section_part(bytes, view.strings, ImageView::STRINGS_SIZE);
+            place_of(kind_words(node, payload.len(), strings))
+        }
     }
-    if words[2] != 12 {
-        return ListPlace::NotFound;
-    }
-    ListPlace::List(Span {
-        offset: words[3],
-        len: words[4],
-    })
 }

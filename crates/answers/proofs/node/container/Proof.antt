@@ -1,4 +1,6 @@
 -- `answers::node::container` meets its contract.
+use native.Mathlib.Omega.{arith}
+use Rattle.answers.proofs.Records.{container-found}
 use borrow.Author.Needs.{needs}
 use Rattle.answers.proofs.node.container.Statement.{statement}
 use Rattle.answers.proofs.node.container.Tie as tie
@@ -13,7 +15,7 @@ text-alone-requires : tie.Need-text-alone-requires
 text-alone-requires c κs = search needs
 
 returns : tie.Need-returns
-returns c = ?
+returns c = container-found _ (c .before .before .before .args .node) _ (omega arith) _ _ (c .before .before .optional-text .ensures) (c .before .span-or .ensures) (c .text-alone .ensures)
 
 pub container-spec : {M : Type 1} → statement M
 container-spec =

@@ -16,10 +16,10 @@ enum-told : tie.Need-enum-told
 enum-told c = search needs
 
 returns : tie.Need-returns
-returns c = ?
+returns c = cc
 
 returns-2 : tie.Need-returns-2
-returns-2 c = search needs
+returns-2 c = cc
 
 pub numbered-spec : {M : Type 1} → statement M
 numbered-spec =

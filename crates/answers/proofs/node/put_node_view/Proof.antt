@@ -1,4 +1,10 @@
 -- `answers::node::put_node_view` meets its contract.
+use mathlib.Core.Path.{refl, sym, ap, _∙_}
+use lib.ListN.{length}
+use Rattle.image.proofs.Views.{payload-by, strings-by}
+use Rattle.views.proofs.Answers.{view-missing, view-found}
+use Rattle.answers.specs.NodeViewWords.{nodeAnswer}
+use Rattle.answers.proofs.Putting.{unanswered, answered-as}
 use borrow.Author.Needs.{needs}
 use Rattle.answers.proofs.node.put_node_view.Statement.{statement}
 use Rattle.answers.proofs.node.put_node_view.Tie as tie
@@ -22,13 +28,16 @@ put-record-view-requires : tie.Need-put-record-view-requires
 put-record-view-requires c κs = search needs
 
 returns : tie.Need-returns
-returns c = ?
+returns c = unanswered _ _ (ap nodeAnswer (view-missing _ _ _ (c .before .before .node-of .ensures) (c .enum-told .given .1)))
 
 same-length : tie.Need-same-length
 same-length c = search needs
 
 returns-2 : tie.Need-returns-2
-returns-2 c = ?
+returns-2 c =
+    let payload = ap length (payload-by _ _ ∙ sym (c .before .before .before .before .before .section-part .ensures)) in
+    let strings = strings-by _ _ ∙ sym (c .before .before .before .before .section-part2 .ensures) in
+    answered-as _ _ _ _ _ (ap nodeAnswer (view-found _ _ _ (c .before .before .before .before .before .before .before .before .before .node-of .ensures) _ (c .before .before .before .before .before .before .before .node .given .1) _ _ payload strings _ refl)) (c .before .before .put-record-view .ensures)
 
 pub put-node-view-spec : {M : Type 1} → statement M
 put-node-view-spec =

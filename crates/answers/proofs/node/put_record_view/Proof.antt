@@ -1,10 +1,16 @@
 -- `answers::node::put_record_view` meets its contract.
+use Rattle.views.specs.View.{recordView}
+use denote.Ref.{now}
+use mathlib.Core.Path.{sym, ap, _∙_}
+use Rattle.answers.specs.RecordWords.{wordsFound}
+use Rattle.answers.proofs.Putting.{unanswered, answered-as, fitting}
+use Rattle.answers.proofs.Records.{kind-missing, kind-viewed, view-short}
 use borrow.Author.Needs.{needs}
 use Rattle.answers.proofs.node.put_record_view.Statement.{statement}
 use Rattle.answers.proofs.node.put_record_view.Tie as tie
 
 returns : tie.Need-returns
-returns c = ?
+returns c = let a = c .before .before .before .args in view-short (recordView (now (a .strings)) (a .payload) (a .node)) _ (c .if1 .taken)
 
 kind-words-requires : tie.Need-kind-words-requires
 kind-words-requires c κs = search needs
@@ -19,13 +25,16 @@ put-ten-requires : tie.Need-put-ten-requires
 put-ten-requires c κs = search needs
 
 returns-2 : tie.Need-returns-2
-returns-2 c = ?
+returns-2 c = let a = c .before .before .before .before .before .before .args in unanswered _ _ (kind-missing (now (a .strings)) (a .payload) (a .node) (ap wordsFound (sym (c .enum-told .given .1)) ∙ c .before .before .kind-words .ensures))
 
 same-length : tie.Need-same-length
 same-length c = search needs
 
 returns-3 : tie.Need-returns-3
-returns-3 c = ?
+returns-3 c =
+    let a = c .before .before .before .before .before .before .before .before .before .before .before .args in
+    let words = ap wordsFound (sym (c .before .before .before .before .before .kind .given .1)) ∙ c .before .before .before .before .before .before .before .kind-words .ensures in
+    answered-as _ _ _ _ _ (kind-viewed (now (a .strings)) (a .payload) (a .node) _ words) (fitting _ _ (c .before .before .before .before .before .before .before .before .if1 .left) _ (c .before .before .put-ten .ensures))
 
 pub put-record-view-spec : {M : Type 1} → statement M
 put-record-view-spec =

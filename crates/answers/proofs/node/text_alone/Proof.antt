@@ -7,7 +7,7 @@ no-span-requires : tie.Need-no-span-requires
 no-span-requires c κs = search needs
 
 returns : tie.Need-returns
-returns c = ?
+returns c = cc
 
 pub text-alone-spec : {M : Type 1} → statement M
 text-alone-spec = tie.close (tie.spec no-span-requires returns)

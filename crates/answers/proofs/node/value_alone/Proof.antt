@@ -10,7 +10,7 @@ text-alone-requires : tie.Need-text-alone-requires
 text-alone-requires c κs = search needs
 
 returns : tie.Need-returns
-returns c = ?
+returns c = cc
 
 pub value-alone-spec : {M : Type 1} → statement M
 value-alone-spec = tie.close (tie.spec no-span-requires text-alone-requires returns)
