@@ -46,7 +46,7 @@ use Rattle.answers.specs.declared.node.KindFound.the-variants as found
 use Rattle.answers.specs.AnswerWords.{Answered, unsigned, wordOr, spanOr, noSpan, bitIf}
 use Rattle.answers.specs.NodeViewWords.{valueWord, pushNumber, divertFlags, assignmentFlags, valueWords, kindWords, nodeViewWords, nodeAnswer, listOfValue, listOfKind, listPlace}
 use Rattle.answers.specs.RecordWords.{eightOf, wordsFound, wordsOfKind, textAlone, valueAlone, numberFound, placeFound}
-use Rattle.answers.proofs.Putting.{unanswered, too-short}
+use Rattle.answers.proofs.AnswerSlices.{unanswered, too-short}
 
 -- ---- a word is shown as it stands
 

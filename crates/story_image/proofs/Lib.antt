@@ -1,4 +1,4 @@
-pub mod Exporting
-pub mod Asking
-pub mod Parts
-pub mod Handing
+pub mod Views
+pub mod Loads
+pub mod Writes
+pub mod TextParts

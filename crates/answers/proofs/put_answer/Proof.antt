@@ -1,5 +1,5 @@
 -- `answers::put_answer` meets its contract.
-use Rattle.answers.proofs.Putting.{fitting, too-short}
+use Rattle.answers.proofs.AnswerSlices.{fitting, too-short}
 use borrow.Author.Needs.{needs}
 use Rattle.answers.proofs.put_answer.Statement.{statement}
 use Rattle.answers.proofs.put_answer.Tie as tie

@@ -1,7 +1,7 @@
 -- `answers::put_found` meets its contract.
 use mathlib.Core.Path.{sym, ap}
 use Rattle.answers.specs.AnswerWords.{foundAnswer}
-use Rattle.answers.proofs.Putting.{unanswered, answered-as}
+use Rattle.answers.proofs.AnswerSlices.{unanswered, answered-as}
 use borrow.Author.Needs.{needs}
 use Rattle.answers.proofs.put_found.Statement.{statement}
 use Rattle.answers.proofs.put_found.Tie as tie

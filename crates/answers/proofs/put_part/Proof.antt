@@ -1,5 +1,5 @@
 -- `answers::put_part` meets its contract.
-use Rattle.answers.proofs.Putting.{unanswered, answered-as, outside, past, part-some}
+use Rattle.answers.proofs.AnswerSlices.{unanswered, answered-as, outside, past, part-some}
 use borrow.Author.Needs.{needs}
 use Rattle.answers.proofs.put_part.Statement.{statement}
 use Rattle.answers.proofs.put_part.Tie as tie

@@ -1,7 +1,7 @@
 -- `answers::put_place` meets its contract.
 use mathlib.Core.Path.{sym, ap}
 use Rattle.answers.specs.AnswerWords.{placeAnswer}
-use Rattle.answers.proofs.Putting.{unanswered, answered-as}
+use Rattle.answers.proofs.AnswerSlices.{unanswered, answered-as}
 use borrow.Author.Needs.{needs}
 use Rattle.answers.proofs.put_place.Statement.{statement}
 use Rattle.answers.proofs.put_place.Tie as tie

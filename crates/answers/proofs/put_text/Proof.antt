@@ -1,7 +1,7 @@
 -- `answers::put_text` meets its contract.
 use mathlib.Core.Path.{sym, ap}
 use Rattle.answers.specs.AnswerWords.{partAnswer}
-use Rattle.answers.proofs.Putting.{unanswered, answered-as}
+use Rattle.answers.proofs.AnswerSlices.{unanswered, answered-as}
 use borrow.Author.Needs.{needs}
 use Rattle.answers.proofs.put_text.Statement.{statement}
 use Rattle.answers.proofs.put_text.Tie as tie

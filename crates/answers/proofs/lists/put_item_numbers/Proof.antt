@@ -1,5 +1,5 @@
 -- `answers::lists::put_item_numbers` meets its contract.
-use Rattle.answers.proofs.Putting.{unanswered, answered-as, definition-past, item-past, item-some}
+use Rattle.answers.proofs.AnswerSlices.{unanswered, answered-as, definition-past, item-past, item-some}
 use borrow.Author.Needs.{needs}
 use Rattle.answers.proofs.lists.put_item_numbers.Statement.{statement}
 use Rattle.answers.proofs.lists.put_item_numbers.Tie as tie

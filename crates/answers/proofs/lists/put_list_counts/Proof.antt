@@ -1,6 +1,6 @@
 -- `answers::lists::put_list_counts` meets its contract.
 use denote.Ref.{now}
-use Rattle.answers.proofs.Putting.{unanswered, answered-as, no-counts, counts-some}
+use Rattle.answers.proofs.AnswerSlices.{unanswered, answered-as, no-counts, counts-some}
 use borrow.Author.Needs.{needs}
 use Rattle.answers.proofs.lists.put_list_counts.Statement.{statement}
 use Rattle.answers.proofs.lists.put_list_counts.Tie as tie

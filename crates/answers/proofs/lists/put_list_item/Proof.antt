@@ -1,7 +1,7 @@
 -- `answers::lists::put_list_item` meets its contract.
 use mathlib.Core.Path.{sym, ap}
 use Rattle.answers.specs.AnswerWords.{listItemAnswer}
-use Rattle.answers.proofs.Putting.{unanswered, answered-as}
+use Rattle.answers.proofs.AnswerSlices.{unanswered, answered-as}
 use borrow.Author.Needs.{needs}
 use Rattle.answers.proofs.lists.put_list_item.Statement.{statement}
 use Rattle.answers.proofs.lists.put_list_item.Tie as tie

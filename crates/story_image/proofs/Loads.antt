@@ -1,4 +1,4 @@
--- A view written, and a load without work words. Assumes nothing.
+-- A view written, and a load without work words.
 use Prim.Native.Nat.{ℕ, zero, suc, _≤_, _<_}
 use mathlib.Core.Path.{_≡_, refl, sym, ap, _∙_}
 use mathlib.Core.List.{List, _++_}
@@ -15,12 +15,12 @@ use Rattle.load.specs.Load.{checksumRule, sectionsRule, loadRule, loadWords, lo
 use Rattle.load.specs.declared.Loaded.{Loaded}
 use Rattle.load.specs.declared.Loaded.the-variants.{View, Refused}
 use Rattle.load.proofs.Loading.{header-early, left-alone}
-use Rattle.story_image.specs.Exported.{wordsOfView, viewLength, lentWords, viewAfter}
+use Rattle.story_image.specs.Exported.{wordsOfView, viewLength, lentWords, writtenAfter}
 
 -- ---- the words of a view
 
-pub view-put : (ws vs xs now : List ℕ) → ws ≡ vs → now ≡ ws ++ drop (length ws) xs → now ≡ viewAfter 0 vs xs
-unfolding viewAfter
+pub view-put : (ws vs xs now : List ℕ) → ws ≡ vs → now ≡ ws ++ drop (length ws) xs → now ≡ writtenAfter 0 vs xs
+unfolding writtenAfter
 view-put ws vs xs now e h = h ∙ ap (λ (l : List ℕ). l ++ drop (length l) xs) e
 
 -- ---- what a load answers, as a number
@@ -60,8 +60,8 @@ number bs work a r e q = q ∙ ap loadedNumber e ∙ number-by (loadRule bs work
 
 -- ---- a refusal leaves the view
 
-pub view-left : (r : ℕ) (ws view : List ℕ) → (r ≡ 0 → ⊥) → view ≡ viewAfter r ws view
-unfolding viewAfter
+pub view-left : (r : ℕ) (ws view : List ℕ) → (r ≡ 0 → ⊥) → view ≡ writtenAfter r ws view
+unfolding writtenAfter
 view-left zero ws view d = absurd (d refl)
 view-left (suc r) ws view d = refl
 
@@ -99,7 +99,7 @@ lent-none : (view work : ℕ) → view < viewLength → 0 ≡ lentWords view wor
 lent-none view work h = sym (ap (λ (b : Bool). cond b work 0) (lt-leb viewLength view h))
 
 pub no-view : (bs work view ws : List ℕ) (needed r : ℕ) → length view < viewLength → r ≡ loadRule bs 0
-    → (r ≡ loadRule bs (lentWords (length view) (length work))) × (work ≡ workAfter needed r work) × (view ≡ viewAfter r ws view)
+    → (r ≡ loadRule bs (lentWords (length view) (length work))) × (work ≡ workAfter needed r work) × (view ≡ writtenAfter r ws view)
 no-view bs work view ws needed r h e =
     let q : early r ≡ true = ap early e ∙ early-without bs in
     (e ∙ ap (loadRule bs) (lent-none (length view) (length work) h), left-alone needed r work q, view-left r ws view (early-some r q))
@@ -117,8 +117,8 @@ module _ (bs : List ℕ) (work : ℕ) (a : Loaded) (view : ℕ) (h : viewLength 
   pub refused-words : (k : ℕ) (needed : ℕ) (w now : List ℕ) → a ≡ Refused k → now ≡ workAfter needed (loadRule bs work) w → now ≡ workAfter needed k w
   refused-words k needed w now q p = p ∙ ap (λ (r : ℕ). workAfter needed r w) (sym (refused bs work a e k q))
 
-  pub accepted-view : (u : ImageView) (xs now : List ℕ) → a ≡ View u → now ≡ viewAfter 0 (wordsOfView u) xs → now ≡ viewAfter 0 (wordsOfView (viewOf bs)) xs
-  accepted-view u xs now q p = p ∙ ap (λ (v : ImageView). viewAfter 0 (wordsOfView v) xs) (viewed bs work a e u q .1)
+  pub accepted-view : (u : ImageView) (xs now : List ℕ) → a ≡ View u → now ≡ writtenAfter 0 (wordsOfView u) xs → now ≡ writtenAfter 0 (wordsOfView (viewOf bs)) xs
+  accepted-view u xs now q p = p ∙ ap (λ (v : ImageView). writtenAfter 0 (wordsOfView v) xs) (viewed bs work a e u q .1)
 
-  pub refused-view : (k : ℕ) (ws xs : List ℕ) → a ≡ Refused k → xs ≡ viewAfter k ws xs
+  pub refused-view : (k : ℕ) (ws xs : List ℕ) → a ≡ Refused k → xs ≡ writtenAfter k ws xs
   refused-view k ws xs q = view-left k ws xs (refused-some bs work a e k q)

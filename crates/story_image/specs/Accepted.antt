@@ -1,0 +1,2 @@
+-- What is promised of exported queries.
+use Prim.Native.Nat.{ℕ}
