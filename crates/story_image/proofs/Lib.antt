@@ -2,3 +2,5 @@ pub mod Views
 pub mod Loads
 pub mod Writes
 pub mod TextParts
+pub mod ListValues
+pub mod WorkWords

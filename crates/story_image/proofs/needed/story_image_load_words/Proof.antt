@@ -1,4 +1,5 @@
 -- `story_image::needed::story_image_load_words` meets its contract.
+use Rattle.story_image.proofs.WorkWords.{none-to-load, some-to-load}
 use borrow.Author.Needs.{needs}
 use Rattle.story_image.proofs.needed.story_image_load_words.Statement.{statement}
 use Rattle.story_image.proofs.needed.story_image_load_words.Tie as tie
@@ -31,10 +32,10 @@ add-result-3 : tie.Need-add-result-3
 add-result-3 c = search needs
 
 returns : tie.Need-returns
-returns c = ?
+returns c = none-to-load _ _ (c .before .before .new .ensures) _ (c .enum-told .given .1)
 
 returns-2 : tie.Need-returns-2
-returns-2 c = ?
+returns-2 c = some-to-load _ _ (c .before .before .before .before .before .before .new .ensures) _ (c .before .before .before .before .view .given .1)
 
 pub story-image-load-words-spec : {M : Type 1} → statement M
 story-image-load-words-spec =
