@@ -248,7 +248,7 @@ eight-value (value.List t) = refl
 eight-value (value.DivertTarget t) = refl
 eight-value (value.VariablePointer t context) = refl
 
-eight : (k : NodeKindView) → length (kindWords k) ≡ 8
+pub eight : (k : NodeKindView) → length (kindWords k) ≡ 8
 eight (kind.Container flags name) = refl
 eight (kind.ChoicePoint flags target) = refl
 eight (kind.ControlCommand c) = refl

@@ -4,3 +4,5 @@ pub mod Writes
 pub mod TextParts
 pub mod ListValues
 pub mod WorkWords
+pub mod NameTexts
+pub mod AcceptedExports
