@@ -1,3 +1,4 @@
 pub mod AnswerSlices
 pub mod Bits
 pub mod Records
+pub mod ListPlaces

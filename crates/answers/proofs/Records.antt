@@ -8,7 +8,7 @@ use mathlib.Core.Option.{Option, none, some}
 use native.Mathlib.Omega.{arith}
 use native.Mathlib.Nat.{not-suc-le-zero}
 use native.Mathlib.Decide.{ℕ-discrete}
-use lib.ListN.{length, getD, drop, set}
+use lib.ListN.{length, drop, set}
 use lib.Dec.{eqb, leb}
 use borrow.Author.Tests.{eqb-true, eq-eqb, ne-eqb, le-leb, lt-leb}
 use mir.Facts.{ofZ-toZ}
@@ -44,8 +44,8 @@ use Rattle.answers.specs.declared.node.KindWords.{KindWords}
 use Rattle.answers.specs.declared.node.KindFound.{KindFound}
 use Rattle.answers.specs.declared.node.KindFound.the-variants as found
 use Rattle.answers.specs.AnswerWords.{Answered, unsigned, wordOr, spanOr, noSpan, bitIf}
-use Rattle.answers.specs.NodeViewWords.{valueWord, pushNumber, divertFlags, assignmentFlags, valueWords, kindWords, nodeViewWords, nodeAnswer, listOfValue, listOfKind, listPlace}
-use Rattle.answers.specs.RecordWords.{eightOf, wordsFound, wordsOfKind, textAlone, valueAlone, numberFound, placeFound}
+use Rattle.answers.specs.NodeViewWords.{valueWord, pushNumber, divertFlags, assignmentFlags, valueWords, kindWords, nodeViewWords, nodeAnswer}
+use Rattle.answers.specs.RecordWords.{eightOf, wordsFound, wordsOfKind, textAlone, valueAlone, numberFound}
 use Rattle.answers.proofs.AnswerSlices.{unanswered, too-short}
 
 -- ---- a word is shown as it stands
@@ -281,42 +281,3 @@ ten-put (x0 ∷ x1 ∷ x2 ∷ x3 ∷ x4 ∷ x5 ∷ []) a b c d e f g h i j l = a
 ten-put (x0 ∷ x1 ∷ x2 ∷ x3 ∷ x4 ∷ x5 ∷ x6 ∷ []) a b c d e f g h i j l = absurd (omega arith)
 ten-put (x0 ∷ x1 ∷ x2 ∷ x3 ∷ x4 ∷ x5 ∷ x6 ∷ x7 ∷ []) a b c d e f g h i j l = absurd (omega arith)
 ten-put (x0 ∷ x1 ∷ x2 ∷ x3 ∷ x4 ∷ x5 ∷ x6 ∷ x7 ∷ x8 ∷ []) a b c d e f g h i j l = absurd (omega arith)
-
--- ---- the place of a list value, out of the words of its kind
-
-abbrev placeIn : List ℕ → Option Span
-placeIn ws = cond (eqb (getD ws 0 0) 12) (some (span (getD ws 1 0) (getD ws 2 0))) none
-
-value-place : (v : ValueView) → placeIn (valueWords v) ≡ listOfValue v
-value-place (value.Bool b) = refl
-value-place (value.Int i) = refl
-value-place (value.Float bits x) = refl
-value-place (value.String t) = refl
-value-place (value.List t) = refl
-value-place (value.DivertTarget t) = refl
-value-place (value.VariablePointer t context) = refl
-
-kind-place : (k : NodeKindView) → placeIn (kindWords k) ≡ listOfKind k
-kind-place (kind.Container flags name) = refl
-kind-place (kind.ChoicePoint flags target) = refl
-kind-place (kind.ControlCommand c) = refl
-kind-place (kind.Divert path target variable arguments conditional external pushes p) = refl
-kind-place kind.Glue = refl
-kind-place (kind.NativeFunction o) = refl
-kind-place (kind.Tag t) = refl
-kind-place (kind.Value v) = value-place v
-kind-place (kind.VariableAssignment t global new) = refl
-kind-place (kind.VariableReference t target) = refl
-kind-place kind.Void = refl
-
-module _ (strings : List ℕ) (payload : ℕ) (r : NodeRecord) where
-  pub record-place : (k : KindFound) → wordsFound k ≡ wordsOfKind (kindView strings payload r (kindOf (r .tag)))
-      → placeFound k ≡ listPlace (recordView strings payload r)
-  unfolding recordView
-  record-place k h = by k (kindView strings payload r (kindOf (r .tag))) h
-    where
-      by : (k : KindFound) (a : KindAnswer) → wordsFound k ≡ wordsOfKind a → placeFound k ≡ listPlace (withKind strings payload r a)
-      by found.NotFound kindly.NotFound e = refl
-      by found.NotFound (kindly.Kind w) e = let z : _≡_ {A = ℕ} 0 1 = cc in absurd (omega arith)
-      by (found.Kind k) kindly.NotFound e = let z : _≡_ {A = ℕ} 0 1 = cc in absurd (omega arith)
-      by (found.Kind k) (kindly.Kind w) e = let q : eightOf k ≡ kindWords w = cc in ap placeIn q ∙ kind-place w

@@ -1,15 +1,17 @@
 -- What inner functions answer of a node's record, in words. Laws tie it to the views; it need not be believed.
-use Prim.Native.Nat.{ℕ}
+use Prim.Native.Nat.{ℕ, _+_}
 use mathlib.Core.List.{List}
 use mathlib.Core.Bool.{cond}
 use mathlib.Core.Option.{Option, none, some}
-use lib.Dec.{eqb}
+use lib.Dec.{leb, eqb}
 use Rattle.words.specs.Words.{NONE}
 use Rattle.names.specs.declared.Number.{Number}
 use Rattle.names.specs.declared.Number.the-variants as number
+use Rattle.image.specs.declared.NodeRecord.{NodeRecord}
 use Rattle.views.specs.declared.Span.{Span}
 use Rattle.views.specs.declared.KindAnswer.{KindAnswer}
 use Rattle.views.specs.declared.KindAnswer.the-variants as kindly
+use Rattle.views.specs.View.{span}
 use Rattle.answers.specs.declared.lists.ListPlace.{ListPlace}
 use Rattle.answers.specs.declared.lists.ListPlace.the-variants as place
 use Rattle.answers.specs.declared.node.KindWords.{KindWords}
@@ -46,7 +48,6 @@ abbrev pub placed : ListPlace → Option Span
 placed (place.List t) = some t
 placed place.NotFound = none
 
--- of a kind that was found: a list shows its place as its text
-abbrev pub placeFound : KindFound → Option Span
-placeFound (found.Kind k) = cond (eqb (k .tag) 12) (some (k .text)) none
-placeFound found.NotFound = none
+-- of a record, beside a payload of so many bytes
+abbrev pub placeIn : ℕ → NodeRecord → Option Span
+placeIn payload r = cond (eqb (r .tag) 12) (cond (leb (r .f0 + r .f1) payload) (some (span (r .f0) (r .f1))) none) none

@@ -1,11 +1,10 @@
 // List values, definitions and items in words.
 use crate::LARGEST_WORD;
-use crate::node::KindFound;
-use crate::node::kind_words;
 use crate::put_answer;
 use crate::span_or;
 use crate::unsigned_of;
 use image::ImageView;
+use image::NodeRecord;
 use image::refusal::NOT_FOUND;
 use lookups::ListItem;
 use lookups::ListItemAnswer;
@@ -23,7 +22,7 @@ ghost use Rattle.views.specs.View.{nodeView};
 ghost use Rattle.answers.specs.AnswerWords.{entryWords, definitionWords, itemWords, countWords, listItemWords};
 ghost use Rattle.answers.specs.AnswerWords.{Answered, entryAnswer, definitionAnswer, itemAnswer, listItemAnswer, listCountWords};
 ghost use Rattle.answers.specs.NodeViewWords.{listPlace};
-ghost use Rattle.answers.specs.RecordWords.{placed, placeFound};
+ghost use Rattle.answers.specs.RecordWords.{placed, placeIn};
 
 // The place of a list value in the payload, where the node is one.
 pub enum ListPlace {
@@ -31,21 +30,20 @@ pub enum ListPlace {
     NotFound,
 }
 
-// The same of a kind: the place that a list shows as its text.
-fn place_of(kind: KindFound) -> ListPlace
-    ensures { λ r. ⌜ placed r ≡ placeFound kind ⌝ }
+// The same of a node's record, beside a payload of so many bytes.
+fn place_of(node: NodeRecord, payload: usize) -> ListPlace
+    ensures { λ r. ⌜ placed r ≡ placeIn payload node ⌝ }
 {
-    match kind {
-        KindFound::NotFound => ListPlace::NotFound,
-        KindFound::Kind(words) => {
-            let place = words.text;
-            if words.tag == 12 {
-                ListPlace::List(place)
-            } else {
-                ListPlace::NotFound
-            }
-        }
+    if node.tag != 12 {
+        return ListPlace::NotFound;
     }
+    if payload < node.f0 as usize + node.f1 as usize {
+        return ListPlace::NotFound;
+    }
+    ListPlace::List(Span {
+        offset: node.f0,
+        len: node.f1,
+    })
 }
 
 // Origin, origin_length, name, name_length, value.
@@ -178,8 +176,7 @@ pub fn list_place(bytes: &[u8], view: ImageView, id: u32) -> ListPlace
         RecordFound::NotFound => ListPlace::NotFound,
         RecordFound::Record(node) => {
             let payload = image::section_part(bytes, view.payload, ImageView::PAYLOAD_SIZE);
-            let strings = image::section_part(bytes, view.strings, ImageView::STRINGS_SIZE);
-            place_of(kind_words(node, payload.len(), strings))
+            place_of(node, payload.len())
         }
     }
 }

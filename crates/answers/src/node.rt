@@ -142,7 +142,7 @@ fn text_kind(node: NodeRecord, strings: &[u8]) -> KindFound
 }
 
 // The words of a record's kind: one decision over the tag's number.
-pub fn kind_words(node: NodeRecord, payload: usize, strings: &[u8]) -> KindFound
+fn kind_words(node: NodeRecord, payload: usize, strings: &[u8]) -> KindFound
     ensures { λ r. ⌜ wordsFound r ≡ wordsOfKind (kindView (now (strings .entry)) payload node (kindOf (node .tag))) ⌝ }
 {
     let tag = node.tag;

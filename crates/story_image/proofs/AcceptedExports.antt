@@ -13,18 +13,11 @@ use Rattle.laws.specs.Counted.{lastOf}
 use Rattle.laws.proofs.First.{both}
 use Rattle.words.specs.Words.{NONE, wordAt}
 use Rattle.image.specs.declared.ImageView.{ImageView}
-use Rattle.image.specs.declared.NodeRecord.{NodeRecord}
-use Rattle.image.specs.Sections.{Sections, definitionCount, itemCount, present, inside, textIn}
+use Rattle.image.specs.Sections.{Sections, definitionCount, itemCount, present}
 use Rattle.image.specs.Header.{headerRule, viewOf, sectionsBy, sectionsOf}
-use Rattle.image.specs.Entries.{nodeIn}
 use Rattle.image.proofs.Opening.{Opens, opens, view-inside, view-counts, length-word}
 use Rattle.image.proofs.Tests.{both-true}
 use Rattle.index.specs.Definitions.{firstItem, itemsOf}
-use Rattle.names.specs.ControlCommand.{commandNamed}
-use Rattle.names.specs.NativeFunctionCall.{operatorNamed}
-use Rattle.names.specs.declared.control_command.CommandType.{CommandType}
-use Rattle.names.specs.declared.native_function_call.Op.{Op}
-use Rattle.records.specs.Fields.{Kind, Container, Choice, Command as Named, Divert, Glue, Operator as Operation, Tag, BoolValue, IntValue, FloatValue, StringValue, ListValue, TargetValue, PointerValue, Assignment, Reference, Void, Unknown, kindOf}
 use Rattle.load.specs.Load.{loadRule}
 use Rattle.views.specs.declared.Span.{Span}
 use Rattle.views.specs.declared.Found.{Found}
@@ -41,14 +34,9 @@ use Rattle.views.specs.declared.DefinitionAnswer.{DefinitionAnswer}
 use Rattle.views.specs.declared.DefinitionAnswer.the-variants as definition
 use Rattle.views.specs.declared.ItemAnswer.{ItemAnswer}
 use Rattle.views.specs.declared.ItemAnswer.the-variants as item
-use Rattle.views.specs.declared.ValueView.the-variants as value
-use Rattle.views.specs.declared.NodeKindView.{NodeKindView}
-use Rattle.views.specs.declared.NodeKindView.the-variants as kind
-use Rattle.views.specs.declared.KindAnswer.{KindAnswer}
-use Rattle.views.specs.declared.KindAnswer.the-variants as kindly
 use Rattle.views.specs.declared.NodeAnswer.{NodeAnswer}
 use Rattle.views.specs.declared.NodeAnswer.the-variants as node
-use Rattle.views.specs.View.{span, shown, withText, ofCommand, ofOperator, kindView, withKind, recordView, nodeView}
+use Rattle.views.specs.View.{span, shown, nodeView}
 use Rattle.views.specs.Children.{childCountOf, namedCountOf, childQuery, namedQuery, textQuery}
 use Rattle.views.specs.Lists.{listPart, listEntry, listOrigin, definitionQuery, itemQuery}
 use Rattle.walks.specs.Walk.{components, resolve}
@@ -61,9 +49,10 @@ use Rattle.utf8.specs.White.{blank}
 use Rattle.lookups.specs.Lookup.{definitionName, itemIn, placeIn, searched, answers, listItemIn, listItemAt, lastItem, findNamed, listItem}
 use Rattle.lookups.proofs.Lookups.{place-below}
 use Rattle.answers.specs.AnswerWords.{numberOf, countWords, foundAnswer, countAnswer, namedAnswer, placeAnswer, partWords, partAnswer, entryAnswer, definitionAnswer, itemAnswer, listItemWords, listItemAnswer, listCountWords}
-use Rattle.answers.specs.NodeViewWords.{kindWords, nodeAnswer, listOfKind, listPlace}
+use Rattle.answers.specs.NodeViewWords.{nodeAnswer, listPlace}
 use Rattle.answers.proofs.AnswerSlices.{count-some, part-some}
 use Rattle.answers.proofs.Records.{eight}
+use Rattle.answers.proofs.ListPlaces.{Lies, list-lies}
 use Rattle.story_image.specs.Exported.{viewLength, wordsOfView, viewBy, under, writtenAfter}
 use Rattle.story_image.specs.Queries.{atList, firstWords}
 use Rattle.story_image.specs.Accepted.{Answers, ViewOf, Exports, AcceptedExports, wordsOfPart, wordsOfText, wordsOfListItem}
@@ -165,80 +154,6 @@ module _ (bs view : List ℕ) (v : ViewOf bs view) where
 
   pub asked-as : (query : ImageView → Option (List ℕ)) → under view query ≡ query (viewOf bs)
   asked-as query = sym (enough view query view-long (viewOf bs) view-same)
-
--- ---- a list value lies in the payload
-
-abbrev listOf : KindAnswer → Option Span
-listOf (kindly.Kind k) = listOfKind k
-listOf kindly.NotFound = none
-
-abbrev Lies : ℕ → Option Span → Type 0
-Lies n o = (t : Span) → o ≡ some t → t .offset + t .len ≤ n
-
-none-lies : (n : ℕ) → Lies n none
-none-lies n t e = absurd (none-some e)
-
-module _ (strings : List ℕ) (payload : ℕ) (r : NodeRecord) where
-  with-lies : (g : Span → KindAnswer) → ((t : Span) → Lies payload (listOf (g t))) → Lies payload (listOf (withText strings r g))
-  unfolding withText
-  with-lies g h = by (shown (length strings) (r .f0) (r .f1))
-    where
-      by : (b : Bool) → Lies payload (listOf (cond b (g (span (r .f0) (r .f1))) kindly.NotFound))
-      by true = h (span (r .f0) (r .f1))
-      by false = none-lies payload
-
-  tested-lies : (b : Bool) (k : NodeKindView) → Lies payload (listOfKind k) → Lies payload (listOf (cond b (kindly.Kind k) kindly.NotFound))
-  tested-lies true k h = h
-  tested-lies false k h = none-lies payload
-
-  command-lies : (o : Option CommandType) → Lies payload (listOf (ofCommand o))
-  command-lies none = none-lies payload
-  command-lies (some c) = none-lies payload
-
-  operator-lies : (o : Option Op) → Lies payload (listOf (ofOperator o))
-  operator-lies none = none-lies payload
-  operator-lies (some c) = none-lies payload
-
-  kind-lies : (k : Kind) → Lies payload (listOf (kindView strings payload r k))
-  unfolding kindView
-  kind-lies Container = none-lies payload
-  kind-lies Choice = none-lies payload
-  kind-lies Named = with-lies _ (λ t. command-lies (commandNamed (textIn strings (t .offset) (t .len))))
-  kind-lies Divert = tested-lies (leb (r .f6 / 8) 2) _ (none-lies payload)
-  kind-lies Glue = none-lies payload
-  kind-lies Operation = with-lies _ (λ t. operator-lies (operatorNamed (textIn strings (t .offset) (t .len))))
-  kind-lies Tag = with-lies _ (λ t. none-lies payload)
-  kind-lies BoolValue = none-lies payload
-  kind-lies IntValue = none-lies payload
-  kind-lies FloatValue = none-lies payload
-  kind-lies StringValue = with-lies _ (λ t. none-lies payload)
-  kind-lies ListValue = by (leb (r .f0 + r .f1) payload) refl
-    where
-      by : (b : Bool) → leb (r .f0 + r .f1) payload ≡ b → Lies payload (listOf (cond b (kindly.Kind (kind.Value (value.List (span (r .f0) (r .f1))))) kindly.NotFound))
-      by true e t q = let z = some-inner (span (r .f0) (r .f1)) t q in rw (← z) (leb-true (r .f0 + r .f1) payload e)
-      by false e t q = none-lies payload t q
-  kind-lies TargetValue = with-lies _ (λ t. none-lies payload)
-  kind-lies PointerValue = with-lies _ (λ t. none-lies payload)
-  kind-lies Assignment = with-lies _ (λ t. none-lies payload)
-  kind-lies Reference = with-lies _ (λ t. none-lies payload)
-  kind-lies Void = none-lies payload
-  kind-lies Unknown = none-lies payload
-
-  record-lies : Lies payload (listPlace (recordView strings payload r))
-  unfolding recordView
-  record-lies = by (kindView strings payload r (kindOf (r .tag))) (kind-lies (kindOf (r .tag)))
-    where
-      by : (a : KindAnswer) → Lies payload (listOf a) → Lies payload (listPlace (withKind strings payload r a))
-      by (kindly.Kind k) h = h
-      by kindly.NotFound h = h
-
-pub list-lies : (s : Sections) (i : ℕ) → Lies (length (s .payload)) (listPlace (nodeView s i))
-unfolding nodeView
-list-lies s i = by (inside s i)
-  where
-    by : (b : Bool) → Lies (length (s .payload)) (listPlace (cond b (recordView (s .strings) (length (s .payload)) (nodeIn s i)) node.NotFound))
-    by true = record-lies (s .strings) (length (s .payload)) (nodeIn s i)
-    by false = none-lies (length (s .payload))
 
 -- ---- the numbers of a list item are below the counts
 
