@@ -38,14 +38,14 @@ use Rattle.views.specs.declared.KindAnswer.{KindAnswer}
 use Rattle.views.specs.declared.KindAnswer.the-variants as kindly
 use Rattle.views.specs.declared.NodeAnswer.{NodeAnswer}
 use Rattle.views.specs.declared.NodeAnswer.the-variants as node
-use Rattle.views.specs.View.{signed, odd, span, optionalText, optionalWord, pushType, ofCommand, ofOperator, kindView, withKind, recordView}
-use Rattle.views.specs.Shown.{containerView, divertView, commandView, operatorView, listView, withName}
+use Rattle.views.specs.View.{signed, odd, span, optionalText, optionalWord, pushType, ofCommand, ofOperator, withText, kindView, withKind, recordView}
+use Rattle.views.specs.Shown.{containerView, divertView, commandView, operatorView, listView, withName, textKind}
 use Rattle.answers.specs.declared.node.KindWords.{KindWords}
 use Rattle.answers.specs.declared.node.KindFound.{KindFound}
 use Rattle.answers.specs.declared.node.KindFound.the-variants as found
 use Rattle.answers.specs.AnswerWords.{Answered, unsigned, wordOr, spanOr, noSpan, bitIf}
 use Rattle.answers.specs.NodeViewWords.{valueWord, pushNumber, divertFlags, assignmentFlags, valueWords, kindWords, nodeViewWords, nodeAnswer}
-use Rattle.answers.specs.RecordWords.{eightOf, wordsFound, wordsOfKind, textAlone, valueAlone, numberFound}
+use Rattle.answers.specs.RecordWords.{eightOf, wordsFound, wordsOfKind, textAlone, valueAlone, numberFound, fieldsOf}
 use Rattle.answers.proofs.AnswerSlices.{unanswered, too-short}
 
 -- ---- a word is shown as it stands
@@ -181,6 +181,17 @@ module _ (strings : List ℕ) (r : NodeRecord) (t : Span) where
     unfolding withName
     reference-named n a b c d e q =
         rw (ne-eqb n 3 a, ne-eqb n 6 b, ne-eqb n 7 (λ x. c (inl x)), ne-eqb n 11 (λ x. c (inr (inl x))), ne-eqb n 13 (λ x. c (inr (inr x))), ne-eqb n 14 d, ne-eqb n 16 e, q, word-back (r .f4))
+
+-- only these fields matter
+pub name-fields : (strings : List ℕ) (tag f0 f1 f2 f4 : ℕ) (t : Span)
+    → withName tag strings (fieldsOf tag 0 0 f2 f4) t ≡ withName tag strings (fieldsOf tag f0 f1 f2 f4) t
+unfolding withName
+name-fields strings tag f0 f1 f2 f4 t = refl
+
+pub text-fields : (strings : List ℕ) (r : NodeRecord)
+    → textKind (r .tag) strings (fieldsOf (r .tag) (r .f0) (r .f1) (r .f2) (r .f4)) ≡ textKind (r .tag) strings r
+unfolding textKind withText withName
+text-fields strings r = refl
 
 -- ---- kinds without a text, by the tag
 

@@ -51,3 +51,7 @@ placed place.NotFound = none
 -- of a record, beside a payload of so many bytes
 abbrev pub placeIn : ℕ → NodeRecord → Option Span
 placeIn payload r = cond (eqb (r .tag) 12) (cond (leb (r .f0 + r .f1) payload) (some (span (r .f0) (r .f1))) none) none
+
+-- the fields that a kind made of a text may have, in a record whose other words are 0
+abbrev pub fieldsOf : ℕ → ℕ → ℕ → ℕ → ℕ → NodeRecord
+fieldsOf tag f0 f1 f2 f4 = record { parent = 0; place = 0; tag = tag; f0 = f0; f1 = f1; f2 = f2; f3 = 0; f4 = f4; f5 = 0; f6 = 0 }

@@ -22,7 +22,7 @@ ghost use Rattle.views.specs.View.{kindView, recordView, nodeView};
 ghost use Rattle.views.specs.Shown.{containerView, divertView, listView, withName, textKind};
 ghost use Rattle.answers.specs.AnswerWords.{Answered, bitIf};
 ghost use Rattle.answers.specs.NodeViewWords.{nodeAnswer};
-ghost use Rattle.answers.specs.RecordWords.{eightOf, wordsFound, wordsOfKind, textAlone, valueAlone, numberFound};
+ghost use Rattle.answers.specs.RecordWords.{eightOf, wordsFound, wordsOfKind, textAlone, valueAlone, numberFound, fieldsOf};
 
 // Words of a node's view.
 pub const NODE_VIEW_WORDS: usize = 10;
@@ -115,29 +115,29 @@ fn list(payload: usize, start: u32, len: u32) -> KindFound
     }
 }
 
-// A kind that is made of its text, by the tag.
-fn with_name(node: NodeRecord, name: Span, strings: &[u8]) -> KindFound
-    ensures { λ r. ⌜ wordsFound r ≡ wordsOfKind (withName (node .tag) (now (strings .entry)) node name) ⌝ }
+// A kind that is made of its text, by the tag and the fields that it may have. They are taken one by one, so that a record need not be
+// laid down in memory for the call.
+fn with_name(tag: u32, f2: u32, f4: u32, name: Span, strings: &[u8]) -> KindFound
+    ensures { λ r. ⌜ wordsFound r ≡ wordsOfKind (withName tag (now (strings .entry)) (fieldsOf tag 0 0 f2 f4) name) ⌝ }
 {
-    let tag = node.tag;
     let text = image::text_part(strings, name.offset, name.len);
     match tag {
         3 => numbered(3, names::control_command::command_number(text)),
         6 => numbered(6, names::native_function_call::operator_number(text)),
         7 | 11 | 13 => KindFound::Kind(text_alone(tag, name, NONE, 0, 0)),
-        14 => KindFound::Kind(text_alone(14, name, NONE, node.f2, 0)),
-        16 => KindFound::Kind(text_alone(16, name, NONE, 0, node.f2 % 4)),
-        _ => KindFound::Kind(text_alone(17, name, node.f4, 0, 0)),
+        14 => KindFound::Kind(text_alone(14, name, NONE, f2, 0)),
+        16 => KindFound::Kind(text_alone(16, name, NONE, 0, f2 % 4)),
+        _ => KindFound::Kind(text_alone(17, name, f4, 0, 0)),
     }
 }
 
 // The same, where the text is present and inside.
-fn text_kind(node: NodeRecord, strings: &[u8]) -> KindFound
-    ensures { λ r. ⌜ wordsFound r ≡ wordsOfKind (textKind (node .tag) (now (strings .entry)) node) ⌝ }
+fn text_kind(tag: u32, f0: u32, f1: u32, f2: u32, f4: u32, strings: &[u8]) -> KindFound
+    ensures { λ r. ⌜ wordsFound r ≡ wordsOfKind (textKind tag (now (strings .entry)) (fieldsOf tag f0 f1 f2 f4)) ⌝ }
 {
-    match views::view::optional_text(strings.len(), node.f0, node.f1) {
+    match views::view::optional_text(strings.len(), f0, f1) {
         OptionalText::Absent => KindFound::NotFound,
-        OptionalText::Present(name) => with_name(node, name, strings),
+        OptionalText::Present(name) => with_name(tag, f2, f4, name, strings),
     }
 }
 
@@ -151,14 +151,14 @@ fn kind_words(node: NodeRecord, payload: usize, strings: &[u8]) -> KindFound
         2 => KindFound::Kind(text_alone(2, no_span(), node.f2, 0, node.f3)),
         4 => divert(node, strings.len()),
         5 => KindFound::Kind(value_alone(5, 0)),
-        3 | 11 | 13 => text_kind(node, strings),
-        6..=7 => text_kind(node, strings),
+        3 | 11 | 13 => text_kind(tag, node.f0, node.f1, node.f2, node.f4, strings),
+        6..=7 => text_kind(tag, node.f0, node.f1, node.f2, node.f4, strings),
         8 => KindFound::Kind(value_alone(8, bit_of(node.f0))),
         9 => KindFound::Kind(value_alone(9, node.f0)),
         10 => KindFound::Kind(value_alone(10, node.f0)),
         12 => list(payload, node.f0, node.f1),
-        14 => text_kind(node, strings),
-        16..=17 => text_kind(node, strings),
+        14 => text_kind(tag, node.f0, node.f1, node.f2, node.f4, strings),
+        16..=17 => text_kind(tag, node.f0, node.f1, node.f2, node.f4, strings),
         18 => KindFound::Kind(value_alone(18, 0)),
         _ => KindFound::NotFound,
     }

@@ -5,7 +5,7 @@ use mathlib.Core.Logic.{inl, inr}
 use mathlib.Core.Path.{refl, ap, _∙_}
 use Rattle.answers.specs.RecordWords.{wordsOfKind}
 use Rattle.views.proofs.Tags.{at-container, at-divert, at-list, at-text, at-pointer, at-six, at-sixteen, at-unknown, from-six, fifteen, from-nineteen}
-use Rattle.answers.proofs.Records.{choice-viewed, glue-viewed, bool-viewed, int-viewed, float-viewed, void-viewed}
+use Rattle.answers.proofs.Records.{choice-viewed, glue-viewed, bool-viewed, int-viewed, float-viewed, void-viewed, text-fields}
 use borrow.Author.Needs.{needs}
 use Rattle.answers.proofs.node.kind_words.Statement.{statement}
 use Rattle.answers.proofs.node.kind_words.Tie as tie
@@ -74,7 +74,7 @@ returns-4 c = let a = c .before .before .before .args in glue-viewed (now (a .st
 returns-5 : tie.Need-returns-5
 returns-5 c =
     let a = c .before .before .before .args in
-    c .text-kind .ensures ∙ ap wordsOfKind (at-text (now (a .strings)) (a .payload) (a .node) _ refl (c .before .match .keys5))
+    c .text-kind .ensures ∙ ap wordsOfKind (text-fields (now (a .strings)) (a .node) ∙ at-text (now (a .strings)) (a .payload) (a .node) _ refl (c .before .match .keys5))
 
 returns-6 : tie.Need-returns-6
 returns-6 c = let a = c .before .before .before .before .args in bool-viewed (now (a .strings)) (a .payload) (a .node) _ (c .before .before .match .keys6) _ (c .before .bit-of .ensures) (c .value-alone2 .ensures)
@@ -93,7 +93,7 @@ returns-9 c =
 returns-10 : tie.Need-returns-10
 returns-10 c =
     let a = c .before .before .before .args in
-    c .text-kind2 .ensures ∙ ap wordsOfKind (at-pointer (now (a .strings)) (a .payload) (a .node) _ refl (c .before .match .keys10))
+    c .text-kind2 .ensures ∙ ap wordsOfKind (text-fields (now (a .strings)) (a .node) ∙ at-pointer (now (a .strings)) (a .payload) (a .node) _ refl (c .before .match .keys10))
 
 returns-11 : tie.Need-returns-11
 returns-11 c = let a = c .before .before .before .args in void-viewed (now (a .strings)) (a .payload) (a .node) _ (c .before .match .keys11) (c .value-alone5 .ensures)
@@ -101,12 +101,12 @@ returns-11 c = let a = c .before .before .before .args in void-viewed (now (a .s
 returns-12 : tie.Need-returns-12
 returns-12 c =
     let a = c .before .before .before .before .before .args in
-    c .text-kind3 .ensures ∙ ap wordsOfKind (at-six (now (a .strings)) (a .payload) (a .node) _ refl (from-six _ (c .before .before .before .match .rest) (c .before .before .if1 .left)) (c .before .if2 .taken))
+    c .text-kind3 .ensures ∙ ap wordsOfKind (text-fields (now (a .strings)) (a .node) ∙ at-six (now (a .strings)) (a .payload) (a .node) _ refl (from-six _ (c .before .before .before .match .rest) (c .before .before .if1 .left)) (c .before .if2 .taken))
 
 returns-13 : tie.Need-returns-13
 returns-13 c =
     let a = c .before .before .before .before .before .before .before .args in
-    c .text-kind4 .ensures ∙ ap wordsOfKind (at-sixteen (now (a .strings)) (a .payload) (a .node) _ refl (c .before .before .if3 .left) (c .before .if4 .taken))
+    c .text-kind4 .ensures ∙ ap wordsOfKind (text-fields (now (a .strings)) (a .node) ∙ at-sixteen (now (a .strings)) (a .payload) (a .node) _ refl (c .before .before .if3 .left) (c .before .if4 .taken))
 
 returns-14 : tie.Need-returns-14
 returns-14 c = let a = c .before .before .before .args in ap wordsOfKind (at-unknown (now (a .strings)) (a .payload) (a .node) (inl (search needs)))
