@@ -10,7 +10,7 @@ use borrow.Author.Tests.{le-ltb}
 use mir.Val.{toZ, ofZ, Fits, SFits}
 use mir.Facts.{toZ-ofZ}
 use mir.Syntax.{w32}
-use Rattle.answers.specs.Handed.{unsigned}
+use Rattle.answers.specs.AnswerWords.{unsigned}
 
 -- a number below 0, and what the code makes of it
 pub record Negative (z : ℤ) : Type 0 where

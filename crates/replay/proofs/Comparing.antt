@@ -17,7 +17,7 @@ use Rattle.texts.proofs.Text.{equal-same, unlike-same, length-same}
 use Rattle.image.specs.Header.{sectionBytes}
 use Rattle.views.specs.declared.Found.{Found}
 use Rattle.views.specs.declared.Found.the-variants.{Node, NotFound}
-use Rattle.answers.specs.Handed.{foundAnswer}
+use Rattle.answers.specs.AnswerWords.{foundAnswer}
 use Rattle.image.specs.declared.ImageView.{ImageView}
 use Rattle.load.specs.Load.{loadedOf, loadedNumber}
 use Rattle.load.specs.declared.Loaded.{Loaded}

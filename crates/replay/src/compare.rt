@@ -4,7 +4,7 @@ ghost use mathlib.Core.Option.{none, some};
 ghost use Prim.Native.Nat.{_≤_};
 ghost use Rattle.words.specs.Words.{wordsOf};
 ghost use Rattle.texts.specs.Text.{same};
-ghost use Rattle.answers.specs.Handed.{foundAnswer};
+ghost use Rattle.answers.specs.AnswerWords.{foundAnswer};
 ghost use Rattle.replay.specs.Recorded.{recorded};
 use image::Section;
 use image::refusal::NOT_FOUND;

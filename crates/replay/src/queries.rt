@@ -10,7 +10,6 @@ use views::DefinitionAnswer;
 use views::EntryAnswer;
 use views::ItemAnswer;
 use views::NamedAnswer;
-use views::NodeAnswer;
 use views::Span;
 use views::TextAnswer;
 
@@ -41,13 +40,11 @@ fn answers(kind: u32, fields: &[u8], image: &[u8], view: ImageView) -> bool {
 
 // Node; number, the view's ten words.
 fn node_view(fields: &[u8], image: &[u8], view: ImageView) -> bool {
-    match views::view::node_view(image, view, words::get(fields, 0)) {
-        NodeAnswer::View(shown) => {
-            let words = answers::node::node_words(shown);
-            found(fields, 4, 10, &words)
-        }
-        NodeAnswer::NotFound => nothing(fields, 4),
+    let mut words = [0u32; 10];
+    if answers::node::put_node_view(image, view, words::get(fields, 0), &mut words) != 0 {
+        return nothing(fields, 4);
     }
+    found(fields, 4, 10, &words)
 }
 
 // Node, index; number, node.
@@ -166,7 +163,7 @@ fn list_item(fields: &[u8], image: &[u8], view: ImageView) -> bool {
 
 fn item_agrees(fields: &[u8], item: ListItem) -> bool {
     let mut words = [0u32; 3];
-    if answers::lists::hand_list_item(item, &mut words) != 0 {
+    if answers::lists::put_item_numbers(item, &mut words) != 0 {
         return false;
     }
     found(fields, 0, 3, &words)

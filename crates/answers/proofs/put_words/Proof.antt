@@ -5,7 +5,7 @@ use mathlib.Core.List.{_++_}
 use native.Mathlib.Omega.{arith}
 use lib.ListN.{length, length-set, take, drop}
 use borrow.Author.Needs.{needs}
-use Rattle.answers.proofs.Putting.{put-step, put-end}
+use Rattle.answers.proofs.AnswerSlices.{put-step, put-end}
 use Rattle.answers.proofs.put_words.Statement.{statement}
 use Rattle.answers.proofs.put_words.Tie as tie
 
