@@ -105,6 +105,58 @@ unsafe extern "C" {
         answer_length: usize,
     ) -> u32;
 
+    pub fn story_image_list_payload(
+        bytes: *const u8,
+        length: usize,
+        view: *const u32,
+        view_length: usize,
+        node: u32,
+        answer: *mut u32,
+        answer_length: usize,
+    ) -> u32;
+
+    pub fn story_image_list_counts(
+        bytes: *const u8,
+        length: usize,
+        view: *const u32,
+        view_length: usize,
+        node: u32,
+        answer: *mut u32,
+        answer_length: usize,
+    ) -> u32;
+
+    pub fn story_image_node_list_entry(
+        bytes: *const u8,
+        length: usize,
+        view: *const u32,
+        view_length: usize,
+        node: u32,
+        index: u32,
+        answer: *mut u32,
+        answer_length: usize,
+    ) -> u32;
+
+    pub fn story_image_node_list_origin(
+        bytes: *const u8,
+        length: usize,
+        view: *const u32,
+        view_length: usize,
+        node: u32,
+        index: u32,
+        answer: *mut u32,
+        answer_length: usize,
+    ) -> u32;
+
+    pub fn story_image_definition_first_item(
+        bytes: *const u8,
+        length: usize,
+        view: *const u32,
+        view_length: usize,
+        index: u32,
+        answer: *mut u32,
+        answer_length: usize,
+    ) -> u32;
+
     pub fn story_image_definition_count(
         bytes: *const u8,
         length: usize,

@@ -4,7 +4,7 @@ use crate::ffi;
 use crate::lists::{DefinitionView, ListView};
 use crate::node::{NodeKindOf, NodeViewOf, Parts, ValueOf};
 use crate::path::{self, Step};
-use crate::raw::{ListItem, ListPlace, Queries, TextPlace};
+use crate::raw::{ListItem, Queries, TextPlace};
 use crate::refusal::Refusal;
 use crate::view::View;
 
@@ -87,8 +87,10 @@ impl<'a> Parts for Image<'a> {
     }
 
     #[inline]
-    fn list(&self, offset: u32, length: u32) -> ListView<'a> {
-        ListView { payload: self.asked.list_part(ListPlace { offset, length }), strings: self.strings }
+    fn list(&self, node: u32, _: u32, _: u32) -> Option<ListView<'a>> {
+        let (start, length) = self.asked.list_payload(node)?;
+        let payload = self.bytes().get(start..start + length)?;
+        Some(ListView { payload, strings: self.strings, counts: self.asked.list_counts(node)? })
     }
 }
 
@@ -190,10 +192,7 @@ impl<'a> Image<'a> {
 
     /// The list value of a node, where it is one.
     pub fn list(&self, node: u32) -> Option<ListView<'a>> {
-        match self.node_view(node)?.kind {
-            NodeKindOf::Value(ValueOf::List(list)) => Some(list),
-            _ => None,
-        }
+        Parts::list(self, node, 0, 0)
     }
 
     pub fn definition_count(&self) -> u32 {

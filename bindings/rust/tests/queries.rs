@@ -2,7 +2,8 @@
 
 use story_image::raw::{self, TextPlace};
 use story_image::{
-    CommandType, Image, ListItem, NONE, NodeKindView, Op, Refusal, Section, Step, ValueView, View, ffi, load_words,
+    CommandType, Image, ListItem, NONE, NodeKindOf, NodeKindView, Op, Refusal, Section, Step, ValueOf, ValueView, View,
+    ffi, load_words,
 };
 
 const STEP: &[u8] = include_bytes!("../../../samples/step.image");
@@ -165,6 +166,7 @@ fn lists() {
     assert!(before > 0);
     assert_eq!(image.list_item(" "), None);
     let lists: Vec<_> = (0..image.node_count()).filter_map(|node| image.list(node)).collect();
+    lists_by_node(&image);
     assert!(!lists.is_empty());
     for list in &lists {
         assert_eq!(*list, *list);
@@ -174,10 +176,38 @@ fn lists() {
                 assert_eq!(image.list_item(format!("{origin}.{}", item.name)).unwrap().value, item.value);
             }
         }
-        assert_eq!(list.item(list.items().count() as u32), None);
-        assert_eq!(list.origin(list.origins().count() as u32), None);
+        assert_eq!(list.items().count(), list.item_count() as usize);
+        assert_eq!(list.origins().count(), list.origin_count() as usize);
+        assert_eq!((list.item(list.item_count()), list.origin(list.origin_count())), (None, None));
     }
     assert!(lists.iter().any(|list| list.items().count() > 0));
+}
+
+/// Lists by node and by place say the same; a node that is no list has none.
+fn lists_by_node(image: &Image<'_>) {
+    let raw = image.raw();
+    for node in 0..=image.node_count() {
+        let place = match raw.node_view(node).map(|node| node.kind) {
+            Some(NodeKindOf::Value(ValueOf::List(place))) => place,
+            _ => {
+                assert_eq!((raw.list_payload(node), raw.list_counts(node)), (None, None));
+                assert_eq!((raw.node_list_entry(node, 0), raw.node_list_origin(node, 0)), (None, None));
+                continue;
+            }
+        };
+        let (start, length) = raw.list_payload(node).unwrap();
+        assert_eq!(start, (image.view().payload.offset + place.offset) as usize);
+        assert_eq!(length, place.length as usize);
+        let counts = raw.list_counts(node).unwrap();
+        for index in 0..=counts.items {
+            assert_eq!(raw.node_list_entry(node, index), raw.list_entry(place, index));
+            assert_eq!(raw.list_entry(place, index).is_some(), index < counts.items);
+        }
+        for index in 0..=counts.origins {
+            assert_eq!(raw.node_list_origin(node, index), raw.list_origin(place, index));
+            assert_eq!(raw.list_origin(place, index).is_some(), index < counts.origins);
+        }
+    }
 }
 
 /// Any bytes and any view may be asked; an answer's parts lie inside the bytes.
