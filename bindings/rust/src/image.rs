@@ -46,25 +46,20 @@ pub struct Image<'a> {
     strings: &'a [u8],
 }
 
-/// How many work words a load of these bytes takes, where they are an image: nodes + children + named entries + 1 by the
-/// header. Never more than a quarter of the bytes, whatever the header says; 0 where there is no header.
+/// How many work words a load of these bytes takes: nodes + children + named entries + 1. Never more than a quarter of the
+/// bytes, whatever a header says; 0 where a load refuses the header, and so takes none.
 ///
 /// ```
 /// use story_image::load_words;
 ///
-/// let mut bytes = [255; 88];
-/// assert_eq!(load_words(&bytes), 22);
-/// assert_eq!(load_words(&bytes[..87]), 0);
-/// bytes[24..88].fill(0);
-/// assert_eq!(load_words(&bytes), 1);
+/// # let bytes = include_bytes!(concat!(env!("CARGO_MANIFEST_DIR"), "/../../samples/smallest.image"));
+/// assert_eq!(load_words(bytes), 2);
+/// // a header that asks for more than there can be
+/// assert_eq!(load_words(&[255; 88]), 0);
 /// ```
 pub fn load_words(bytes: &[u8]) -> usize {
-    if bytes.len() < 88 {
-        return 0;
-    }
-    let count = |at: usize| u64::from(u32::from_le_bytes([bytes[at], bytes[at + 1], bytes[at + 2], bytes[at + 3]]));
-    let needed = count(24) + count(32) + count(40) + 1;
-    needed.min(bytes.len() as u64 / 4) as usize
+    // SAFETY: the slice lives through the call.
+    unsafe { ffi::story_image_load_words(bytes.as_ptr(), bytes.len()) }
 }
 
 impl core::fmt::Debug for Image<'_> {

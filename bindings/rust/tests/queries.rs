@@ -81,6 +81,35 @@ fn names() {
     assert!(CommandType::ALL.iter().all(|one| CommandType::from_name(one.name()) == Some(*one)));
     assert!(Op::ALL.iter().all(|one| Op::from_name(one.name()) == Some(*one)));
     assert_eq!((CommandType::from_number(26), Op::from_number(31)), (None, None));
+    for number in 0..40 {
+        let command = CommandType::from_number(number).map(|one| one.name().into());
+        assert_eq!(spelled(ffi::story_image_command_name, number), command);
+        assert_eq!(
+            spelled(ffi::story_image_operator_name, number),
+            Op::from_number(number).map(|one| one.name().into())
+        );
+    }
+}
+
+/// A function of the library that spells a number.
+type Spelling = unsafe extern "C" fn(u32, *mut u8, usize, *mut u32, usize) -> u32;
+
+/// The text that the library gives; with a byte too few it gives none, and writes nothing.
+fn spelled(spelling: Spelling, number: u32) -> Option<String> {
+    let (mut text, mut size) = ([b'?'; 16], [77; 2]);
+    // SAFETY: the slices live through the call and do not overlap.
+    let answer = unsafe { spelling(number, text.as_mut_ptr(), 16, size.as_mut_ptr(), 2) };
+    if answer != 0 {
+        assert_eq!((answer, text, size), (18, [b'?'; 16], [77; 2]));
+        return None;
+    }
+    let length = size[0] as usize;
+    assert!(text[length..].iter().all(|byte| *byte == b'?') && size[1] == 77);
+    let (mut short, mut none) = ([b'?'; 16], [77; 2]);
+    // SAFETY: as above.
+    let too_short = unsafe { spelling(number, short.as_mut_ptr(), length - 1, none.as_mut_ptr(), 2) };
+    assert_eq!((too_short, short, none), (23, [b'?'; 16], [77; 2]));
+    Some(String::from_utf8(text[..length].to_vec()).unwrap())
 }
 
 #[test]
