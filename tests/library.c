@@ -1,6 +1,6 @@
-/* Tests of the static library through include/story_image.h: library SAMPLES. Every slice that is lent has exactly its length, so
- * that an access past it is seen; what must stay as it was is filled with a mark. Ends 'N passed, M failed'. Compiles as C11 and as
- * C++17. */
+/* Tests of the static library through include/story_image.h: library SAMPLES. Every slice that is lent has exactly its
+ * length, so that an access past it is seen; what must stay as it was is filled with a mark. Ends 'N passed, M failed'.
+ * Compiles as C11 and as C++17. */
 #include <stdarg.h>
 #include <stdio.h>
 #include <stdlib.h>
@@ -94,8 +94,7 @@ static uint32_t load(struct image *image, size_t words) {
     uint32_t *work = marked(words), *view = marked(STORY_IMAGE_VIEW_WORDS + 1);
     uint8_t *before = (uint8_t *)room(image->length);
     memcpy(before, image->bytes, image->length);
-    uint32_t number =
-        story_image_load(image->bytes, image->length, work, words, view, STORY_IMAGE_VIEW_WORDS + 1);
+    uint32_t number = story_image_load(image->bytes, image->length, work, words, view, STORY_IMAGE_VIEW_WORDS + 1);
     CHECK(number <= STORY_IMAGE_BAD_DEFINITION, "a load gives %u", (unsigned)number);
     if (number >= 1 && number <= STORY_IMAGE_TOO_FEW_WORDS) {
         CHECK(all_are(work, 0, words, MARK), "%u leaves the work words", (unsigned)number);
@@ -211,16 +210,36 @@ struct asked {
     size_t name_length;
 };
 
-enum { NODE_VIEW, TEXT, CHILD_COUNT, NAMED_COUNT, CHILD, NAMED_CHILD, FIND, DEFINITION_COUNT, DEFINITION, ITEM, LIST_ITEM,
-       WALK, LIST_PAYLOAD, LIST_COUNTS, NODE_ENTRY, NODE_ORIGIN, FIRST_ITEM, QUERIES };
+enum {
+    NODE_VIEW,
+    TEXT,
+    CHILD_COUNT,
+    NAMED_COUNT,
+    CHILD,
+    NAMED_CHILD,
+    FIND,
+    DEFINITION_COUNT,
+    DEFINITION,
+    ITEM,
+    LIST_ITEM,
+    WALK,
+    LIST_PAYLOAD,
+    LIST_COUNTS,
+    NODE_ENTRY,
+    NODE_ORIGIN,
+    FIRST_ITEM,
+    QUERIES
+};
 
-static const size_t answer_words[QUERIES] = {
-    STORY_IMAGE_NODE_WORDS,       STORY_IMAGE_TEXT_WORDS,           STORY_IMAGE_COUNT_WORDS,
-    STORY_IMAGE_COUNT_WORDS,      STORY_IMAGE_FOUND_WORDS,          STORY_IMAGE_NAMED_CHILD_WORDS,
-    STORY_IMAGE_FOUND_WORDS,      STORY_IMAGE_COUNT_WORDS,          STORY_IMAGE_DEFINITION_WORDS,
-    STORY_IMAGE_DEFINITION_ITEM_WORDS, STORY_IMAGE_LIST_ITEM_WORDS, STORY_IMAGE_FOUND_WORDS,
-    STORY_IMAGE_LIST_PAYLOAD_WORDS, STORY_IMAGE_LIST_COUNTS_WORDS,  STORY_IMAGE_LIST_ENTRY_WORDS,
-    STORY_IMAGE_LIST_ORIGIN_WORDS, STORY_IMAGE_COUNT_WORDS};
+static const size_t answer_words[QUERIES] = {STORY_IMAGE_NODE_WORDS,         STORY_IMAGE_TEXT_WORDS,
+                                             STORY_IMAGE_COUNT_WORDS,        STORY_IMAGE_COUNT_WORDS,
+                                             STORY_IMAGE_FOUND_WORDS,        STORY_IMAGE_NAMED_CHILD_WORDS,
+                                             STORY_IMAGE_FOUND_WORDS,        STORY_IMAGE_COUNT_WORDS,
+                                             STORY_IMAGE_DEFINITION_WORDS,   STORY_IMAGE_DEFINITION_ITEM_WORDS,
+                                             STORY_IMAGE_LIST_ITEM_WORDS,    STORY_IMAGE_FOUND_WORDS,
+                                             STORY_IMAGE_LIST_PAYLOAD_WORDS, STORY_IMAGE_LIST_COUNTS_WORDS,
+                                             STORY_IMAGE_LIST_ENTRY_WORDS,   STORY_IMAGE_LIST_ORIGIN_WORDS,
+                                             STORY_IMAGE_COUNT_WORDS};
 
 static uint32_t call(int query, const struct image *image, size_t view_length, const struct asked *asked,
                      uint32_t *answer, size_t answer_length) {
@@ -268,12 +287,12 @@ static uint32_t call(int query, const struct image *image, size_t view_length, c
         return story_image_definition_first_item(bytes, length, view, view_length, asked->index, answer, answer_length);
     default:
         return story_image_resolve_path(bytes, length, view, view_length, asked->node, true, path,
-                                        STORY_IMAGE_STEP_WORDS, asked->name, asked->name_length, answer,
-                                        answer_length);
+                                        STORY_IMAGE_STEP_WORDS, asked->name, asked->name_length, answer, answer_length);
     }
 }
 
-/* A query with an answer of exactly its words; with one word more, that word stays; with one fewer, or a short view, nothing is written. */
+/* A query with an answer of exactly its words; with one word more, that word stays; with one fewer, or a short view,
+ * nothing is written. */
 static bool ask(int query, const struct image *image, const struct asked *asked, uint32_t *answer) {
     size_t words = answer_words[query];
     uint32_t *more = marked(words + 1), *fewer = marked(words - 1);
@@ -286,7 +305,8 @@ static bool ask(int query, const struct image *image, const struct asked *asked,
     uint32_t *other = marked(words);
     CHECK(call(query, image, STORY_IMAGE_VIEW_WORDS - 1, asked, other, words) != 0, "query %d, a short view", query);
     CHECK(all_are(other, 0, words, MARK), "query %d, a short view leaves the answer", query);
-    CHECK(call(query, image, STORY_IMAGE_VIEW_WORDS, asked, other, words) == number, "query %d, an exact answer", query);
+    CHECK(call(query, image, STORY_IMAGE_VIEW_WORDS, asked, other, words) == number, "query %d, an exact answer",
+          query);
     CHECK(number != 0 || memcmp(other, more, 4 * words) == 0, "query %d, the same words", query);
     free(more);
     free(fewer);
@@ -306,7 +326,8 @@ static void list_value(const struct image *image, uint32_t node, const uint32_t 
     uint32_t entry[STORY_IMAGE_LIST_ENTRY_WORDS], other[STORY_IMAGE_LIST_ENTRY_WORDS];
     const uint8_t *strings = image->bytes + image->view[STORY_IMAGE_STRINGS];
     size_t strings_length = image->view[STORY_IMAGE_STRINGS_COUNT];
-    CHECK(ask(LIST_PAYLOAD, image, &asked, place) && ask(LIST_COUNTS, image, &asked, counts), "list %u", (unsigned)node);
+    CHECK(ask(LIST_PAYLOAD, image, &asked, place) && ask(LIST_COUNTS, image, &asked, counts), "list %u",
+          (unsigned)node);
     CHECK(place[0] == image->view[STORY_IMAGE_PAYLOAD] + words[STORY_IMAGE_NODE_TEXT] &&
               place[1] == words[STORY_IMAGE_NODE_TEXT_LENGTH],
           "the payload of list %u", (unsigned)node);
@@ -418,7 +439,8 @@ static void queries(const char *folder, const char *name) {
         uint32_t kind = words[STORY_IMAGE_NODE_KIND], target = words[STORY_IMAGE_NODE_TARGET];
         CHECK(kind >= STORY_IMAGE_KIND_CONTAINER && kind <= STORY_IMAGE_KIND_VOID && kind != 15, "a kind");
         CHECK(target == STORY_IMAGE_NONE || target < count, "a target inside");
-        CHECK((words[STORY_IMAGE_NODE_PARENT] == STORY_IMAGE_NONE) == (asked.node == 0), "the root alone has no parent");
+        CHECK((words[STORY_IMAGE_NODE_PARENT] == STORY_IMAGE_NONE) == (asked.node == 0),
+              "the root alone has no parent");
         texts_of(&image, asked.node, words);
         if (kind == STORY_IMAGE_KIND_CONTAINER)
             children_of(&image, asked.node);
@@ -448,7 +470,8 @@ static void any_bytes(const char *folder) {
         }
         for (int query = 0; query < QUERIES; query++) {
             seed = seed * 1664525 + 1013904223;
-            struct asked asked = {(seed >> 8) % 90, (seed >> 4) % 5, seed >> 20, (seed >> 16) % 9, other.bytes, seed % 8};
+            struct asked asked = {(seed >> 8) % 90, (seed >> 4) % 5, seed >> 20,
+                                  (seed >> 16) % 9, other.bytes,     seed % 8};
             if (ask(query, &other, &asked, answer) && query == TEXT)
                 CHECK((size_t)answer[0] + answer[1] <= other.length, "a text inside the bytes");
         }
@@ -492,7 +515,7 @@ static void names(void) {
         for (uint32_t number = 0; number < 40; number++) {
             uint32_t (*name)(uint32_t, uint8_t *, size_t, uint32_t *, size_t) =
                 kind == 0 ? story_image_command_name : story_image_operator_name;
-            uint32_t count = kind == 0 ? STORY_IMAGE_COMMAND_COUNT : STORY_IMAGE_OPERATOR_COUNT;
+            uint32_t count = kind == 0 ? (uint32_t)STORY_IMAGE_COMMAND_COUNT : (uint32_t)STORY_IMAGE_OPERATOR_COUNT;
             memset(text, '?', sizeof text);
             size[0] = size[1] = MARK;
             uint32_t answer = name(number, text, STORY_IMAGE_NAME_BYTES, size, 1);
@@ -507,7 +530,8 @@ static void names(void) {
             size[0] = MARK;
             CHECK(name(number, text, length - 1, size, 1) == STORY_IMAGE_NO_ROOM && text[0] == '?' && size[0] == MARK,
                   "a byte too few");
-            CHECK(name(number, text, length, size, 0) == STORY_IMAGE_NO_ROOM && text[0] == '?', "no word for the length");
+            CHECK(name(number, text, length, size, 0) == STORY_IMAGE_NO_ROOM && text[0] == '?',
+                  "no word for the length");
             CHECK(name(number, text, length, size, 1) == 0 && size[0] == length, "exactly its length");
         }
     CHECK(story_image_command_name(STORY_IMAGE_COMMAND_POP_TUNNEL, text, 11, size, 1) == 0 && size[0] == 4 &&
@@ -534,7 +558,8 @@ static size_t write_words(const struct draft *draft) {
     CHECK(story_image_write_words(draft->nodes, draft->node_words, draft->children ? draft->children : none,
                                   draft->child_words, draft->named ? draft->named : none, draft->named_words,
                                   draft->definitions ? draft->definitions : none, draft->definition_words,
-                                  draft->items ? draft->items : none, draft->item_words, (const uint8_t *)"", 0) == words,
+                                  draft->items ? draft->items : none, draft->item_words, (const uint8_t *)"",
+                                  0) == words,
           "the words that writing needs");
     return words;
 }
@@ -551,8 +576,8 @@ static uint32_t put(const struct draft *draft, uint32_t ink, size_t words, uint8
         draft->named ? draft->named : none, draft->named_words, draft->definitions ? draft->definitions : none,
         draft->definition_words, draft->items ? draft->items : none, draft->item_words, (const uint8_t *)"", 0,
         (const uint8_t *)draft->strings, strlen(draft->strings), work, words, output, length, written, 2);
-    bool early = number == STORY_IMAGE_BAD_INK_VERSION || number == STORY_IMAGE_BAD_DRAFT ||
-                 number == STORY_IMAGE_TOO_FEW_WORDS;
+    bool early =
+        number == STORY_IMAGE_BAD_INK_VERSION || number == STORY_IMAGE_BAD_DRAFT || number == STORY_IMAGE_TOO_FEW_WORDS;
     CHECK(early ? all_are(work, 0, words, MARK)
                 : all_are(work, 0, write_words(draft), 0) && all_are(work, write_words(draft), words, MARK),
           "%u: the work words", (unsigned)number);
@@ -598,8 +623,8 @@ static void drafts(const char *folder) {
     CHECK(put(&draft, 21, 40, output, 1000, &length) == STORY_IMAGE_DRAFT_UNREACHED, "a glue without an entry");
 
     /* the root with a glue and two named containers; names in the strings "ab" */
-    static uint32_t nodes[] = {NONE, NONE, 1, NONE, NONE, 0, 0, 1, 0, 2, 0, 0, 5, 0, 0, 0, 0, 0, 0, 0,
-                               0, NONE, 1, 0, 1, 0, 1, 0, 2, 0, 0, NONE, 1, 1, 1, 0, 1, 0, 2, 0};
+    static uint32_t nodes[] = {NONE, NONE, 1, NONE, NONE, 0, 0, 1, 0, 2, 0, 0,    5, 0, 0, 0, 0, 0, 0, 0,
+                               0,    NONE, 1, 0,    1,    0, 1, 0, 2, 0, 0, NONE, 1, 1, 1, 0, 1, 0, 2, 0};
     static const uint32_t children[] = {1};
     static const uint32_t named[] = {0, 1, 2, 1, 1, 3};
     static const uint32_t definitions[] = {0, 1, 0, 1};
@@ -637,8 +662,8 @@ static void drafts(const char *folder) {
     nodes[33] = 0;
     CHECK(put(&draft, 21, 100, output, 1000, &length) == STORY_IMAGE_DRAFT_PATHS, "two containers named a");
     nodes[33] = 1;
-    CHECK(story_image_write(21, root, 10, root, 0, root, 0, root, 0, root, 0, output, 0, output, 0, nodes, 40, output, 1000,
-                            nodes, 0) == STORY_IMAGE_TOO_FEW_WORDS,
+    CHECK(story_image_write(21, root, 10, root, 0, root, 0, root, 0, root, 0, output, 0, output, 0, nodes, 40, output,
+                            1000, nodes, 0) == STORY_IMAGE_TOO_FEW_WORDS,
           "no word for the length");
     free(output);
 }
