@@ -30,9 +30,7 @@ fn value_of(value: ValueOf<TextPlace, ListPlace>) -> Kind {
         ValueOf::String(text) => Kind::String(place(text)),
         ValueOf::List(list) => Kind::List((list.offset, list.length)),
         ValueOf::DivertTarget(path) => Kind::DivertTarget(place(path)),
-        ValueOf::VariablePointer { name, context_index } => {
-            Kind::Pointer { name: place(name), context: context_index }
-        }
+        ValueOf::VariablePointer { name, context_index } => Kind::Pointer { name: place(name), context: context_index },
     }
 }
 
