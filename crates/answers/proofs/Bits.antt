@@ -1,4 +1,4 @@
--- The bits of a signed number, by its sign. Assumes nothing.
+-- The bits of a signed number, by its sign.
 use Prim.Native.Nat.{ℕ, suc, _-_, _<_}
 use mathlib.Core.Path.{_≡_, refl, sym, ap, _∙_, subst}
 use mathlib.Core.Bool.{Bool, true, false, cond, true≢false}
@@ -10,7 +10,7 @@ use borrow.Author.Tests.{le-ltb}
 use mir.Val.{toZ, ofZ, Fits, SFits}
 use mir.Facts.{toZ-ofZ}
 use mir.Syntax.{w32}
-use Rattle.answers.specs.Handed.{unsigned}
+use Rattle.answers.specs.AnswerWords.{unsigned}
 
 -- a number below 0, and what the code makes of it
 pub record Negative (z : ℤ) : Type 0 where

@@ -1,3 +1,3 @@
-pub mod Putting
+pub mod AnswerSlices
 pub mod Bits
-pub mod Shows
+pub mod Records

@@ -1,2 +1,3 @@
-pub mod Handed
-pub mod NodeWords
+pub mod AnswerWords
+pub mod NodeViewWords
+pub mod RecordWords

@@ -1,18 +1,25 @@
-// What queries answer, in the words that are handed to C and Rust. NONE and 0 stand for what is not there.
+// Answers of queries in the words that C and Rust are given. NONE and 0 stand for what is not there. A function `put_..` writes an
+// answer's words at the start of a lent slice and returns 0; where there is no answer, or the slice is too short, it returns 18 and
+// leaves the slice as it was.
 pub mod node; // node.rt: a node's view
-pub mod lists; // lists.rt: list entries, definitions, items
+pub mod lists; // lists.rt: list values, definitions, items
 
 use image::NONE;
+use image::refusal::NOT_FOUND;
+use views::Count;
+use views::Found;
+use views::NamedAnswer;
 use views::NamedChildView;
 use views::OptionalText;
-use views::OptionalWord;
 use views::Span;
+use views::TextAnswer;
 ghost use mathlib.Core.Path.{_≡_};
 ghost use Prim.Native.Nat.{_≤_};
 ghost use mathlib.Core.List.{_++_};
 ghost use mathlib.Core.Option.{some};
 ghost use lib.ListN.{length, drop};
-ghost use Rattle.answers.specs.Handed.{numberOf, answerAfter, wordOr, spanOr, noSpan, bitIf, unsigned, namedWords, partWords};
+ghost use Rattle.answers.specs.AnswerWords.{spanOr, noSpan, unsigned, namedWords};
+ghost use Rattle.answers.specs.AnswerWords.{Answered, foundAnswer, countAnswer, namedAnswer, placeAnswer, partWords, partAnswer};
 
 // The largest number that a word holds.
 const LARGEST_WORD: usize = 4294967295;
@@ -29,15 +36,7 @@ pub fn unsigned_of(n: i32) -> u32
     }
 }
 
-pub fn word_or(word: OptionalWord) -> u32
-    ensures { λ r. ⌜ r ≡ wordOr word ⌝ }
-{
-    match word {
-        OptionalWord::Present(present) => present,
-        OptionalWord::Absent => NONE,
-    }
-}
-
+// The place of no text.
 pub fn no_span() -> Span
     ensures { λ r. ⌜ r ≡ noSpan ⌝ }
 {
@@ -47,6 +46,7 @@ pub fn no_span() -> Span
     }
 }
 
+// The place of a text, or of none.
 pub fn span_or(text: OptionalText) -> Span
     ensures { λ r. ⌜ r ≡ spanOr text ⌝ }
 {
@@ -56,21 +56,14 @@ pub fn span_or(text: OptionalText) -> Span
     }
 }
 
-// The word where the flag is set, else 0.
-pub fn bit_if(flag: bool, word: u32) -> u32
-    ensures { λ r. ⌜ r ≡ bitIf flag word ⌝ }
-    ensures most { λ r. ⌜ r ≤ word ⌝ }
-{
-    if flag { word } else { 0 }
-}
-
+// Name, name_length, node.
 pub fn named_words(named: NamedChildView) -> [u32; 3]
     ensures { λ r. ⌜ r ≡ namedWords named ⌝ }
 {
     [named.name.offset, named.name.len, named.node]
 }
 
-// Writes words at the start of an answer.
+// Writes words at the start of a slice that holds them.
 pub fn put_words(words: &[u32], out: &mut [u32])
     requires { ⌜ length (now words) ≤ length (now out) ⌝ }
     ensures { λ _. ⌜ now (out .exit) ≡ now (words .entry) ++ drop (length (now (words .entry))) (now (out .entry)) ⌝ }
@@ -82,31 +75,91 @@ pub fn put_words(words: &[u32], out: &mut [u32])
     }
 }
 
-// The same where they fit: 0; else 18, and the answer stays.
-pub fn hand_over(words: &[u32], answer: &mut [u32]) -> u32
-    ensures number { λ r. ⌜ r ≡ numberOf (some (now (words .entry))) (length (now (answer .entry))) ⌝ }
-    ensures written { λ _. ⌜ now (answer .exit) ≡ answerAfter (some (now (words .entry))) (now (answer .entry)) ⌝ }
+// The words of an answer.
+pub fn put_answer(words: &[u32], answer: &mut [u32]) -> u32
+    ensures { λ r. ⌜ Answered (some (now (words .entry))) (now (answer .entry)) (now (answer .exit)) r ⌝ }
 {
     if words.len() <= answer.len() {
         put_words(words, answer);
         return 0;
     }
-    18
+    NOT_FOUND
 }
 
-// Start and length of a text in an image of so many bytes, whose strings begin at `strings`; where it lies inside and a word holds the
-// start.
-pub fn hand_part(bytes: usize, strings: u32, text: Span, answer: &mut [u32]) -> u32
-    ensures number { λ r. ⌜ r ≡ numberOf (partWords bytes strings text) (length (now (answer .entry))) ⌝ }
-    ensures written { λ _. ⌜ now (answer .exit) ≡ answerAfter (partWords bytes strings text) (now (answer .entry)) ⌝ }
+// The node that was found.
+pub fn put_found(found: Found, answer: &mut [u32]) -> u32
+    ensures { λ r. ⌜ Answered (foundAnswer found) (now (answer .entry)) (now (answer .exit)) r ⌝ }
 {
-    let start = strings as usize + text.offset as usize;
-    if bytes < start + text.len as usize {
-        return 18;
+    match found {
+        Found::NotFound => NOT_FOUND,
+        Found::Node(node) => {
+            let words = [node];
+            put_answer(&words, answer)
+        }
+    }
+}
+
+// A count that was found.
+pub fn put_count(count: Count, answer: &mut [u32]) -> u32
+    ensures { λ r. ⌜ Answered (countAnswer count) (now (answer .entry)) (now (answer .exit)) r ⌝ }
+{
+    match count {
+        Count::NotFound => NOT_FOUND,
+        Count::Of(number) => {
+            let words = [number];
+            put_answer(&words, answer)
+        }
+    }
+}
+
+// A named child that was found.
+pub fn put_named(found: NamedAnswer, answer: &mut [u32]) -> u32
+    ensures { λ r. ⌜ Answered (namedAnswer found) (now (answer .entry)) (now (answer .exit)) r ⌝ }
+{
+    match found {
+        NamedAnswer::NotFound => NOT_FOUND,
+        NamedAnswer::Named(named) => {
+            let words = named_words(named);
+            put_answer(&words, answer)
+        }
+    }
+}
+
+// The place, in the strings, of a text that was found.
+pub fn put_place(found: TextAnswer, answer: &mut [u32]) -> u32
+    ensures { λ r. ⌜ Answered (placeAnswer found) (now (answer .entry)) (now (answer .exit)) r ⌝ }
+{
+    match found {
+        TextAnswer::NotFound => NOT_FOUND,
+        TextAnswer::Text(text) => {
+            let words = [text.offset, text.len];
+            put_answer(&words, answer)
+        }
+    }
+}
+
+// Start and length in an image of so many bytes of what lies at a place of a section that begins at `section`; where it lies inside and
+// a word holds the start.
+pub fn put_part(bytes: usize, section: u32, place: Span, answer: &mut [u32]) -> u32
+    ensures { λ r. ⌜ Answered (partWords bytes section place) (now (answer .entry)) (now (answer .exit)) r ⌝ }
+{
+    let start = section as usize + place.offset as usize;
+    if bytes < start + place.len as usize {
+        return NOT_FOUND;
     }
     if LARGEST_WORD < start {
-        return 18;
+        return NOT_FOUND;
     }
-    let words = [start as u32, text.len];
-    hand_over(&words, answer)
+    let words = [start as u32, place.len];
+    put_answer(&words, answer)
+}
+
+// The same of a text that was found.
+pub fn put_text(bytes: usize, strings: u32, found: TextAnswer, answer: &mut [u32]) -> u32
+    ensures { λ r. ⌜ Answered (partAnswer bytes strings found) (now (answer .entry)) (now (answer .exit)) r ⌝ }
+{
+    match found {
+        TextAnswer::NotFound => NOT_FOUND,
+        TextAnswer::Text(text) => put_part(bytes, strings, text, answer),
+    }
 }

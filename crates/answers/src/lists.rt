@@ -1,16 +1,54 @@
-// List entries, definitions and items in words.
+// List values, definitions and items in words.
 use crate::LARGEST_WORD;
-use crate::hand_over;
+use crate::node::KindFound;
+use crate::node::kind_words;
+use crate::put_answer;
 use crate::span_or;
 use crate::unsigned_of;
+use image::ImageView;
+use image::refusal::NOT_FOUND;
 use lookups::ListItem;
+use lookups::ListItemAnswer;
+use views::DefinitionAnswer;
 use views::DefinitionView;
+use views::EntryAnswer;
+use views::ItemAnswer;
 use views::ItemView;
 use views::ListEntry;
+use views::Span;
+use views::entries::RecordFound;
 ghost use mathlib.Core.Path.{_≡_};
-ghost use lib.ListN.{length};
-ghost use Rattle.answers.specs.Handed.{numberOf, answerAfter, entryWords, definitionWords, itemWords, countWords, listItemWords};
+ghost use Rattle.image.specs.Header.{sectionsBy};
+ghost use Rattle.views.specs.View.{nodeView};
+ghost use Rattle.answers.specs.AnswerWords.{entryWords, definitionWords, itemWords, countWords, listItemWords};
+ghost use Rattle.answers.specs.AnswerWords.{Answered, entryAnswer, definitionAnswer, itemAnswer, listItemAnswer, listCountWords};
+ghost use Rattle.answers.specs.NodeViewWords.{listPlace};
+ghost use Rattle.answers.specs.RecordWords.{placed, placeFound};
 
+// The place of a list value in the payload, where the node is one.
+pub enum ListPlace {
+    List(Span),
+    NotFound,
+}
+
+// The same of a kind: the place that a list shows as its text.
+fn place_of(kind: KindFound) -> ListPlace
+    ensures { λ r. ⌜ placed r ≡ placeFound kind ⌝ }
+{
+    match kind {
+        KindFound::NotFound => ListPlace::NotFound,
+        KindFound::Kind(words) => {
+            let place = words.text;
+            if words.tag == 12 {
+                ListPlace::List(place)
+            } else {
+                ListPlace::NotFound
+            }
+        }
+    }
+}
+
+// Origin, origin_length, name, name_length, value.
 pub fn entry_words(entry: ListEntry) -> [u32; 5]
     ensures { λ r. ⌜ r ≡ entryWords entry ⌝ }
 {
@@ -25,6 +63,7 @@ pub fn entry_words(entry: ListEntry) -> [u32; 5]
     ]
 }
 
+// Name, name_length, number of items.
 pub fn definition_words(definition: DefinitionView) -> [u32; 3]
     ensures { λ r. ⌜ r ≡ definitionWords definition ⌝ }
 {
@@ -35,39 +74,112 @@ pub fn definition_words(definition: DefinitionView) -> [u32; 3]
     ]
 }
 
+// Name, name_length, value.
 pub fn item_words(item: ItemView) -> [u32; 3]
     ensures { λ r. ⌜ r ≡ itemWords item ⌝ }
 {
     [item.name.offset, item.name.len, unsigned_of(item.value)]
 }
 
-// A count, where a word holds it.
-pub fn hand_count(count: usize, answer: &mut [u32]) -> u32
-    ensures number { λ r. ⌜ r ≡ numberOf (countWords count) (length (now (answer .entry))) ⌝ }
-    ensures written { λ _. ⌜ now (answer .exit) ≡ answerAfter (countWords count) (now (answer .entry)) ⌝ }
+// An entry of a list value that was found.
+pub fn put_entry(found: EntryAnswer, answer: &mut [u32]) -> u32
+    ensures { λ r. ⌜ Answered (entryAnswer found) (now (answer .entry)) (now (answer .exit)) r ⌝ }
 {
-    if LARGEST_WORD < count {
-        return 18;
+    match found {
+        EntryAnswer::NotFound => NOT_FOUND,
+        EntryAnswer::Entry(entry) => {
+            let words = entry_words(entry);
+            put_answer(&words, answer)
+        }
     }
-    let words = [count as u32];
-    hand_over(&words, answer)
 }
 
-// An item found by name, where words hold its numbers.
-pub fn hand_list_item(item: ListItem, answer: &mut [u32]) -> u32
-    ensures number { λ r. ⌜ r ≡ numberOf (listItemWords item) (length (now (answer .entry))) ⌝ }
-    ensures written { λ _. ⌜ now (answer .exit) ≡ answerAfter (listItemWords item) (now (answer .entry)) ⌝ }
+// A definition that was found.
+pub fn put_definition(found: DefinitionAnswer, answer: &mut [u32]) -> u32
+    ensures { λ r. ⌜ Answered (definitionAnswer found) (now (answer .entry)) (now (answer .exit)) r ⌝ }
+{
+    match found {
+        DefinitionAnswer::NotFound => NOT_FOUND,
+        DefinitionAnswer::Definition(definition) => {
+            let words = definition_words(definition);
+            put_answer(&words, answer)
+        }
+    }
+}
+
+// An item of a definition that was found.
+pub fn put_item(found: ItemAnswer, answer: &mut [u32]) -> u32
+    ensures { λ r. ⌜ Answered (itemAnswer found) (now (answer .entry)) (now (answer .exit)) r ⌝ }
+{
+    match found {
+        ItemAnswer::NotFound => NOT_FOUND,
+        ItemAnswer::Item(item) => {
+            let words = item_words(item);
+            put_answer(&words, answer)
+        }
+    }
+}
+
+// A number of entries, where a word holds it.
+pub fn put_total(count: usize, answer: &mut [u32]) -> u32
+    ensures { λ r. ⌜ Answered (countWords count) (now (answer .entry)) (now (answer .exit)) r ⌝ }
+{
+    if LARGEST_WORD < count {
+        return NOT_FOUND;
+    }
+    let words = [count as u32];
+    put_answer(&words, answer)
+}
+
+// Definition, number among all items, value; where words hold the numbers.
+pub fn put_item_numbers(item: ListItem, answer: &mut [u32]) -> u32
+    ensures { λ r. ⌜ Answered (listItemWords item) (now (answer .entry)) (now (answer .exit)) r ⌝ }
 {
     if LARGEST_WORD < item.definition {
-        return 18;
+        return NOT_FOUND;
     }
     if LARGEST_WORD < item.item {
-        return 18;
+        return NOT_FOUND;
     }
     let words = [
         item.definition as u32,
         item.item as u32,
         unsigned_of(item.value),
     ];
-    hand_over(&words, answer)
+    put_answer(&words, answer)
+}
+
+// The same of an item that was found by name.
+pub fn put_list_item(found: ListItemAnswer, answer: &mut [u32]) -> u32
+    ensures { λ r. ⌜ Answered (listItemAnswer found) (now (answer .entry)) (now (answer .exit)) r ⌝ }
+{
+    match found {
+        ListItemAnswer::NotFound => NOT_FOUND,
+        ListItemAnswer::Item(item) => put_item_numbers(item, answer),
+    }
+}
+
+// Items and origins of a list value, out of its payload.
+pub fn put_list_counts(payload: &[u8], answer: &mut [u32]) -> u32
+    ensures { λ r. ⌜ Answered (listCountWords (now (payload .entry))) (now (answer .entry)) (now (answer .exit)) r ⌝ }
+{
+    if payload.len() < 8 {
+        return NOT_FOUND;
+    }
+    let words = [words::word(payload, 0), words::word(payload, 4)];
+    put_answer(&words, answer)
+}
+
+// The place of a node's list value: where its view shows a list.
+pub fn list_place(bytes: &[u8], view: ImageView, id: u32) -> ListPlace
+    ensures { λ r. ⌜ placed r ≡ listPlace (nodeView (sectionsBy (now (bytes .entry)) view) id) ⌝ }
+{
+    match views::entries::node_of(bytes, view, id) {
+        RecordFound::NotFound => ListPlace::NotFound,
+        RecordFound::Record(node) => {
+            let payload = image::section_part(bytes, view.payload, ImageView::PAYLOAD_SIZE);
+            let strings = image::section_part(bytes, view.strings, ImageView::STRINGS_SIZE);
+            place_of(kind_words(node, payload.len(), strings))
+        }
+    }
 }

@@ -1,31 +1,35 @@
-// A node's view in ten words: parent, place, kind, text, text_length, variable, variable_length, target, value, flags.
-use crate::bit_if;
+// A node's view in ten words: parent, place, kind, text, text_length, variable, variable_length, target, value, flags. They are taken
+// straight from the node's record, by one decision over its tag; laws say that they are the words of the view.
 use crate::no_span;
 use crate::span_or;
-use crate::unsigned_of;
-use crate::word_or;
+use image::ImageView;
 use image::NONE;
-use names::control_command::CommandType;
-use names::native_function_call::Op;
-use views::NodeKindView;
-use views::NodeView;
+use image::NodeRecord;
+use image::refusal::NOT_FOUND;
+use names::Number;
 use views::OptionalText;
-use views::OptionalWord;
-use views::PushPopType;
 use views::Span;
-use views::ValueView;
+use views::entries::RecordFound;
 ghost use mathlib.Core.Path.{_≡_};
-ghost use mathlib.Core.Bool.{Bool};
+ghost use mathlib.Core.Bool.{not};
 ghost use Prim.Native.Nat.{_≤_};
-ghost use Rattle.words.specs.Words.{NONE};
-ghost use Rattle.names.specs.ControlCommand.{commandNumber};
-ghost use Rattle.names.specs.NativeFunctionCall.{operatorNumber};
-ghost use Rattle.answers.specs.Handed.{unsigned, wordOr, spanOr, noSpan};
-ghost use Rattle.answers.specs.NodeWords.{shows, valued, texted, pushNumber, assignmentFlags, divertFlags, valueShown, kindShown, nodeShown};
+ghost use mathlib.Core.List.{_∷_, _++_};
+ghost use lib.Dec.{eqb};
+ghost use lib.ListN.{length, drop};
+ghost use Rattle.image.specs.Header.{sectionsBy};
+ghost use Rattle.records.specs.Fields.{kindOf};
+ghost use Rattle.views.specs.View.{kindView, recordView, nodeView};
+ghost use Rattle.views.specs.Shown.{containerView, divertView, listView, withName, textKind};
+ghost use Rattle.answers.specs.AnswerWords.{Answered, bitIf};
+ghost use Rattle.answers.specs.NodeViewWords.{nodeAnswer};
+ghost use Rattle.answers.specs.RecordWords.{eightOf, wordsFound, wordsOfKind, textAlone, valueAlone, numberFound};
 
-// What a kind shows: the tag, then as in the node's words.
-pub struct Shown {
-    pub kind: u32,
+// Words of a node's view.
+pub const NODE_VIEW_WORDS: usize = 10;
+
+// The words of a node's view from the third on.
+pub struct KindWords {
+    pub tag: u32,
     pub text: Span,
     pub variable: Span,
     pub target: u32,
@@ -33,173 +37,176 @@ pub struct Shown {
     pub flags: u32,
 }
 
-fn wide(number: u8) -> u32
-    ensures { λ r. ⌜ r ≡ number ⌝ }
+pub enum KindFound {
+    Kind(KindWords),
+    NotFound,
+}
+
+// A kind that has no second text.
+fn text_alone(tag: u32, text: Span, target: u32, value: u32, flags: u32) -> KindWords
+    ensures { λ r. ⌜ r ≡ textAlone tag text target value flags ⌝ }
 {
-    number as u32
+    KindWords {
+        tag,
+        text,
+        variable: no_span(),
+        target,
+        value,
+        flags,
+    }
 }
 
 // A kind with a value alone, or with nothing.
-fn valued(kind: u32, value: u32) -> Shown
-    ensures { λ r. ⌜ r ≡ valued kind value ⌝ }
+fn value_alone(tag: u32, value: u32) -> KindWords
+    ensures { λ r. ⌜ r ≡ valueAlone tag value ⌝ }
 {
-    Shown {
-        kind,
-        text: no_span(),
-        variable: no_span(),
-        target: NONE,
-        value,
-        flags: 0,
+    text_alone(tag, no_span(), NONE, value, 0)
+}
+
+// 1 for a word that is not 0.
+fn bit_of(word: u32) -> u32
+    ensures { λ r. ⌜ r ≡ bitIf (not (eqb word 0)) 1 ⌝ }
+{
+    if word == 0 { 0 } else { 1 }
+}
+
+fn container(node: NodeRecord, strings: usize) -> KindFound
+    ensures { λ r. ⌜ wordsFound r ≡ wordsOfKind (containerView strings node) ⌝ }
+{
+    let name = span_or(views::view::optional_text(strings, node.f0, node.f1));
+    KindFound::Kind(text_alone(1, name, NONE, 0, node.f2))
+}
+
+fn divert(node: NodeRecord, strings: usize) -> KindFound
+    ensures { λ r. ⌜ wordsFound r ≡ wordsOfKind (divertView strings node) ⌝ }
+{
+    if 2 < node.f6 / 8 {
+        return KindFound::NotFound;
     }
-}
-
-fn texted(kind: u32, text: Span, target: u32, value: u32, flags: u32) -> Shown
-    ensures { λ r. ⌜ r ≡ texted kind text target value flags ⌝ }
-{
-    Shown {
-        kind,
-        text,
-        variable: no_span(),
-        target,
-        value,
-        flags,
-    }
-}
-
-fn container(flags: i32, name: OptionalText) -> Shown
-    ensures { λ r. ⌜ r ≡ texted 1 (spanOr name) NONE 0 (unsigned flags) ⌝ }
-{
-    texted(1, span_or(name), NONE, 0, unsigned_of(flags))
-}
-
-fn choice(flags: i32, target: OptionalWord) -> Shown
-    ensures { λ r. ⌜ r ≡ texted 2 noSpan (wordOr target) 0 (unsigned flags) ⌝ }
-{
-    texted(2, no_span(), word_or(target), 0, unsigned_of(flags))
-}
-
-fn command(name: CommandType) -> Shown
-    ensures { λ r. ⌜ r ≡ valued 3 (commandNumber name) ⌝ }
-{
-    valued(3, wide(names::control_command::number_of(name)))
-}
-
-fn operator(op: Op) -> Shown
-    ensures { λ r. ⌜ r ≡ valued 6 (operatorNumber op) ⌝ }
-{
-    valued(6, wide(names::native_function_call::number_of(op)))
-}
-
-fn diverted(text: Span, variable: Span, target: u32, value: u32, flags: u32) -> Shown
-    ensures { λ r. ⌜ r ≡ shows 4 text variable target value flags ⌝ }
-{
-    Shown {
-        kind: 4,
+    let text = span_or(views::view::optional_text(strings, node.f0, node.f1));
+    let variable = span_or(views::view::optional_text(strings, node.f3, node.f4));
+    KindFound::Kind(KindWords {
+        tag: 4,
         text,
         variable,
-        target,
-        value,
-        flags,
+        target: node.f2,
+        value: node.f5,
+        flags: node.f6,
+    })
+}
+
+// A command or operator, by the number of its name.
+fn numbered(tag: u32, number: Number) -> KindFound
+    ensures { λ r. ⌜ r ≡ numberFound tag number ⌝ }
+{
+    match number {
+        Number::Known(known) => KindFound::Kind(value_alone(tag, known as u32)),
+        Number::Unknown => KindFound::NotFound,
     }
 }
 
-// Eight times the push type.
-fn push_number(push: PushPopType) -> u32
-    ensures { λ r. ⌜ r ≡ pushNumber push ⌝ }
-    ensures most { λ r. ⌜ r ≤ 16 ⌝ }
+fn list(payload: usize, start: u32, len: u32) -> KindFound
+    ensures { λ r. ⌜ wordsFound r ≡ wordsOfKind (listView payload start len) ⌝ }
 {
-    match push {
-        PushPopType::Tunnel => 0,
-        PushPopType::Function => 8,
-        PushPopType::FunctionEvaluationFromGame => 16,
+    if start as usize + len as usize <= payload {
+        KindFound::Kind(text_alone(12, Span { offset: start, len }, NONE, 0, 0))
+    } else {
+        KindFound::NotFound
     }
 }
 
-fn divert_flags(conditional: bool, external: bool, pushes: bool, push: PushPopType) -> u32
-    ensures { λ r. ⌜ r ≡ divertFlags conditional external pushes push ⌝ }
+// A kind that is made of its text, by the tag.
+fn with_name(node: NodeRecord, name: Span, strings: &[u8]) -> KindFound
+    ensures { λ r. ⌜ wordsFound r ≡ wordsOfKind (withName (node .tag) (now (strings .entry)) node name) ⌝ }
 {
-    bit_if(conditional, 1) + bit_if(external, 2) + bit_if(pushes, 4) + push_number(push)
-}
-
-fn assignment_flags(global: bool, declares: bool) -> u32
-    ensures { λ r. ⌜ r ≡ assignmentFlags global declares ⌝ }
-{
-    bit_if(global, 1) + bit_if(declares, 2)
-}
-
-fn value_shown(value: ValueView) -> Shown
-    ensures { λ r. ⌜ r ≡ valueShown value ⌝ }
-{
-    match value {
-        ValueView::Bool(flag) => valued(8, bit_if(flag, 1)),
-        ValueView::Int(number) => valued(9, unsigned_of(number)),
-        ValueView::Float { bits, value: _ } => valued(10, bits),
-        ValueView::String(text) => texted(11, text, NONE, 0, 0),
-        ValueView::List(list) => texted(12, list, NONE, 0, 0),
-        ValueView::DivertTarget(text) => texted(13, text, NONE, 0, 0),
-        ValueView::VariablePointer {
-            name,
-            context_index,
-        } => { texted(14, name, NONE, unsigned_of(context_index), 0) }
+    let tag = node.tag;
+    let text = image::text_part(strings, name.offset, name.len);
+    match tag {
+        3 => numbered(3, names::control_command::command_number(text)),
+        6 => numbered(6, names::native_function_call::operator_number(text)),
+        7 | 11 | 13 => KindFound::Kind(text_alone(tag, name, NONE, 0, 0)),
+        14 => KindFound::Kind(text_alone(14, name, NONE, node.f2, 0)),
+        16 => KindFound::Kind(text_alone(16, name, NONE, 0, node.f2 % 4)),
+        _ => KindFound::Kind(text_alone(17, name, node.f4, 0, 0)),
     }
 }
 
-fn kind_shown(kind: NodeKindView) -> Shown
-    ensures { λ r. ⌜ r ≡ kindShown kind ⌝ }
+// The same, where the text is present and inside.
+fn text_kind(node: NodeRecord, strings: &[u8]) -> KindFound
+    ensures { λ r. ⌜ wordsFound r ≡ wordsOfKind (textKind (node .tag) (now (strings .entry)) node) ⌝ }
 {
-    match kind {
-        NodeKindView::Container { count_flags, name } => container(count_flags, name),
-        NodeKindView::ChoicePoint { flags, target } => choice(flags, target),
-        NodeKindView::ControlCommand(name) => command(name),
-        NodeKindView::Divert {
-            path,
-            target,
-            variable_name,
-            external_args,
-            conditional,
-            external,
-            pushes_to_stack,
-            stack_push_type,
-        } => diverted(
-            span_or(path),
-            span_or(variable_name),
-            word_or(target),
-            external_args,
-            divert_flags(conditional, external, pushes_to_stack, stack_push_type),
-        ),
-        NodeKindView::Glue => valued(5, 0),
-        NodeKindView::NativeFunction(op) => operator(op),
-        NodeKindView::Tag(text) => texted(7, text, NONE, 0, 0),
-        NodeKindView::Value(value) => value_shown(value),
-        NodeKindView::VariableAssignment {
-            name,
-            global,
-            new_declaration,
-        } => { texted(16, name, NONE, 0, assignment_flags(global, new_declaration)) }
-        NodeKindView::VariableReference { name, count_target } => {
-            texted(17, name, word_or(count_target), 0, 0)
+    match views::view::optional_text(strings.len(), node.f0, node.f1) {
+        OptionalText::Absent => KindFound::NotFound,
+        OptionalText::Present(name) => with_name(node, name, strings),
+    }
+}
+
+// The words of a record's kind: one decision over the tag's number.
+pub fn kind_words(node: NodeRecord, payload: usize, strings: &[u8]) -> KindFound
+    ensures { λ r. ⌜ wordsFound r ≡ wordsOfKind (kindView (now (strings .entry)) payload node (kindOf (node .tag))) ⌝ }
+{
+    let tag = node.tag;
+    match tag {
+        1 => container(node, strings.len()),
+        2 => KindFound::Kind(text_alone(2, no_span(), node.f2, 0, node.f3)),
+        4 => divert(node, strings.len()),
+        5 => KindFound::Kind(value_alone(5, 0)),
+        3 | 11 | 13 => text_kind(node, strings),
+        6..=7 => text_kind(node, strings),
+        8 => KindFound::Kind(value_alone(8, bit_of(node.f0))),
+        9 => KindFound::Kind(value_alone(9, node.f0)),
+        10 => KindFound::Kind(value_alone(10, node.f0)),
+        12 => list(payload, node.f0, node.f1),
+        14 => text_kind(node, strings),
+        16..=17 => text_kind(node, strings),
+        18 => KindFound::Kind(value_alone(18, 0)),
+        _ => KindFound::NotFound,
+    }
+}
+
+// Writes the ten words at the start of a slice that holds them.
+fn put_ten(parent: u32, place: u32, kind: KindWords, out: &mut [u32])
+    requires { ⌜ 10 ≤ length (now out) ⌝ }
+    ensures { λ _. ⌜ now (out .exit) ≡ (parent ∷ place ∷ eightOf kind) ++ drop 10 (now (out .entry)) ⌝ }
+{
+    out[0] = parent;
+    out[1] = place;
+    out[2] = kind.tag;
+    out[3] = kind.text.offset;
+    out[4] = kind.text.len;
+    out[5] = kind.variable.offset;
+    out[6] = kind.variable.len;
+    out[7] = kind.target;
+    out[8] = kind.value;
+    out[9] = kind.flags;
+}
+
+// The words of a record's view, beside a payload of so many bytes and the strings.
+pub fn put_record_view(node: NodeRecord, payload: usize, strings: &[u8], answer: &mut [u32]) -> u32
+    ensures { λ r. ⌜ Answered (nodeAnswer (recordView (now (strings .entry)) payload node)) (now (answer .entry)) (now (answer .exit)) r ⌝ }
+{
+    if answer.len() < NODE_VIEW_WORDS {
+        return NOT_FOUND;
+    }
+    match kind_words(node, payload, strings) {
+        KindFound::NotFound => NOT_FOUND,
+        KindFound::Kind(kind) => {
+            put_ten(node.parent, node.place, kind, answer);
+            0
         }
-        NodeKindView::Void => valued(18, 0),
     }
 }
 
-pub fn node_words(view: NodeView) -> [u32; 10]
-    ensures { λ r. ⌜ r ≡ nodeShown view ⌝ }
+// The words of a node's view.
+pub fn put_node_view(bytes: &[u8], view: ImageView, id: u32, answer: &mut [u32]) -> u32
+    ensures { λ r. ⌜ Answered (nodeAnswer (nodeView (sectionsBy (now (bytes .entry)) view) id)) (now (answer .entry)) (now (answer .exit)) r ⌝ }
 {
-    let kind = view.kind;
-    let parent = view.parent;
-    let place = view.child_index;
-    let shown = kind_shown(kind);
-    [
-        word_or(parent),
-        word_or(place),
-        shown.kind,
-        shown.text.offset,
-        shown.text.len,
-        shown.variable.offset,
-        shown.variable.len,
-        shown.target,
-        shown.value,
-        shown.flags,
-    ]
+    match views::entries::node_of(bytes, view, id) {
+        RecordFound::NotFound => NOT_FOUND,
+        RecordFound::Record(node) => {
+            let payload = image::section_part(bytes, view.payload, ImageView::PAYLOAD_SIZE);
+            let strings = image::section_part(bytes, view.strings, ImageView::STRINGS_SIZE);
+            put_record_view(node, payload.len(), strings, answer)
+        }
+    }
 }

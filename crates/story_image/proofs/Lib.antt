@@ -1,4 +1,8 @@
-pub mod Exporting
-pub mod Asking
-pub mod Parts
-pub mod Handing
+pub mod Views
+pub mod Loads
+pub mod Writes
+pub mod TextParts
+pub mod ListValues
+pub mod WorkWords
+pub mod NameTexts
+pub mod AcceptedExports

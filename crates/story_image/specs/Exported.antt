@@ -1,4 +1,4 @@
--- How answers are handed to C and Rust, in words. Assumes nothing.
+-- A view in words, and what is asked under lent words of a view.
 use Prim.Native.Nat.{ℕ, zero, suc, _+_, _*_}
 use mathlib.Core.List.{List, [], _∷_, _++_}
 use mathlib.Core.Bool.{cond}
@@ -50,7 +50,7 @@ under view query = cond (leb viewLength (length view)) (query (viewBy view)) non
 abbrev pub lentWords : ℕ → ℕ → ℕ
 lentWords view work = cond (leb viewLength view) work 0
 
--- the lent view on return: written where nothing is refused
-unfoldable pub viewAfter : ℕ → List ℕ → List ℕ → List ℕ
-viewAfter zero ws view = ws ++ drop (length ws) view
-viewAfter (suc r) ws view = view
+-- what is lent on return: written at its start where nothing is refused, else as it was
+unfoldable pub writtenAfter : ℕ → List ℕ → List ℕ → List ℕ
+writtenAfter zero ws view = ws ++ drop (length ws) view
+writtenAfter (suc r) ws view = view

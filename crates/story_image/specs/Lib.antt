@@ -1,3 +1,6 @@
 pub mod Exported
 pub mod Queries
-pub mod Lengths
+pub mod Writing
+pub mod Needed
+pub mod Spelling
+pub mod Accepted

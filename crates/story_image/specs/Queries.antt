@@ -1,61 +1,95 @@
--- The words of each query on an image's bytes and the words of a view. Assumes nothing.
+-- What each exported query answers, on an image's bytes and the words of a view: its words, or none.
 use Prim.Native.Nat.{ℕ}
-use mathlib.Core.List.{List}
+use mathlib.Core.List.{List, [], _∷_}
 use mathlib.Core.Bool.{Bool}
-use mathlib.Core.Option.{Option}
+use mathlib.Core.Option.{Option, none, some}
 use lib.ListN.{length}
-use Rattle.image.specs.Sections.{definitionCount}
+use Rattle.image.specs.Sections.{Sections, definitionCount}
 use Rattle.image.specs.Header.{sectionsBy}
+use Rattle.index.specs.Definitions.{firstItem}
+use Rattle.views.specs.declared.Span.{Span}
+use Rattle.views.specs.declared.DefinitionAnswer.{DefinitionAnswer}
+use Rattle.views.specs.declared.DefinitionAnswer.the-variants as definition
 use Rattle.views.specs.View.{span, nodeView}
 use Rattle.views.specs.Children.{childCountOf, namedCountOf, childQuery, namedQuery, textQuery}
-use Rattle.views.specs.Lists.{listEntry, listOrigin, definitionQuery, itemQuery}
+use Rattle.views.specs.Lists.{listPart, listEntry, listOrigin, definitionQuery, itemQuery}
 use Rattle.lookups.specs.Lookup.{findNamed, listItem}
 use Rattle.walks.specs.Walk.{components, resolve}
-use Rattle.answers.specs.Handed.{countWords, foundAnswer, countAnswer, namedAnswer, placeAnswer, partAnswer, entryAnswer, definitionAnswer, itemAnswer, listItemAnswer}
-use Rattle.answers.specs.NodeWords.{nodeAnswer}
+use Rattle.answers.specs.AnswerWords.{countWords, foundAnswer, countAnswer, namedAnswer, placeAnswer, partWords, partAnswer, entryAnswer, definitionAnswer, itemAnswer, listItemAnswer, listCountWords}
+use Rattle.answers.specs.NodeViewWords.{nodeAnswer, listPlace}
 use Rattle.story_image.specs.Exported.{under}
 
+-- of a list value, where the node is one
+abbrev pub atList : Option Span → (Span → Option (List ℕ)) → Option (List ℕ)
+atList none query = none
+atList (some t) query = query t
+
+-- of a definition that is found, the number of its first item
+abbrev pub firstWords : Sections → ℕ → DefinitionAnswer → Option (List ℕ)
+firstWords s d (definition.Definition found) = some (firstItem s d ∷ [])
+firstWords s d definition.NotFound = none
+
 module _ (bytes view : List ℕ) where
-  abbrev pub nodeWords : ℕ → Option (List ℕ)
-  nodeWords node = under view (λ v. nodeAnswer (nodeView (sectionsBy bytes v) node))
+  abbrev pub answerOfNodeView : ℕ → Option (List ℕ)
+  answerOfNodeView node = under view (λ v. nodeAnswer (nodeView (sectionsBy bytes v) node))
 
   -- a text as a part of the image
-  abbrev pub textWords : ℕ → ℕ → Option (List ℕ)
-  textWords at len = under view (λ v. partAnswer (length bytes) (v .strings .offset) (textQuery (sectionsBy bytes v) (span at len)))
+  abbrev pub answerOfText : ℕ → ℕ → Option (List ℕ)
+  answerOfText at len = under view (λ v. partAnswer (length bytes) (v .strings .offset) (textQuery (sectionsBy bytes v) (span at len)))
 
-  abbrev pub childCountWords : ℕ → Option (List ℕ)
-  childCountWords node = under view (λ v. countAnswer (childCountOf (sectionsBy bytes v) node))
+  abbrev pub answerOfChildCount : ℕ → Option (List ℕ)
+  answerOfChildCount node = under view (λ v. countAnswer (childCountOf (sectionsBy bytes v) node))
 
-  abbrev pub childWords : ℕ → ℕ → Option (List ℕ)
-  childWords node j = under view (λ v. foundAnswer (childQuery (sectionsBy bytes v) node j))
+  abbrev pub answerOfChild : ℕ → ℕ → Option (List ℕ)
+  answerOfChild node j = under view (λ v. foundAnswer (childQuery (sectionsBy bytes v) node j))
 
-  abbrev pub namedCountWords : ℕ → Option (List ℕ)
-  namedCountWords node = under view (λ v. countAnswer (namedCountOf (sectionsBy bytes v) node))
+  abbrev pub answerOfNamedChildCount : ℕ → Option (List ℕ)
+  answerOfNamedChildCount node = under view (λ v. countAnswer (namedCountOf (sectionsBy bytes v) node))
 
-  abbrev pub namedChildWords : ℕ → ℕ → Option (List ℕ)
-  namedChildWords node j = under view (λ v. namedAnswer (namedQuery (sectionsBy bytes v) node j))
+  abbrev pub answerOfNamedChild : ℕ → ℕ → Option (List ℕ)
+  answerOfNamedChild node j = under view (λ v. namedAnswer (namedQuery (sectionsBy bytes v) node j))
 
-  abbrev pub findWords : ℕ → List ℕ → Option (List ℕ)
-  findWords node name = under view (λ v. foundAnswer (findNamed (sectionsBy bytes v) node name))
+  abbrev pub answerOfFindNamedChild : ℕ → List ℕ → Option (List ℕ)
+  answerOfFindNamedChild node name = under view (λ v. foundAnswer (findNamed (sectionsBy bytes v) node name))
 
-  abbrev pub definitionCountWords : Option (List ℕ)
-  definitionCountWords = under view (λ v. countWords (definitionCount (sectionsBy bytes v)))
+  -- a list value's payload as a part of the image; how many items and origins it has; item and origin j
+  abbrev pub answerOfListPayload : ℕ → Option (List ℕ)
+  answerOfListPayload node =
+      under view (λ v. atList (listPlace (nodeView (sectionsBy bytes v) node)) (λ t. partWords (length bytes) (v .payload .offset) t))
 
-  abbrev pub definitionWordsOf : ℕ → Option (List ℕ)
-  definitionWordsOf d = under view (λ v. definitionAnswer (definitionQuery (sectionsBy bytes v) d))
+  abbrev pub answerOfListCounts : ℕ → Option (List ℕ)
+  answerOfListCounts node =
+      under view (λ v. let s = sectionsBy bytes v in atList (listPlace (nodeView s node)) (λ t. listCountWords (listPart s t)))
 
-  abbrev pub definitionItemWords : ℕ → ℕ → Option (List ℕ)
-  definitionItemWords d j = under view (λ v. itemAnswer (itemQuery (sectionsBy bytes v) d j))
+  abbrev pub answerOfNodeListEntry : ℕ → ℕ → Option (List ℕ)
+  answerOfNodeListEntry node j =
+      under view (λ v. let s = sectionsBy bytes v in atList (listPlace (nodeView s node)) (λ t. entryAnswer (listEntry (listPart s t) (s .strings) j)))
 
-  abbrev pub listItemWordsOf : List ℕ → Option (List ℕ)
-  listItemWordsOf name = under view (λ v. listItemAnswer (listItem (sectionsBy bytes v) name))
+  abbrev pub answerOfNodeListOrigin : ℕ → ℕ → Option (List ℕ)
+  answerOfNodeListOrigin node j =
+      under view (λ v. let s = sectionsBy bytes v in atList (listPlace (nodeView s node)) (λ t. placeAnswer (listOrigin (listPart s t) (s .strings) j)))
 
-  abbrev pub walkWords : ℕ → Bool → List ℕ → List ℕ → Option (List ℕ)
-  walkWords origin relative path names = under view (λ v. foundAnswer (resolve (sectionsBy bytes v) relative origin (components names path)))
+  abbrev pub answerOfDefinitionCount : Option (List ℕ)
+  answerOfDefinitionCount = under view (λ v. countWords (definitionCount (sectionsBy bytes v)))
+
+  abbrev pub answerOfDefinition : ℕ → Option (List ℕ)
+  answerOfDefinition d = under view (λ v. definitionAnswer (definitionQuery (sectionsBy bytes v) d))
+
+  abbrev pub answerOfFirstItem : ℕ → Option (List ℕ)
+  answerOfFirstItem d = under view (λ v. let s = sectionsBy bytes v in firstWords s d (definitionQuery s d))
+
+  abbrev pub answerOfDefinitionItem : ℕ → ℕ → Option (List ℕ)
+  answerOfDefinitionItem d j = under view (λ v. itemAnswer (itemQuery (sectionsBy bytes v) d j))
+
+  abbrev pub answerOfListItem : List ℕ → Option (List ℕ)
+  answerOfListItem name = under view (λ v. listItemAnswer (listItem (sectionsBy bytes v) name))
+
+  abbrev pub answerOfWalk : ℕ → Bool → List ℕ → List ℕ → Option (List ℕ)
+  answerOfWalk origin relative path names = under view (λ v. foundAnswer (resolve (sectionsBy bytes v) relative origin (components names path)))
 
 -- of a list value's payload and the strings
-abbrev pub listEntryWords : List ℕ → List ℕ → ℕ → Option (List ℕ)
-listEntryWords payload strings j = entryAnswer (listEntry payload strings j)
+abbrev pub answerOfListEntry : List ℕ → List ℕ → ℕ → Option (List ℕ)
+answerOfListEntry payload strings j = entryAnswer (listEntry payload strings j)
 
-abbrev pub listOriginWords : List ℕ → List ℕ → ℕ → Option (List ℕ)
-listOriginWords payload strings j = placeAnswer (listOrigin payload strings j)
+abbrev pub answerOfListOrigin : List ℕ → List ℕ → ℕ → Option (List ℕ)
+answerOfListOrigin payload strings j = placeAnswer (listOrigin payload strings j)

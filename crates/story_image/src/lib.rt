@@ -5,6 +5,8 @@ pub mod children; // children.rt: ordered and named children
 pub mod lists; // lists.rt: list values, definitions, items
 pub mod walk; // walk.rt: walks along a path
 pub mod write; // write.rt: writing an image
+pub mod needed; // needed.rt: how many words calls need
+pub mod spelling; // spelling.rt: texts of commands and operators
 
 use image::ImageView;
 use image::Section;
@@ -14,12 +16,12 @@ ghost use Prim.Native.Nat.{_≤_};
 ghost use lib.ListN.{length};
 ghost use Rattle.image.specs.Header.{sectionsOf, viewOf};
 ghost use Rattle.load.specs.Load.{loadRule, loadWords, loadedNumber, workAfter};
-ghost use Rattle.story_image.specs.Exported.{wordsOfView, viewBy, viewLength, lentWords, viewAfter};
+ghost use Rattle.story_image.specs.Exported.{wordsOfView, viewBy, viewLength, lentWords, writtenAfter};
 
 // Words of a view: the ink version, then offset and count of each section.
 const VIEW_WORDS: usize = 17;
 
-// The view that words give.
+// The view that words give: the only place where a view is made of lent words.
 fn view_of(words: &[u32]) -> ImageView
     requires { ⌜ viewLength ≤ length (now words) ⌝ }
     ensures { λ r. ⌜ r ≡ viewBy (now (words .entry)) ⌝ }
@@ -61,6 +63,7 @@ fn view_of(words: &[u32]) -> ImageView
     }
 }
 
+// The words of a view.
 fn words_of_view(view: ImageView) -> [u32; 17]
     ensures { λ r. ⌜ r ≡ wordsOfView view ⌝ }
 {
@@ -85,14 +88,16 @@ fn words_of_view(view: ImageView) -> [u32; 17]
     ]
 }
 
+// Writes the words of a view at the start of a slice that holds them.
 fn put_view(found: ImageView, view: &mut [u32])
     requires { ⌜ viewLength ≤ length (now view) ⌝ }
-    ensures { λ _. ⌜ now (view .exit) ≡ viewAfter 0 (wordsOfView found) (now (view .entry)) ⌝ }
+    ensures { λ _. ⌜ now (view .exit) ≡ writtenAfter 0 (wordsOfView found) (now (view .entry)) ⌝ }
 {
     let words = words_of_view(found);
     answers::put_words(&words, view);
 }
 
+// Document 01's number for an answer.
 fn number_of(loaded: Loaded) -> u32
     ensures { λ r. ⌜ r ≡ loadedNumber loaded ⌝ }
 {
@@ -117,7 +122,7 @@ fn load_without_words(bytes: &[u8]) -> u32
 pub extern "C" fn story_image_load(bytes: &[u8], work: &mut [u32], view: &mut [u32]) -> u32
     ensures answer { λ r. ⌜ r ≡ loadRule (now (bytes .entry)) (lentWords (length (now (view .entry))) (length (now (work .entry)))) ⌝ }
     ensures words { λ r. ⌜ now (work .exit) ≡ workAfter (loadWords (sectionsOf (now (bytes .entry)))) r (now (work .entry)) ⌝ }
-    ensures written { λ r. ⌜ now (view .exit) ≡ viewAfter r (wordsOfView (viewOf (now (bytes .entry)))) (now (view .entry)) ⌝ }
+    ensures written { λ r. ⌜ now (view .exit) ≡ writtenAfter r (wordsOfView (viewOf (now (bytes .entry)))) (now (view .entry)) ⌝ }
 {
     if view.len() < VIEW_WORDS {
         return load_without_words(bytes);

@@ -1,13 +1,11 @@
 // A node's view, and where a text lies in the image.
 use crate::VIEW_WORDS;
 use crate::view_of;
-use views::NodeAnswer;
+use image::refusal::NOT_FOUND;
 use views::Span;
-use views::TextAnswer;
 ghost use mathlib.Core.Path.{_≡_};
-ghost use lib.ListN.{length};
-ghost use Rattle.answers.specs.Handed.{numberOf, answerAfter};
-ghost use Rattle.story_image.specs.Queries.{nodeWords, textWords};
+ghost use Rattle.answers.specs.AnswerWords.{Answered};
+ghost use Rattle.story_image.specs.Queries.{answerOfNodeView, answerOfText};
 
 // A node's view: parent, place, kind, text, text_length, variable, variable_length, target, value, flags.
 #[no_mangle]
@@ -17,19 +15,12 @@ pub extern "C" fn story_image_node_view(
     node: u32,
     answer: &mut [u32],
 ) -> u32
-    ensures number { λ r. ⌜ r ≡ numberOf (nodeWords (now (bytes .entry)) (now (view .entry)) node) (length (now (answer .entry))) ⌝ }
-    ensures written { λ _. ⌜ now (answer .exit) ≡ answerAfter (nodeWords (now (bytes .entry)) (now (view .entry)) node) (now (answer .entry)) ⌝ }
+    ensures { λ r. ⌜ Answered (answerOfNodeView (now (bytes .entry)) (now (view .entry)) node) (now (answer .entry)) (now (answer .exit)) r ⌝ }
 {
     if view.len() < VIEW_WORDS {
-        return 18;
+        return NOT_FOUND;
     }
-    match views::view::node_view(bytes, view_of(view), node) {
-        NodeAnswer::NotFound => 18,
-        NodeAnswer::View(found) => {
-            let words = answers::node::node_words(found);
-            answers::hand_over(&words, answer)
-        }
-    }
+    answers::node::put_node_view(bytes, view_of(view), node, answer)
 }
 
 // Start and length, in the image's bytes, of a text of the strings.
@@ -41,16 +32,13 @@ pub extern "C" fn story_image_text(
     len: u32,
     answer: &mut [u32],
 ) -> u32
-    ensures number { λ r. ⌜ r ≡ numberOf (textWords (now (bytes .entry)) (now (view .entry)) offset len) (length (now (answer .entry))) ⌝ }
-    ensures written { λ _. ⌜ now (answer .exit) ≡ answerAfter (textWords (now (bytes .entry)) (now (view .entry)) offset len) (now (answer .entry)) ⌝ }
+    ensures { λ r. ⌜ Answered (answerOfText (now (bytes .entry)) (now (view .entry)) offset len) (now (answer .entry)) (now (answer .exit)) r ⌝ }
 {
     if view.len() < VIEW_WORDS {
-        return 18;
+        return NOT_FOUND;
     }
     let found = view_of(view);
     let strings = found.strings;
-    match views::children::text_answer(bytes, found, Span { offset, len }) {
-        TextAnswer::NotFound => 18,
-        TextAnswer::Text(text) => answers::hand_part(bytes.len(), strings.offset, text, answer),
-    }
+    let text = views::children::text_answer(bytes, found, Span { offset, len });
+    answers::put_text(bytes.len(), strings.offset, text, answer)
 }

@@ -1,12 +1,11 @@
 // Walks along a path.
 use crate::VIEW_WORDS;
 use crate::view_of;
-use views::Found;
+use image::refusal::NOT_FOUND;
 ghost use mathlib.Core.Bool.{Bool};
 ghost use mathlib.Core.Path.{_≡_};
-ghost use lib.ListN.{length};
-ghost use Rattle.answers.specs.Handed.{numberOf, answerAfter};
-ghost use Rattle.story_image.specs.Queries.{walkWords};
+ghost use Rattle.answers.specs.AnswerWords.{Answered};
+ghost use Rattle.story_image.specs.Queries.{answerOfWalk};
 
 // The node at the end of a path, three words a component.
 #[no_mangle]
@@ -19,17 +18,14 @@ pub extern "C" fn story_image_resolve_path(
     names: &[u8],
     answer: &mut [u32],
 ) -> u32
-    ensures number { λ r. ⌜ r ≡ numberOf (walkWords (now (bytes .entry)) (now (view .entry)) origin relative (now (path .entry)) (now (names .entry))) (length (now (answer .entry))) ⌝ }
-    ensures written { λ _. ⌜ now (answer .exit) ≡ answerAfter (walkWords (now (bytes .entry)) (now (view .entry)) origin relative (now (path .entry)) (now (names .entry))) (now (answer .entry)) ⌝ }
+    ensures { λ r. ⌜ (let a = answerOfWalk (now (bytes .entry)) (now (view .entry)) origin relative (now (path .entry)) (now (names .entry)) in
+        Answered a (now (answer .entry)) (now (answer .exit)) r) ⌝ }
 {
     if view.len() < VIEW_WORDS {
-        return 18;
+        return NOT_FOUND;
     }
-    match walks::resolve_path(bytes, view_of(view), origin, relative, path, names) {
-        Found::NotFound => 18,
-        Found::Node(end) => {
-            let words = [end];
-            answers::hand_over(&words, answer)
-        }
-    }
+    answers::put_found(
+        walks::resolve_path(bytes, view_of(view), origin, relative, path, names),
+        answer,
+    )
 }

@@ -2,12 +2,12 @@
 use writer::Encoded;
 ghost use mathlib.Core.Path.{_≡_};
 ghost use lib.ListN.{length};
-ghost use Rattle.draft.specs.Draft.{writeWords};
 ghost use Rattle.draft.specs.Source.{draftOf};
-ghost use Rattle.encoder.specs.Encode.{imageFor, encodeRule, outAfter, encodeWorkAfter};
+ghost use Rattle.encoder.specs.Encode.{imageFor, encodeRule, outAfter};
 ghost use Rattle.writer.specs.Answer.{encodedNumber};
-ghost use Rattle.story_image.specs.Lengths.{wordsFor, lengthAfter};
+ghost use Rattle.story_image.specs.Writing.{Wrote};
 
+// Document 01's number for an answer.
 fn number_of(answer: Encoded) -> u32
     ensures { λ r. ⌜ r ≡ encodedNumber answer ⌝ }
 {
@@ -29,8 +29,12 @@ fn write_without_words(
     strings: &[u8],
     output: &mut [u8],
 ) -> u32
-    ensures answer { λ r. ⌜ r ≡ encodeRule ink (draftOf (now (nodes .entry)) (now (children .entry)) (now (named .entry)) (now (definitions .entry)) (now (items .entry)) (now (payload .entry)) (now (strings .entry))) 0 (length (now (output .entry))) ⌝ }
-    ensures output { λ r. ⌜ now (output .exit) ≡ outAfter r (imageFor ink (draftOf (now (nodes .entry)) (now (children .entry)) (now (named .entry)) (now (definitions .entry)) (now (items .entry)) (now (payload .entry)) (now (strings .entry)))) (now (output .entry)) ⌝ }
+    ensures answer { λ r. ⌜ (let s = draftOf (now (nodes .entry)) (now (children .entry)) (now (named .entry)) (now (definitions .entry))
+        (now (items .entry)) (now (payload .entry)) (now (strings .entry)) in
+        r ≡ encodeRule ink s 0 (length (now (output .entry)))) ⌝ }
+    ensures output { λ r. ⌜ (let s = draftOf (now (nodes .entry)) (now (children .entry)) (now (named .entry)) (now (definitions .entry))
+        (now (items .entry)) (now (payload .entry)) (now (strings .entry)) in
+        now (output .exit) ≡ outAfter r (imageFor ink s) (now (output .entry))) ⌝ }
 {
     let mut word = [0u32; 1];
     let none: &mut [u32] = &mut word;
@@ -65,10 +69,10 @@ pub extern "C" fn story_image_write(
     output: &mut [u8],
     written: &mut [u32],
 ) -> u32
-    ensures answer { λ r. ⌜ r ≡ encodeRule ink (draftOf (now (nodes .entry)) (now (children .entry)) (now (named .entry)) (now (definitions .entry)) (now (items .entry)) (now (payload .entry)) (now (strings .entry))) (wordsFor (length (now (written .entry))) (length (now (work .entry)))) (length (now (output .entry))) ⌝ }
-    ensures words { λ r. ⌜ now (work .exit) ≡ encodeWorkAfter (writeWords (draftOf (now (nodes .entry)) (now (children .entry)) (now (named .entry)) (now (definitions .entry)) (now (items .entry)) (now (payload .entry)) (now (strings .entry)))) r (now (work .entry)) ⌝ }
-    ensures image { λ r. ⌜ now (output .exit) ≡ outAfter r (imageFor ink (draftOf (now (nodes .entry)) (now (children .entry)) (now (named .entry)) (now (definitions .entry)) (now (items .entry)) (now (payload .entry)) (now (strings .entry)))) (now (output .entry)) ⌝ }
-    ensures length { λ r. ⌜ now (written .exit) ≡ lengthAfter r (length (imageFor ink (draftOf (now (nodes .entry)) (now (children .entry)) (now (named .entry)) (now (definitions .entry)) (now (items .entry)) (now (payload .entry)) (now (strings .entry))))) (now (written .entry)) ⌝ }
+    ensures { λ r. ⌜ (let s = draftOf (now (nodes .entry)) (now (children .entry)) (now (named .entry)) (now (definitions .entry))
+        (now (items .entry)) (now (payload .entry)) (now (strings .entry)) in
+        Wrote ink s (now (output .entry)) (now (output .exit)) (now (work .entry)) (now (work .exit))
+        (now (written .entry)) (now (written .exit)) r) ⌝ }
 {
     if written.len() < 1 {
         return write_without_words(

@@ -1,11 +1,11 @@
--- `answers::put_words` meets its contract: after i turns the first i words are written. Assumes nothing.
+-- `answers::put_words` meets its contract: after i turns the first i words are written.
 use Prim.Native.Nat.{_≤_, _-_}
 use mathlib.Core.Path.{_≡_, refl}
 use mathlib.Core.List.{_++_}
 use native.Mathlib.Omega.{arith}
 use lib.ListN.{length, length-set, take, drop}
 use borrow.Author.Needs.{needs}
-use Rattle.answers.proofs.Putting.{put-step, put-end}
+use Rattle.answers.proofs.AnswerSlices.{put-step, put-end}
 use Rattle.answers.proofs.put_words.Statement.{statement}
 use Rattle.answers.proofs.put_words.Tie as tie
 

@@ -1,4 +1,4 @@
--- `answers::unsigned_of` meets its contract. Assumes nothing.
+-- `answers::unsigned_of` meets its contract.
 use native.Mathlib.Omega.{arith}
 use Rattle.answers.proofs.Bits.{negative, rest-fits, rest-back, below-bits, counting, same-back, above-bits, cast-fits}
 use Rattle.answers.proofs.unsigned_of.Statement.{statement}

@@ -1,5 +1,5 @@
--- `story_image::load_without_words` meets its contract. Assumes nothing.
-use Rattle.story_image.proofs.Exporting.{number}
+-- `story_image::load_without_words` meets its contract.
+use Rattle.story_image.proofs.Loads.{number}
 use borrow.Author.Needs.{needs}
 use Rattle.story_image.proofs.load_without_words.Statement.{statement}
 use Rattle.story_image.proofs.load_without_words.Tie as tie

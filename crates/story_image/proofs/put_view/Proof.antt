@@ -1,5 +1,5 @@
--- `story_image::put_view` meets its contract. Assumes nothing.
-use Rattle.story_image.proofs.Exporting.{view-put}
+-- `story_image::put_view` meets its contract.
+use Rattle.story_image.proofs.Loads.{view-put}
 use borrow.Author.Needs.{needs}
 use Rattle.story_image.proofs.put_view.Statement.{statement}
 use Rattle.story_image.proofs.put_view.Tie as tie

@@ -1,5 +1,5 @@
--- `story_image::story_image_load` meets its contract. Assumes nothing.
-use Rattle.story_image.proofs.Exporting.{no-view, accepted-number, accepted-words, accepted-view, refused-number, refused-words, refused-view}
+-- `story_image::story_image_load` meets its contract.
+use Rattle.story_image.proofs.Loads.{no-view, accepted-number, accepted-words, accepted-view, refused-number, refused-words, refused-view}
 use borrow.Author.Needs.{needs}
 use Rattle.story_image.proofs.story_image_load.Statement.{statement}
 use Rattle.story_image.proofs.story_image_load.Tie as tie

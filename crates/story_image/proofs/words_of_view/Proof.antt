@@ -1,4 +1,4 @@
--- `story_image::words_of_view` meets its contract. Assumes nothing.
+-- `story_image::words_of_view` meets its contract.
 use borrow.Author.Needs.{needs}
 use Rattle.story_image.proofs.words_of_view.Statement.{statement}
 use Rattle.story_image.proofs.words_of_view.Tie as tie

@@ -1,6 +1,6 @@
--- `answers::lists::entry_words` meets its contract. Assumes nothing.
+-- `answers::lists::entry_words` meets its contract.
 use mathlib.Core.Path.{_≡_}
-use Rattle.answers.specs.Handed.{unsigned}
+use Rattle.answers.specs.AnswerWords.{unsigned}
 use Rattle.answers.proofs.Bits.{field-bits}
 use borrow.Author.Needs.{needs}
 use Rattle.answers.proofs.lists.entry_words.Statement.{statement}

@@ -1,22 +1,22 @@
--- `answers::node::container` meets its contract. Assumes nothing.
-use mathlib.Core.Path.{_≡_, ap, _∙_}
-use mir.Facts.{toZ-ofZ}
-use Rattle.answers.specs.Handed.{unsigned}
+-- `answers::node::container` meets its contract.
+use native.Mathlib.Omega.{arith}
+use Rattle.answers.proofs.Records.{container-found}
 use borrow.Author.Needs.{needs}
 use Rattle.answers.proofs.node.container.Statement.{statement}
 use Rattle.answers.proofs.node.container.Tie as tie
 
+optional-text-requires : tie.Need-optional-text-requires
+optional-text-requires c κs = search needs
+
 span-or-requires : tie.Need-span-or-requires
 span-or-requires c κs = search needs
 
-unsigned-of-requires : tie.Need-unsigned-of-requires
-unsigned-of-requires c κs = search needs
-
-texted-requires : tie.Need-texted-requires
-texted-requires c κs = search needs
+text-alone-requires : tie.Need-text-alone-requires
+text-alone-requires c κs = search needs
 
 returns : tie.Need-returns
-returns c = let e : c .before .unsigned-of .result ≡ unsigned (c .before .before .before .args .flags) = c .before .unsigned-of .ensures ∙ ap unsigned (toZ-ofZ (c .before .before .before .fits .flags)) in rw (← e, ← c .before .before .span-or .ensures) (c .texted .ensures)
+returns c = container-found _ (c .before .before .before .args .node) _ (omega arith) _ _ (c .before .before .optional-text .ensures) (c .before .span-or .ensures) (c .text-alone .ensures)
 
 pub container-spec : {M : Type 1} → statement M
-container-spec = tie.close (tie.spec span-or-requires unsigned-of-requires texted-requires returns)
+container-spec =
+    tie.close (tie.spec optional-text-requires span-or-requires text-alone-requires returns)

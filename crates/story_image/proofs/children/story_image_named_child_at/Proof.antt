@@ -1,15 +1,14 @@
--- `story_image::children::story_image_named_child_at` meets its contract. Assumes nothing.
-use mathlib.Core.Path.{sym, ap, _∙_}
-use mathlib.Core.Option.{some}
+-- `story_image::children::story_image_named_child_at` meets its contract.
+use mathlib.Core.Path.{ap}
 use denote.Ref.{now}
-use Rattle.answers.specs.Handed.{namedAnswer}
-use Rattle.story_image.proofs.Asking.{nothing, handing, too-few, enough}
+use Rattle.answers.specs.AnswerWords.{namedAnswer}
+use Rattle.story_image.proofs.Views.{no-view, asked}
 use borrow.Author.Needs.{needs}
 use Rattle.story_image.proofs.children.story_image_named_child_at.Statement.{statement}
 use Rattle.story_image.proofs.children.story_image_named_child_at.Tie as tie
 
 returns : tie.Need-returns
-returns c = nothing _ (now (c .before .before .before .before .args .answer)) (too-few (now (c .before .before .before .before .args .view)) _ (c .if1 .taken))
+returns c = no-view (now (c .before .before .before .before .args .view)) _ _ (c .if1 .taken)
 
 view-of-requires : tie.Need-view-of-requires
 view-of-requires c κs = search needs
@@ -17,31 +16,15 @@ view-of-requires c κs = search needs
 named-child-at-requires : tie.Need-named-child-at-requires
 named-child-at-requires c κs = search needs
 
-enum-told : tie.Need-enum-told
-enum-told c = search needs
-
-enum-known-named : tie.Need-enum-known-named
-enum-known-named c = search needs
-
-named-words-requires : tie.Need-named-words-requires
-named-words-requires c κs = search needs
-
-slice-aggregate-hand-over : tie.Need-slice-aggregate-hand-over
-slice-aggregate-hand-over c = search needs
-
-hand-over-requires : tie.Need-hand-over-requires
-hand-over-requires c κs = search needs
-
-returns-2 : tie.Need-returns-2
-returns-2 c = nothing _ (now (c .before .before .before .before .before .before .before .before .args .answer)) (ap namedAnswer (sym (c .enum-told .given .1) ∙ c .before .before .named-child-at .ensures) ∙ enough (now (c .before .before .before .before .before .before .before .before .args .view)) _ (c .before .before .before .before .if1 .left) _ (c .before .before .before .view-of .ensures))
+put-named-requires : tie.Need-put-named-requires
+put-named-requires c κs = search needs
 
 same-length : tie.Need-same-length
 same-length c = search needs
 
-returns-3 : tie.Need-returns-3
-returns-3 c =
-    handing _ _ _ (now (c .before .before .before .before .before .before .before .before .before .before .before .before .before .before .before .args .answer)) _
-    (ap some (c .before .before .before .before .before .named-words .ensures) ∙ ap namedAnswer (sym (c .before .before .before .before .before .before .before .named .given .1) ∙ c .before .before .before .before .before .before .before .before .before .named-child-at .ensures) ∙ enough (now (c .before .before .before .before .before .before .before .before .before .before .before .before .before .before .before .args .view)) _ (c .before .before .before .before .before .before .before .before .before .before .before .if1 .left) _ (c .before .before .before .before .before .before .before .before .before .before .view-of .ensures)) (c .before .before .hand-over .ensures)
+returns-2 : tie.Need-returns-2
+returns-2 c =
+    asked (now (c .before .before .before .before .before .before .before .before .before .before .args .view)) _ _ _ _ (c .before .before .before .before .before .before .if1 .left) _ (c .before .before .before .before .before .view-of .ensures) _ (ap namedAnswer (c .before .before .before .before .named-child-at .ensures)) (c .before .before .put-named .ensures)
 
 pub story-image-named-child-at-spec : {M : Type 1} → statement M
 story-image-named-child-at-spec =
@@ -50,11 +33,6 @@ story-image-named-child-at-spec =
     returns
     view-of-requires
     named-child-at-requires
-    enum-told
-    enum-known-named
-    named-words-requires
-    slice-aggregate-hand-over
-    hand-over-requires
-    returns-2
+    put-named-requires
     same-length
-    returns-3)
+    returns-2)

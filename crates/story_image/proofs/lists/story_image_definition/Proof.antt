@@ -1,15 +1,14 @@
--- `story_image::lists::story_image_definition` meets its contract. Assumes nothing.
-use mathlib.Core.Path.{sym, ap, _∙_}
-use mathlib.Core.Option.{some}
+-- `story_image::lists::story_image_definition` meets its contract.
+use mathlib.Core.Path.{ap}
 use denote.Ref.{now}
-use Rattle.answers.specs.Handed.{definitionAnswer}
-use Rattle.story_image.proofs.Asking.{nothing, handing, too-few, enough}
+use Rattle.answers.specs.AnswerWords.{definitionAnswer}
+use Rattle.story_image.proofs.Views.{no-view, asked}
 use borrow.Author.Needs.{needs}
 use Rattle.story_image.proofs.lists.story_image_definition.Statement.{statement}
 use Rattle.story_image.proofs.lists.story_image_definition.Tie as tie
 
 returns : tie.Need-returns
-returns c = nothing _ (now (c .before .before .before .before .args .answer)) (too-few (now (c .before .before .before .before .args .view)) _ (c .if1 .taken))
+returns c = no-view (now (c .before .before .before .before .args .view)) _ _ (c .if1 .taken)
 
 view-of-requires : tie.Need-view-of-requires
 view-of-requires c κs = search needs
@@ -17,31 +16,15 @@ view-of-requires c κs = search needs
 definition-requires : tie.Need-definition-requires
 definition-requires c κs = search needs
 
-enum-told : tie.Need-enum-told
-enum-told c = search needs
-
-enum-known-found : tie.Need-enum-known-found
-enum-known-found c = search needs
-
-definition-words-requires : tie.Need-definition-words-requires
-definition-words-requires c κs = search needs
-
-slice-aggregate-hand-over : tie.Need-slice-aggregate-hand-over
-slice-aggregate-hand-over c = search needs
-
-hand-over-requires : tie.Need-hand-over-requires
-hand-over-requires c κs = search needs
-
-returns-2 : tie.Need-returns-2
-returns-2 c = nothing _ (now (c .before .before .before .before .before .before .before .before .args .answer)) (ap definitionAnswer (sym (c .enum-told .given .1) ∙ c .before .before .definition .ensures) ∙ enough (now (c .before .before .before .before .before .before .before .before .args .view)) _ (c .before .before .before .before .if1 .left) _ (c .before .before .before .view-of .ensures))
+put-definition-requires : tie.Need-put-definition-requires
+put-definition-requires c κs = search needs
 
 same-length : tie.Need-same-length
 same-length c = search needs
 
-returns-3 : tie.Need-returns-3
-returns-3 c =
-    handing _ _ _ (now (c .before .before .before .before .before .before .before .before .before .before .before .before .before .before .before .args .answer)) _
-    (ap some (c .before .before .before .before .before .definition-words .ensures) ∙ ap definitionAnswer (sym (c .before .before .before .before .before .before .before .found .given .1) ∙ c .before .before .before .before .before .before .before .before .before .definition .ensures) ∙ enough (now (c .before .before .before .before .before .before .before .before .before .before .before .before .before .before .before .args .view)) _ (c .before .before .before .before .before .before .before .before .before .before .before .if1 .left) _ (c .before .before .before .before .before .before .before .before .before .before .view-of .ensures)) (c .before .before .hand-over .ensures)
+returns-2 : tie.Need-returns-2
+returns-2 c =
+    asked (now (c .before .before .before .before .before .before .before .before .before .before .args .view)) _ _ _ _ (c .before .before .before .before .before .before .if1 .left) _ (c .before .before .before .before .before .view-of .ensures) _ (ap definitionAnswer (c .before .before .before .before .definition .ensures)) (c .before .before .put-definition .ensures)
 
 pub story-image-definition-spec : {M : Type 1} → statement M
 story-image-definition-spec =
@@ -50,11 +33,6 @@ story-image-definition-spec =
     returns
     view-of-requires
     definition-requires
-    enum-told
-    enum-known-found
-    definition-words-requires
-    slice-aggregate-hand-over
-    hand-over-requires
-    returns-2
+    put-definition-requires
     same-length
-    returns-3)
+    returns-2)

@@ -1,15 +1,14 @@
--- `story_image::lists::story_image_definition_item` meets its contract. Assumes nothing.
-use mathlib.Core.Path.{sym, ap, _∙_}
-use mathlib.Core.Option.{some}
+-- `story_image::lists::story_image_definition_item` meets its contract.
+use mathlib.Core.Path.{ap}
 use denote.Ref.{now}
-use Rattle.answers.specs.Handed.{itemAnswer}
-use Rattle.story_image.proofs.Asking.{nothing, handing, too-few, enough}
+use Rattle.answers.specs.AnswerWords.{itemAnswer}
+use Rattle.story_image.proofs.Views.{no-view, asked}
 use borrow.Author.Needs.{needs}
 use Rattle.story_image.proofs.lists.story_image_definition_item.Statement.{statement}
 use Rattle.story_image.proofs.lists.story_image_definition_item.Tie as tie
 
 returns : tie.Need-returns
-returns c = nothing _ (now (c .before .before .before .before .args .answer)) (too-few (now (c .before .before .before .before .args .view)) _ (c .if1 .taken))
+returns c = no-view (now (c .before .before .before .before .args .view)) _ _ (c .if1 .taken)
 
 view-of-requires : tie.Need-view-of-requires
 view-of-requires c κs = search needs
@@ -17,31 +16,15 @@ view-of-requires c κs = search needs
 definition-item-requires : tie.Need-definition-item-requires
 definition-item-requires c κs = search needs
 
-enum-told : tie.Need-enum-told
-enum-told c = search needs
-
-enum-known-found : tie.Need-enum-known-found
-enum-known-found c = search needs
-
-item-words-requires : tie.Need-item-words-requires
-item-words-requires c κs = search needs
-
-slice-aggregate-hand-over : tie.Need-slice-aggregate-hand-over
-slice-aggregate-hand-over c = search needs
-
-hand-over-requires : tie.Need-hand-over-requires
-hand-over-requires c κs = search needs
-
-returns-2 : tie.Need-returns-2
-returns-2 c = nothing _ (now (c .before .before .before .before .before .before .before .before .args .answer)) (ap itemAnswer (sym (c .enum-told .given .1) ∙ c .before .before .definition-item .ensures) ∙ enough (now (c .before .before .before .before .before .before .before .before .args .view)) _ (c .before .before .before .before .if1 .left) _ (c .before .before .before .view-of .ensures))
+put-item-requires : tie.Need-put-item-requires
+put-item-requires c κs = search needs
 
 same-length : tie.Need-same-length
 same-length c = search needs
 
-returns-3 : tie.Need-returns-3
-returns-3 c =
-    handing _ _ _ (now (c .before .before .before .before .before .before .before .before .before .before .before .before .before .before .before .args .answer)) _
-    (ap some (c .before .before .before .before .before .item-words .ensures) ∙ ap itemAnswer (sym (c .before .before .before .before .before .before .before .found .given .1) ∙ c .before .before .before .before .before .before .before .before .before .definition-item .ensures) ∙ enough (now (c .before .before .before .before .before .before .before .before .before .before .before .before .before .before .before .args .view)) _ (c .before .before .before .before .before .before .before .before .before .before .before .if1 .left) _ (c .before .before .before .before .before .before .before .before .before .before .view-of .ensures)) (c .before .before .hand-over .ensures)
+returns-2 : tie.Need-returns-2
+returns-2 c =
+    asked (now (c .before .before .before .before .before .before .before .before .before .before .args .view)) _ _ _ _ (c .before .before .before .before .before .before .if1 .left) _ (c .before .before .before .before .before .view-of .ensures) _ (ap itemAnswer (c .before .before .before .before .definition-item .ensures)) (c .before .before .put-item .ensures)
 
 pub story-image-definition-item-spec : {M : Type 1} → statement M
 story-image-definition-item-spec =
@@ -50,11 +33,6 @@ story-image-definition-item-spec =
     returns
     view-of-requires
     definition-item-requires
-    enum-told
-    enum-known-found
-    item-words-requires
-    slice-aggregate-hand-over
-    hand-over-requires
-    returns-2
+    put-item-requires
     same-length
-    returns-3)
+    returns-2)

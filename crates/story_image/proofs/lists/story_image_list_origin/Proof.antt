@@ -1,8 +1,7 @@
--- `story_image::lists::story_image_list_origin` meets its contract. Assumes nothing.
-use mathlib.Core.Path.{sym, ap, _∙_}
-use denote.Ref.{now}
-use Rattle.answers.specs.Handed.{placeAnswer}
-use Rattle.story_image.proofs.Asking.{nothing, handing}
+-- `story_image::lists::story_image_list_origin` meets its contract.
+use mathlib.Core.Path.{ap}
+use Rattle.answers.specs.AnswerWords.{placeAnswer}
+use Rattle.answers.proofs.AnswerSlices.{answered-as}
 use borrow.Author.Needs.{needs}
 use Rattle.story_image.proofs.lists.story_image_list_origin.Statement.{statement}
 use Rattle.story_image.proofs.lists.story_image_list_origin.Tie as tie
@@ -10,38 +9,15 @@ use Rattle.story_image.proofs.lists.story_image_list_origin.Tie as tie
 list-origin-requires : tie.Need-list-origin-requires
 list-origin-requires c κs = search needs
 
-enum-told : tie.Need-enum-told
-enum-told c = search needs
-
-enum-known-text : tie.Need-enum-known-text
-enum-known-text c = search needs
-
-slice-aggregate-hand-over : tie.Need-slice-aggregate-hand-over
-slice-aggregate-hand-over c = search needs
-
-hand-over-requires : tie.Need-hand-over-requires
-hand-over-requires c κs = search needs
-
-returns : tie.Need-returns
-returns c = nothing _ (now (c .before .before .before .before .before .before .args .answer)) (ap placeAnswer (sym (c .enum-told .given .1) ∙ c .before .before .list-origin .ensures))
+put-place-requires : tie.Need-put-place-requires
+put-place-requires c κs = search needs
 
 same-length : tie.Need-same-length
 same-length c = search needs
 
-returns-2 : tie.Need-returns-2
-returns-2 c =
-    handing _ _ _ (now (c .before .before .before .before .before .before .before .before .before .before .before .before .args .answer)) _
-    (ap placeAnswer (sym (c .before .before .before .before .before .before .text .given .1) ∙ c .before .before .before .before .before .before .before .before .list-origin .ensures)) (c .before .before .hand-over .ensures)
+returns : tie.Need-returns
+returns c = answered-as _ _ _ _ _ (ap placeAnswer (c .before .before .before .before .list-origin .ensures)) (c .before .before .put-place .ensures)
 
 pub story-image-list-origin-spec : {M : Type 1} → statement M
 story-image-list-origin-spec =
-    tie.close
-    (tie.spec
-    list-origin-requires
-    enum-told
-    enum-known-text
-    slice-aggregate-hand-over
-    hand-over-requires
-    returns
-    same-length
-    returns-2)
+    tie.close (tie.spec list-origin-requires put-place-requires same-length returns)

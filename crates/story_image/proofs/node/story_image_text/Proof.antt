@@ -1,15 +1,14 @@
--- `story_image::node::story_image_text` meets its contract. Assumes nothing.
-use mathlib.Core.Path.{sym, ap, _∙_}
+-- `story_image::node::story_image_text` meets its contract.
+use mathlib.Core.Path.{ap}
 use denote.Ref.{now}
-use lib.ListN.{length}
-use Rattle.answers.specs.Handed.{partAnswer}
-use Rattle.story_image.proofs.Asking.{nothing, handing, too-few, enough}
+use Rattle.answers.specs.AnswerWords.{partAnswer}
+use Rattle.story_image.proofs.Views.{no-view, asked}
 use borrow.Author.Needs.{needs}
 use Rattle.story_image.proofs.node.story_image_text.Statement.{statement}
 use Rattle.story_image.proofs.node.story_image_text.Tie as tie
 
 returns : tie.Need-returns
-returns c = nothing _ (now (c .before .before .before .before .args .answer)) (too-few (now (c .before .before .before .before .args .view)) _ (c .if1 .taken))
+returns c = no-view (now (c .before .before .before .before .args .view)) _ _ (c .if1 .taken)
 
 view-of-requires : tie.Need-view-of-requires
 view-of-requires c κs = search needs
@@ -17,25 +16,16 @@ view-of-requires c κs = search needs
 text-answer-requires : tie.Need-text-answer-requires
 text-answer-requires c κs = search needs
 
-enum-told : tie.Need-enum-told
-enum-told c = search needs
-
-enum-known-text : tie.Need-enum-known-text
-enum-known-text c = search needs
-
-hand-part-requires : tie.Need-hand-part-requires
-hand-part-requires c κs = search needs
-
-returns-2 : tie.Need-returns-2
-returns-2 c = nothing _ (now (c .before .before .before .before .before .before .before .before .before .args .answer)) (ap (partAnswer (length (now (c .before .before .before .before .before .before .before .before .before .args .bytes))) (c .before .before .before .before .view-of .result .strings .offset)) (sym (c .enum-told .given .1) ∙ c .before .before .text-answer .ensures) ∙ enough (now (c .before .before .before .before .before .before .before .before .before .args .view)) _ (c .before .before .before .before .before .if1 .left) _ (c .before .before .before .before .view-of .ensures))
+put-text-requires : tie.Need-put-text-requires
+put-text-requires c κs = search needs
 
 same-length : tie.Need-same-length
 same-length c = search needs
 
-returns-3 : tie.Need-returns-3
-returns-3 c =
-    handing _ _ _ (now (c .before .before .before .before .before .before .before .before .before .before .before .before .before .before .args .answer)) _
-    (ap (partAnswer (length (now (c .before .before .before .before .before .before .before .before .before .before .before .before .before .before .args .bytes))) (c .before .before .before .before .before .before .before .before .before .view-of .result .strings .offset)) (sym (c .before .before .before .before .before .text .given .1) ∙ c .before .before .before .before .before .before .before .text-answer .ensures) ∙ enough (now (c .before .before .before .before .before .before .before .before .before .before .before .before .before .before .args .view)) _ (c .before .before .before .before .before .before .before .before .before .before .if1 .left) _ (c .before .before .before .before .before .before .before .before .before .view-of .ensures)) (c .before .before .hand-part .ensures)
+returns-2 : tie.Need-returns-2
+returns-2 c =
+    let a = c .before .before .before .before .before .before .before .before .before .before .before .args in
+    asked (now (a .view)) _ _ _ _ (c .before .before .before .before .before .before .before .if1 .left) _ (c .before .before .before .before .before .before .view-of .ensures) _ (ap (partAnswer _ _) (c .before .before .before .before .text-answer .ensures)) (c .before .before .put-text .ensures)
 
 pub story-image-text-spec : {M : Type 1} → statement M
 story-image-text-spec =
@@ -44,9 +34,6 @@ story-image-text-spec =
     returns
     view-of-requires
     text-answer-requires
-    enum-told
-    enum-known-text
-    hand-part-requires
-    returns-2
+    put-text-requires
     same-length
-    returns-3)
+    returns-2)

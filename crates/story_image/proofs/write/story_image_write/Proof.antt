@@ -1,5 +1,5 @@
--- `story_image::write::story_image_write` meets its contract. Assumes nothing.
-use Rattle.story_image.proofs.Handing.{no-length, written-number, written-words, written-output, written-length, refused-number, refused-words, refused-output, refused-length}
+-- `story_image::write::story_image_write` meets its contract.
+use Rattle.story_image.proofs.Writes.{no-length, written-number, written-words, written-output, written-length, refused-number, refused-words, refused-output, refused-length}
 use borrow.Author.Needs.{needs}
 use Rattle.story_image.proofs.write.story_image_write.Statement.{statement}
 use Rattle.story_image.proofs.write.story_image_write.Tie as tie
@@ -15,7 +15,7 @@ returns c =
     let a = c .before .before .before .before .before .before .before .before .before .before .before .before .before .before .before .args in
     let said = c .before .before .write-without-words .ensures in
     let kept = no-length _ _ (a .work .now) (a .written .now) _ _ _ _ (c .before .before .before .before .if1 .taken) (said .0) in
-    (kept .0, (kept .1, (said .1, kept .2)))
+    record { number = kept .0; output = said .1; words = kept .1; long = kept .2 }
 
 encode-requires : tie.Need-encode-requires
 encode-requires c κs = search needs
@@ -39,7 +39,13 @@ same-length-4 : tie.Need-same-length-4
 same-length-4 c = search needs
 
 returns-2 : tie.Need-returns-2
-returns-2 c = (search (needs, written-number), (search (needs, written-words), (search (needs, written-output), search (needs, written-length))))
+returns-2 c =
+    record {
+      number = search (needs, written-number);
+      output = search (needs, written-output);
+      words = search (needs, written-words);
+      long = search (needs, written-length);
+    }
 
 same-length-5 : tie.Need-same-length-5
 same-length-5 c = search needs
@@ -48,7 +54,13 @@ same-length-6 : tie.Need-same-length-6
 same-length-6 c = search needs
 
 returns-3 : tie.Need-returns-3
-returns-3 c = (search (needs, refused-number), (search (needs, refused-words), (search (needs, refused-output), search (needs, refused-length))))
+returns-3 c =
+    record {
+      number = search (needs, refused-number);
+      output = search (needs, refused-output);
+      words = search (needs, refused-words);
+      long = search (needs, refused-length);
+    }
 
 pub story-image-write-spec : {M : Type 1} → statement M
 story-image-write-spec =

@@ -1,5 +1,5 @@
--- `story_image::write::write_without_words` meets its contract. Assumes nothing.
-use Rattle.story_image.proofs.Handing.{number, output-by}
+-- `story_image::write::write_without_words` meets its contract.
+use Rattle.story_image.proofs.Writes.{number, output-by}
 use borrow.Author.Needs.{needs}
 use Rattle.story_image.proofs.write.write_without_words.Statement.{statement}
 use Rattle.story_image.proofs.write.write_without_words.Tie as tie

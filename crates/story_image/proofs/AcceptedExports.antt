@@ -1,0 +1,398 @@
+-- Nothing sticks at the edge: on accepted bytes an exported query answers exactly if the inner one does, with its words.
+use Prim.Native.Nat.{ℕ, zero, suc, _+_, _*_, _/_, _≤_, _<_, _^_}
+use mathlib.Core.Path.{_≡_, refl, sym, ap, _∙_}
+use mathlib.Core.List.{List, [], _∷_, _++_}
+use mathlib.Core.Bool.{Bool, true, false, cond, not, _&&_, _||_}
+use mathlib.Core.Option.{Option, none, some}
+use native.Mathlib.Omega.{arith}
+use lib.ListN.{length, drop}
+use lib.Dec.{leb, ltb}
+use borrow.Author.Tests.{le-leb, leb-true}
+use Rattle.laws.specs.Lists.{Below}
+use Rattle.laws.specs.Counted.{lastOf}
+use Rattle.laws.proofs.First.{both}
+use Rattle.words.specs.Words.{NONE, wordAt}
+use Rattle.image.specs.declared.ImageView.{ImageView}
+use Rattle.image.specs.declared.NodeRecord.{NodeRecord}
+use Rattle.image.specs.Sections.{Sections, definitionCount, itemCount, present, inside, textIn}
+use Rattle.image.specs.Header.{headerRule, viewOf, sectionsBy, sectionsOf}
+use Rattle.image.specs.Entries.{nodeIn}
+use Rattle.image.proofs.Opening.{Opens, opens, view-inside, view-counts, length-word}
+use Rattle.image.proofs.Tests.{both-true}
+use Rattle.index.specs.Definitions.{firstItem, itemsOf}
+use Rattle.names.specs.ControlCommand.{commandNamed}
+use Rattle.names.specs.NativeFunctionCall.{operatorNamed}
+use Rattle.names.specs.declared.control_command.CommandType.{CommandType}
+use Rattle.names.specs.declared.native_function_call.Op.{Op}
+use Rattle.records.specs.Fields.{Kind, Container, Choice, Command as Named, Divert, Glue, Operator as Operation, Tag, BoolValue, IntValue, FloatValue, StringValue, ListValue, TargetValue, PointerValue, Assignment, Reference, Void, Unknown, kindOf}
+use Rattle.load.specs.Load.{loadRule}
+use Rattle.views.specs.declared.Span.{Span}
+use Rattle.views.specs.declared.Found.{Found}
+use Rattle.views.specs.declared.Found.the-variants as found
+use Rattle.views.specs.declared.Count.{Count}
+use Rattle.views.specs.declared.Count.the-variants as count
+use Rattle.views.specs.declared.NamedAnswer.{NamedAnswer}
+use Rattle.views.specs.declared.NamedAnswer.the-variants as named
+use Rattle.views.specs.declared.TextAnswer.{TextAnswer}
+use Rattle.views.specs.declared.TextAnswer.the-variants as place
+use Rattle.views.specs.declared.EntryAnswer.{EntryAnswer}
+use Rattle.views.specs.declared.EntryAnswer.the-variants as entry
+use Rattle.views.specs.declared.DefinitionAnswer.{DefinitionAnswer}
+use Rattle.views.specs.declared.DefinitionAnswer.the-variants as definition
+use Rattle.views.specs.declared.ItemAnswer.{ItemAnswer}
+use Rattle.views.specs.declared.ItemAnswer.the-variants as item
+use Rattle.views.specs.declared.ValueView.the-variants as value
+use Rattle.views.specs.declared.NodeKindView.{NodeKindView}
+use Rattle.views.specs.declared.NodeKindView.the-variants as kind
+use Rattle.views.specs.declared.KindAnswer.{KindAnswer}
+use Rattle.views.specs.declared.KindAnswer.the-variants as kindly
+use Rattle.views.specs.declared.NodeAnswer.{NodeAnswer}
+use Rattle.views.specs.declared.NodeAnswer.the-variants as node
+use Rattle.views.specs.View.{span, shown, withText, ofCommand, ofOperator, kindView, withKind, recordView, nodeView}
+use Rattle.views.specs.Children.{childCountOf, namedCountOf, childQuery, namedQuery, textQuery}
+use Rattle.views.specs.Lists.{listPart, listEntry, listOrigin, definitionQuery, itemQuery}
+use Rattle.walks.specs.Walk.{components, resolve}
+use Rattle.lookups.specs.declared.ListItem.{ListItem}
+use Rattle.lookups.specs.declared.ListItemAnswer.{ListItemAnswer}
+use Rattle.lookups.specs.declared.ListItemAnswer.the-variants as listed
+use Rattle.texts.specs.Text.{same}
+use Rattle.texts.specs.Dots.{hasDot, beforeDot, afterDot}
+use Rattle.utf8.specs.White.{blank}
+use Rattle.lookups.specs.Lookup.{definitionName, itemIn, placeIn, searched, answers, listItemIn, listItemAt, lastItem, findNamed, listItem}
+use Rattle.lookups.proofs.Lookups.{place-below}
+use Rattle.answers.specs.AnswerWords.{numberOf, countWords, foundAnswer, countAnswer, namedAnswer, placeAnswer, partWords, partAnswer, entryAnswer, definitionAnswer, itemAnswer, listItemWords, listItemAnswer, listCountWords}
+use Rattle.answers.specs.NodeViewWords.{kindWords, nodeAnswer, listOfKind, listPlace}
+use Rattle.answers.proofs.AnswerSlices.{count-some, part-some}
+use Rattle.answers.proofs.Records.{eight}
+use Rattle.story_image.specs.Exported.{viewLength, wordsOfView, viewBy, under, writtenAfter}
+use Rattle.story_image.specs.Queries.{atList, firstWords}
+use Rattle.story_image.specs.Accepted.{Answers, ViewOf, Exports, AcceptedExports, wordsOfPart, wordsOfText, wordsOfListItem}
+use Rattle.story_image.proofs.Views.{enough}
+
+-- ---- how many words an answer has
+
+none-some : {A : Type 0} {x : A} → none ≡ some x → ⊥
+none-some {A} {x} e = let z : _≡_ {A = ℕ} 0 1 = cc in omega arith
+
+some-inner : {A : Type 0} (x y : A) → some x ≡ some y → x ≡ y
+some-inner x y e = cc
+
+abbrev Size : ℕ → Option (List ℕ) → Type 0
+Size k o = (ws : List ℕ) → o ≡ some ws → length ws ≡ k
+
+some-size : (k : ℕ) (us : List ℕ) → length us ≡ k → Size k (some us)
+some-size k us h ws e = ap length (sym (some-inner us ws e)) ∙ h
+
+none-size : (k : ℕ) → Size k none
+none-size k ws e = absurd (none-some e)
+
+found-size : (a : Found) → Size 1 (foundAnswer a)
+found-size (found.Node n) = some-size 1 (n ∷ []) refl
+found-size found.NotFound = none-size 1
+
+count-size : (a : Count) → Size 1 (countAnswer a)
+count-size (count.Of n) = some-size 1 (n ∷ []) refl
+count-size count.NotFound = none-size 1
+
+named-size : (a : NamedAnswer) → Size 3 (namedAnswer a)
+named-size (named.Named e) = some-size 3 _ refl
+named-size named.NotFound = none-size 3
+
+text-size : (strings : ℕ) (a : TextAnswer) → Size 2 (wordsOfText strings a)
+text-size strings (place.Text t) = some-size 2 _ refl
+text-size strings place.NotFound = none-size 2
+
+place-size : (a : TextAnswer) → Size 2 (placeAnswer a)
+place-size (place.Text t) = some-size 2 _ refl
+place-size place.NotFound = none-size 2
+
+entry-size : (a : EntryAnswer) → Size 5 (entryAnswer a)
+entry-size (entry.Entry e) = some-size 5 _ refl
+entry-size entry.NotFound = none-size 5
+
+definition-size : (a : DefinitionAnswer) → Size 3 (definitionAnswer a)
+definition-size (definition.Definition d) = some-size 3 _ refl
+definition-size definition.NotFound = none-size 3
+
+first-size : (s : Sections) (d : ℕ) (a : DefinitionAnswer) → Size 1 (firstWords s d a)
+first-size s d (definition.Definition x) = some-size 1 _ refl
+first-size s d definition.NotFound = none-size 1
+
+item-size : (a : ItemAnswer) → Size 3 (itemAnswer a)
+item-size (item.Item i) = some-size 3 _ refl
+item-size item.NotFound = none-size 3
+
+list-item-size : (a : ListItemAnswer) → Size 3 (wordsOfListItem a)
+list-item-size (listed.Item i) = some-size 3 _ refl
+list-item-size listed.NotFound = none-size 3
+
+node-size : (a : NodeAnswer) → Size 10 (nodeAnswer a)
+node-size (node.View v) = let e = eight (v .kind) in some-size 10 _ (omega arith)
+node-size node.NotFound = none-size 10
+
+counts-size : (payload : List ℕ) → Size 2 (listCountWords payload)
+counts-size payload = by (leb 8 (length payload))
+  where
+    by : (b : Bool) → Size 2 (cond b (some (wordAt payload 0 ∷ wordAt payload 4 ∷ [])) none)
+    by true = some-size 2 _ refl
+    by false = none-size 2
+
+list-size : (k : ℕ) (o : Option Span) (query : Span → Option (List ℕ)) → ((t : Span) → Size k (query t)) → Size k (atList o query)
+list-size k none query h = none-size k
+list-size k (some t) query h = h t
+
+-- ---- an exported query against the inner one
+
+answering : (k : ℕ) (exported inner : Option (List ℕ)) → exported ≡ inner → Size k inner → Answers k exported inner
+unfolding numberOf
+answering k exported inner e size =
+    record {
+      words = e;
+      found = λ ws h. (size ws h, λ n l. ap (λ (o : Option (List ℕ)). numberOf o n) (e ∙ h) ∙ ap (λ (b : Bool). cond b 0 18) (le-leb (length ws) n (rw (size ws h) l)));
+      missing = λ h n. ap (λ (o : Option (List ℕ)). numberOf o n) (e ∙ h);
+    }
+
+-- ---- the view that a load wrote
+
+module _ (bs view : List ℕ) (v : ViewOf bs view) where
+  view-long : viewLength ≤ length view
+  unfolding writtenAfter
+  view-long = rw (v .written) (omega arith)
+
+  view-same : viewOf bs ≡ viewBy view
+  unfolding writtenAfter
+  view-same = rw (v .written)
+
+  pub asked-as : (query : ImageView → Option (List ℕ)) → under view query ≡ query (viewOf bs)
+  asked-as query = sym (enough view query view-long (viewOf bs) view-same)
+
+-- ---- a list value lies in the payload
+
+abbrev listOf : KindAnswer → Option Span
+listOf (kindly.Kind k) = listOfKind k
+listOf kindly.NotFound = none
+
+abbrev Lies : ℕ → Option Span → Type 0
+Lies n o = (t : Span) → o ≡ some t → t .offset + t .len ≤ n
+
+none-lies : (n : ℕ) → Lies n none
+none-lies n t e = absurd (none-some e)
+
+module _ (strings : List ℕ) (payload : ℕ) (r : NodeRecord) where
+  with-lies : (g : Span → KindAnswer) → ((t : Span) → Lies payload (listOf (g t))) → Lies payload (listOf (withText strings r g))
+  unfolding withText
+  with-lies g h = by (shown (length strings) (r .f0) (r .f1))
+    where
+      by : (b : Bool) → Lies payload (listOf (cond b (g (span (r .f0) (r .f1))) kindly.NotFound))
+      by true = h (span (r .f0) (r .f1))
+      by false = none-lies payload
+
+  tested-lies : (b : Bool) (k : NodeKindView) → Lies payload (listOfKind k) → Lies payload (listOf (cond b (kindly.Kind k) kindly.NotFound))
+  tested-lies true k h = h
+  tested-lies false k h = none-lies payload
+
+  command-lies : (o : Option CommandType) → Lies payload (listOf (ofCommand o))
+  command-lies none = none-lies payload
+  command-lies (some c) = none-lies payload
+
+  operator-lies : (o : Option Op) → Lies payload (listOf (ofOperator o))
+  operator-lies none = none-lies payload
+  operator-lies (some c) = none-lies payload
+
+  kind-lies : (k : Kind) → Lies payload (listOf (kindView strings payload r k))
+  unfolding kindView
+  kind-lies Container = none-lies payload
+  kind-lies Choice = none-lies payload
+  kind-lies Named = with-lies _ (λ t. command-lies (commandNamed (textIn strings (t .offset) (t .len))))
+  kind-lies Divert = tested-lies (leb (r .f6 / 8) 2) _ (none-lies payload)
+  kind-lies Glue = none-lies payload
+  kind-lies Operation = with-lies _ (λ t. operator-lies (operatorNamed (textIn strings (t .offset) (t .len))))
+  kind-lies Tag = with-lies _ (λ t. none-lies payload)
+  kind-lies BoolValue = none-lies payload
+  kind-lies IntValue = none-lies payload
+  kind-lies FloatValue = none-lies payload
+  kind-lies StringValue = with-lies _ (λ t. none-lies payload)
+  kind-lies ListValue = by (leb (r .f0 + r .f1) payload) refl
+    where
+      by : (b : Bool) → leb (r .f0 + r .f1) payload ≡ b → Lies payload (listOf (cond b (kindly.Kind (kind.Value (value.List (span (r .f0) (r .f1))))) kindly.NotFound))
+      by true e t q = let z = some-inner (span (r .f0) (r .f1)) t q in rw (← z) (leb-true (r .f0 + r .f1) payload e)
+      by false e t q = none-lies payload t q
+  kind-lies TargetValue = with-lies _ (λ t. none-lies payload)
+  kind-lies PointerValue = with-lies _ (λ t. none-lies payload)
+  kind-lies Assignment = with-lies _ (λ t. none-lies payload)
+  kind-lies Reference = with-lies _ (λ t. none-lies payload)
+  kind-lies Void = none-lies payload
+  kind-lies Unknown = none-lies payload
+
+  record-lies : Lies payload (listPlace (recordView strings payload r))
+  unfolding recordView
+  record-lies = by (kindView strings payload r (kindOf (r .tag))) (kind-lies (kindOf (r .tag)))
+    where
+      by : (a : KindAnswer) → Lies payload (listOf a) → Lies payload (listPlace (withKind strings payload r a))
+      by (kindly.Kind k) h = h
+      by kindly.NotFound h = h
+
+pub list-lies : (s : Sections) (i : ℕ) → Lies (length (s .payload)) (listPlace (nodeView s i))
+unfolding nodeView
+list-lies s i = by (inside s i)
+  where
+    by : (b : Bool) → Lies (length (s .payload)) (listPlace (cond b (recordView (s .strings) (length (s .payload)) (nodeIn s i)) node.NotFound))
+    by true = record-lies (s .strings) (length (s .payload)) (nodeIn s i)
+    by false = none-lies (length (s .payload))
+
+-- ---- the numbers of a list item are below the counts
+
+last-below : (n : ℕ) (t : ℕ → Bool) (d : ℕ) → lastOf n t ≡ some d → d < n
+unfolding lastOf
+last-below zero t d e = absurd (none-some e)
+last-below (suc n) t d e = by (t n) e (last-below n t d)
+  where
+    by : (b : Bool) → cond b (some n) (lastOf n t) ≡ some d → (lastOf n t ≡ some d → d < n) → d < suc n
+    by true q r = let z = some-inner n d q in omega arith
+    by false q r = let h = r q in omega arith
+
+module _ (s : Sections) where
+  abbrev Numbers : ListItemAnswer → Type 0
+  Numbers a = (i : ListItem) → a ≡ listed.Item i → (i .definition < definitionCount s) × (i .item < itemCount s)
+
+  item-apart : (i : ListItem) → listed.NotFound ≡ listed.Item i → ⊥
+  item-apart i e = let z : _≡_ {A = ℕ} 0 1 = cc in omega arith
+
+  item-inner : (x y : ListItem) → listed.Item x ≡ listed.Item y → x ≡ y
+  item-inner x y e = cc
+
+  item-below : (d : ℕ) (name : List ℕ) (j : ℕ) → itemIn s d name ≡ some j → firstItem s d + j < itemCount s
+  unfolding itemIn
+  item-below d name j e = by (leb (firstItem s d + itemsOf s d) (itemCount s)) refl e
+    where
+      by : (b : Bool) → leb (firstItem s d + itemsOf s d) (itemCount s) ≡ b
+          → cond b (searched (s .items) (s .strings) (firstItem s d) (itemsOf s d) name) none ≡ some j → firstItem s d + j < itemCount s
+      by true h q =
+          let below = place-below (s .items) (s .strings) (firstItem s d) (itemsOf s d) name j q in
+          let whole = leb-true (firstItem s d + itemsOf s d) (itemCount s) h in
+          omega arith
+      by false h q = absurd (none-some q)
+
+  place-item : (given : Bool) (origin name : List ℕ) (d j : ℕ) → placeIn s given origin name d ≡ some j → itemIn s d name ≡ some j
+  unfolding placeIn
+  place-item given origin name d j e = by (not given || same origin (definitionName s d)) e
+    where
+      by : (b : Bool) → cond b (itemIn s d name) none ≡ some j → itemIn s d name ≡ some j
+      by true q = q
+      by false q = absurd (none-some q)
+
+  last-numbers : (given : Bool) (origin name : List ℕ) → Numbers (lastItem s given origin name)
+  unfolding lastItem
+  last-numbers given origin name = by (lastOf (definitionCount s) (answers s given origin name)) refl
+    where
+      at : (d : ℕ) → d < definitionCount s → (o : Option ℕ) → placeIn s given origin name d ≡ o → Numbers (listItemAt s d o)
+      at d h none p i e = absurd (item-apart i e)
+      at d h (some j) p i e =
+          let z = item-inner _ i e in
+          rw (← z) (h, item-below d name j (place-item given origin name d j p))
+
+      by : (o : Option ℕ) → lastOf (definitionCount s) (answers s given origin name) ≡ o → Numbers (listItemIn s given origin name o)
+      by none p i e = absurd (item-apart i e)
+      by (some d) p i e = at d (last-below (definitionCount s) (answers s given origin name) d p) (placeIn s given origin name d) refl i e
+
+  pub item-numbers : (name : List ℕ) → Numbers (listItem s name)
+  unfolding listItem
+  item-numbers name = by (blank name) (hasDot name)
+    where
+      by : (a b : Bool)
+          → Numbers (cond a listed.NotFound (cond b (lastItem s true (beforeDot name) (afterDot name)) (lastItem s false name name)))
+      by true b i e = absurd (item-apart i e)
+      by false true i e = last-numbers true (beforeDot name) (afterDot name) i e
+      by false false i e = last-numbers false name name i e
+
+-- ---- accepted bytes
+
+module _ (bs : List ℕ) (o : Opens bs) (short : length bs < 2 ^ 32) where
+  abbrev own : Sections
+  own = sectionsOf bs
+
+  text-whole : (t : Span) → partAnswer (length bs) (viewOf bs .strings .offset) (textQuery own t) ≡ wordsOfText (viewOf bs .strings .offset) (textQuery own t)
+  unfolding textQuery
+  text-whole t = by (shown (length (own .strings)) (t .offset) (t .len)) refl
+    where
+      by : (b : Bool) → shown (length (own .strings)) (t .offset) (t .len) ≡ b
+          → partAnswer (length bs) (viewOf bs .strings .offset) (cond b (place.Text t) place.NotFound)
+          ≡ wordsOfText (viewOf bs .strings .offset) (cond b (place.Text t) place.NotFound)
+      by true e =
+          let inside = leb-true (t .offset + t .len) (length (own .strings)) (both-true (present (t .offset) (t .len)) _ e .1) in
+          let within = view-inside bs o .strings in
+          let long = view-counts bs o .strings in
+          sym (part-some (length bs) (viewOf bs .strings .offset) t (omega arith) (omega arith))
+      by false e = refl
+
+  payload-whole : (p : Option Span) → Lies (length (own .payload)) p
+      → atList p (λ t. partWords (length bs) (viewOf bs .payload .offset) t) ≡ atList p (λ t. some (wordsOfPart (viewOf bs .payload .offset) t))
+  payload-whole none h = refl
+  payload-whole (some t) h =
+      let inside = h t refl in
+      let within = view-inside bs o .payload in
+      let long = view-counts bs o .payload in
+      sym (part-some (length bs) (viewOf bs .payload .offset) t (omega arith) (omega arith))
+
+  definitions-few : definitionCount own ≤ NONE
+  definitions-few =
+      let within = view-inside bs o .definitions in
+      let long = view-counts bs o .definitions in
+      omega arith
+
+  items-few : itemCount own ≤ NONE
+  items-few =
+      let within = view-inside bs o .items in
+      let long = view-counts bs o .items in
+      omega arith
+
+  item-whole : (a : ListItemAnswer) → Numbers own a → listItemAnswer a ≡ wordsOfListItem a
+  item-whole (listed.Item i) h =
+      let below = h i refl in
+      let d = below .0 in
+      let j = below .1 in
+      rw (le-leb (i .definition) NONE (omega (arith, definitions-few)), le-leb (i .item) NONE (omega (arith, items-few)))
+  item-whole listed.NotFound h = refl
+
+module _ (bs view : List ℕ) (o : Opens bs) (short : length bs < 2 ^ 32) (v : ViewOf bs view) where
+  abbrev s : Sections
+  s = sectionsOf bs
+
+  abbrev atNode : ℕ → Option Span
+  atNode i = listPlace (nodeView s i)
+
+  pub exports : Exports bs view s
+  exports =
+      record {
+        node-view = λ i. answering 10 _ _ (asked-as bs view v _) (node-size (nodeView s i));
+        text = λ at len. answering 2 _ _ (asked-as bs view v _ ∙ text-whole bs o short (span at len)) (text-size _ (textQuery s (span at len)));
+        child-count = λ i. answering 1 _ _ (asked-as bs view v _) (count-size (childCountOf s i));
+        child = λ i j. answering 1 _ _ (asked-as bs view v _) (found-size (childQuery s i j));
+        named-child-count = λ i. answering 1 _ _ (asked-as bs view v _) (count-size (namedCountOf s i));
+        named-child = λ i j. answering 3 _ _ (asked-as bs view v _) (named-size (namedQuery s i j));
+        find-named-child = λ i name. answering 1 _ _ (asked-as bs view v _) (found-size (findNamed s i name));
+        list-payload = λ i.
+            answering 2 _ _ (asked-as bs view v _ ∙ payload-whole bs o short (atNode i) (list-lies s i))
+            (list-size 2 (atNode i) _ (λ t. some-size 2 (wordsOfPart (viewOf bs .payload .offset) t) refl));
+        list-counts = λ i. answering 2 _ _ (asked-as bs view v _) (list-size 2 (atNode i) _ (λ t. counts-size (listPart s t)));
+        list-entry = λ i j.
+            answering 5 _ _ (asked-as bs view v _) (list-size 5 (atNode i) _ (λ t. entry-size (listEntry (listPart s t) (s .strings) j)));
+        list-origin = λ i j.
+            answering 2 _ _ (asked-as bs view v _) (list-size 2 (atNode i) _ (λ t. place-size (listOrigin (listPart s t) (s .strings) j)));
+        definition-count =
+            answering 1 _ _ (asked-as bs view v _ ∙ sym (count-some (definitionCount s) (definitions-few bs o short)))
+            (some-size 1 (definitionCount s ∷ []) refl);
+        definition = λ d. answering 3 _ _ (asked-as bs view v _) (definition-size (definitionQuery s d));
+        first-item = λ d. answering 1 _ _ (asked-as bs view v _) (first-size s d (definitionQuery s d));
+        definition-item = λ d j. answering 3 _ _ (asked-as bs view v _) (item-size (itemQuery s d j));
+        list-item = λ name.
+            answering 3 _ _ (asked-as bs view v _ ∙ item-whole bs o short (listItem s name) (item-numbers s name)) (list-item-size (listItem s name));
+        walk = λ origin relative path names.
+            answering 1 _ _ (asked-as bs view v _) (found-size (resolve s relative origin (components names path)));
+      }
+
+pub accepted-exports : AcceptedExports
+unfolding loadRule
+accepted-exports bs view work b h v =
+    let o = opens bs (both (headerRule bs) _ h .0) in
+    exports bs view o (length-word bs b o) v

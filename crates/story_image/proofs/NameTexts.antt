@@ -1,0 +1,120 @@
+-- Texts of commands and operators: their numbers, and the slices that are lent for a text and its length.
+use Prim.Native.Nat.{ℕ, zero, suc, _+_, _-_, _≤_, _<_}
+use mathlib.Core.Path.{_≡_, refl, sym, ap, _∙_}
+use mathlib.Core.List.{List, [], _∷_, _++_}
+use mathlib.Core.Bool.{Bool, true, false, cond, _&&_}
+use mathlib.Core.Option.{Option, none, some}
+use native.Mathlib.Omega.{arith}
+use native.Mathlib.Nat.{not-suc-le-zero}
+use lib.ListN.{length, getD, set, drop, replicate, length-replicate, length-append}
+use lib.Seq.{length-take-le}
+use lib.Dec.{leb}
+use borrow.Author.Tests.{le-leb, lt-leb, leb-true}
+use Rattle.laws.specs.Refusal.{firstOf, unless, refusals}
+use Rattle.names.specs.Names.{commands, operators, numberIn, names}
+use Rattle.names.specs.Spelling.{elementAt, namedIn, nameOf, spelled}
+use Rattle.names.specs.declared.Name.{Name}
+use Rattle.names.proofs.Distinct.{place-number}
+use Rattle.names.proofs.Numbered.{Numbered, nameIn, every, at-element, past-element, named-number, named-yes}
+use Rattle.names.proofs.Spelled.{name-spelled}
+use Rattle.story_image.specs.Exported.{writtenAfter}
+use Rattle.story_image.specs.Writing.{lengthAfter}
+use Rattle.story_image.specs.Spelling.{Spelled, spelledNumber, textOr}
+
+-- ---- the lent slices
+
+pub unspelled : (o : Option (List ℕ)) (text size : List ℕ) → o ≡ none → Spelled o text text size size 18
+unfolding writtenAfter lengthAfter
+unspelled o text size e = record { number = sym (ap (λ (p : Option (List ℕ)). spelledNumber p (length text) (length size)) e); spelling = refl; size = refl }
+
+module _ (t text size : List ℕ) where
+  pub no-size : length size < 1 → Spelled (some t) text text size size 23
+  unfolding writtenAfter lengthAfter
+  no-size h = record { number = rw (lt-leb 1 (length size) h); spelling = refl; size = refl }
+
+  pub no-room : 1 ≤ length size → length text < length t → Spelled (some t) text text size size 23
+  unfolding writtenAfter lengthAfter
+  no-room k h = record { number = rw (le-leb 1 (length size) k, lt-leb (length t) (length text) h); spelling = refl; size = refl }
+
+first-set : (size : List ℕ) (n : ℕ) → 1 ≤ length size → set size 0 n ≡ n ∷ drop 1 size
+first-set [] n h = absurd (not-suc-le-zero h)
+first-set (x ∷ size) n h = refl
+
+module _ (t text size : List ℕ) where
+  pub roomy : 1 ≤ length size → length t ≤ length text → (now : List ℕ) (n : ℕ) → now ≡ t ++ drop (length t) text → n ≡ length t
+      → Spelled (some t) text now size (set size 0 n) 0
+  unfolding writtenAfter lengthAfter
+  roomy k h now n e q =
+      record {
+        number = rw (le-leb 1 (length size) k, le-leb (length t) (length text) h);
+        spelling = e;
+        size = first-set size n k ∙ ap (λ (m : ℕ). m ∷ drop 1 size) q;
+      }
+
+-- a text that equals another is spelled as it
+pub spelled-as : (p o : Option (List ℕ)) (text now size long : List ℕ) (r : ℕ) → p ≡ o → Spelled p text now size long r → Spelled o text now size long r
+spelled-as p o text now size long r e h =
+    record {
+      number = h .number ∙ ap (λ (q : Option (List ℕ)). spelledNumber q (length text) (length size)) e;
+      spelling = h .spelling ∙ ap (λ (q : Option (List ℕ)). writtenAfter r (textOr q) text) e;
+      size = h .size ∙ ap (λ (q : Option (List ℕ)). lengthAfter r (length (textOr q)) size) e;
+    }
+
+-- ---- a name fits its bytes
+
+pub name-fits : (w : Name) (t : List ℕ) → w ≡ nameOf t → length t ≤ 11 → (w .len ≤ 11) × (length (w .bytes) ≡ 11)
+name-fits w t e h =
+    let zeros : length {A = ℕ} (replicate {A = ℕ} (11 - length t) 0) ≡ 11 - length t = length-replicate {A = ℕ} (11 - length t) 0 in
+    rw e (h, length-append t (replicate (11 - length t) 0) ∙ rw zeros (omega arith))
+
+pub spelled-long : (w : Name) → (w .len ≤ 11) × (length (w .bytes) ≡ 11) → length (spelled w) ≡ w .len
+spelled-long w p = let h = p .0 in let e = p .1 in length-take-le (w .len) (w .bytes) (omega arith)
+
+commands-short : firstOf 26 (λ k. unless (leb (length (getD commands k [])) 11) 1) ≡ 0
+unfolding names refusals
+commands-short = refl
+
+pub command-short : (k : ℕ) → k < 26 → length (getD commands k []) ≤ 11
+command-short k h = leb-true (length (getD commands k [])) 11 (every 26 (λ j. leb (length (getD commands j [])) 11) commands-short k h)
+
+operators-short : firstOf 31 (λ k. unless (leb (length (getD operators k [])) 11) 1) ≡ 0
+unfolding names refusals
+operators-short = refl
+
+pub operator-short : (k : ℕ) → k < 31 → length (getD operators k []) ≤ 11
+operator-short k h = leb-true (length (getD operators k [])) 11 (every 31 (λ j. leb (length (getD operators j [])) 11) operators-short k h)
+
+-- ---- the text of a number
+
+pub command-count : length commands ≡ 26
+unfolding names
+command-count = refl
+
+pub operator-count : length operators ≡ 31
+unfolding names
+operator-count = refl
+
+module _ {A : Type 0} {number : A → ℕ} {kinds : List A} {names : List (List ℕ)} (n : Numbered number kinds names) (count : ℕ) (e : length names ≡ count) (k : ℕ) where
+  pub past-names : count ≤ k → elementAt names k ≡ none
+  past-names h = past-element names k (omega arith)
+
+  -- a number below the count is that of a kind
+  pub some-kind : k < count → none ≡ elementAt kinds k → ⊥
+  some-kind h q = none-some kinds (omega (arith, n .counts)) q
+    where
+      none-some : (xs : List A) → k < length xs → none ≡ elementAt xs k → ⊥
+      none-some [] l p = not-suc-le-zero l
+      none-some (x ∷ xs) l p = let s = at-element (x ∷ xs) k x l in let z : _≡_ {A = ℕ} 0 1 = cc in omega arith
+
+  module _ (h : k < count) (a : A) (q : some a ≡ elementAt kinds k) where
+    pub kind-number : number a ≡ k
+    kind-number =
+        let t = getD names k [] in
+        let p : numberIn names t ≡ some k = place-number names (n .apart) k (omega arith) in
+        let u = named-number n t a (sym (named-yes kinds names t k (some a) (sym p) q)) in
+        let z : some k ≡ some (number a) = sym p ∙ u in
+        cc
+
+    pub kind-spelled : (w : Name) → w ≡ nameOf (getD names (number a) []) → some (spelled w) ≡ elementAt names k
+    kind-spelled w g =
+        rw (g, name-spelled (getD names (number a) []), kind-number) (sym (at-element names k [] (omega arith)))

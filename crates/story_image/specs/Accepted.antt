@@ -1,0 +1,84 @@
+-- What is promised of exported queries: of any bytes, how many words an answer has, so that 18 means that there is none where the view
+-- and the answer are long enough; of accepted bytes, that nothing sticks at the edge: an exported query answers exactly if the inner
+-- one does, with its words.
+use Prim.Native.Nat.{ℕ, _+_, _≤_}
+use mathlib.Core.Path.{_≡_}
+use mathlib.Core.List.{List, [], _∷_}
+use mathlib.Core.Bool.{Bool}
+use mathlib.Core.Option.{Option, none, some}
+use lib.ListN.{length}
+use Rattle.laws.specs.Lists.{Below}
+use Rattle.image.specs.Sections.{Sections, definitionCount}
+use Rattle.image.specs.Header.{viewOf, sectionsOf}
+use Rattle.load.specs.Load.{loadRule}
+use Rattle.views.specs.declared.Span.{Span}
+use Rattle.views.specs.declared.TextAnswer.{TextAnswer}
+use Rattle.views.specs.declared.TextAnswer.the-variants as place
+use Rattle.views.specs.View.{span, nodeView}
+use Rattle.views.specs.Children.{childCountOf, namedCountOf, childQuery, namedQuery, textQuery}
+use Rattle.views.specs.Lists.{listPart, listEntry, listOrigin, definitionQuery, itemQuery}
+use Rattle.lookups.specs.declared.ListItemAnswer.{ListItemAnswer}
+use Rattle.lookups.specs.declared.ListItemAnswer.the-variants as listed
+use Rattle.lookups.specs.Lookup.{findNamed, listItem}
+use Rattle.walks.specs.Walk.{components, resolve}
+use Rattle.answers.specs.AnswerWords.{numberOf, unsigned, foundAnswer, countAnswer, namedAnswer, placeAnswer, entryAnswer, definitionAnswer, itemAnswer, listCountWords}
+use Rattle.answers.specs.NodeViewWords.{nodeAnswer, listPlace}
+use Rattle.story_image.specs.Exported.{viewLength, wordsOfView, writtenAfter}
+use Rattle.story_image.specs.Queries.{atList, firstWords, answerOfNodeView, answerOfText, answerOfChildCount, answerOfChild, answerOfNamedChildCount, answerOfNamedChild, answerOfFindNamedChild, answerOfListPayload, answerOfListCounts, answerOfNodeListEntry, answerOfNodeListOrigin, answerOfDefinitionCount, answerOfDefinition, answerOfFirstItem, answerOfDefinitionItem, answerOfListItem, answerOfWalk}
+
+-- ---- the words of answers, without a case for numbers that a word does not hold
+
+-- start and length in the image of what lies at a place of a section that begins at `section`
+abbrev pub wordsOfPart : ℕ → Span → List ℕ
+wordsOfPart section t = (section + t .offset) ∷ t .len ∷ []
+
+abbrev pub wordsOfText : ℕ → TextAnswer → Option (List ℕ)
+wordsOfText strings (place.Text t) = some (wordsOfPart strings t)
+wordsOfText strings place.NotFound = none
+
+abbrev pub wordsOfListItem : ListItemAnswer → Option (List ℕ)
+wordsOfListItem (listed.Item i) = some (i .definition ∷ i .item ∷ unsigned (i .value) ∷ [])
+wordsOfListItem listed.NotFound = none
+
+-- ---- an exported query against the inner one
+
+-- with k words or more lent for the answer, the query returns 0 exactly if the inner one answers, and 18 exactly if it does not; its words
+-- are then the inner one's
+pub record Answers (k : ℕ) (exported inner : Option (List ℕ)) : Type 0 where
+  pub words : exported ≡ inner
+  pub found : (ws : List ℕ) → inner ≡ some ws → (length ws ≡ k) × ((n : ℕ) → k ≤ n → numberOf exported n ≡ 0)
+  pub missing : inner ≡ none → (n : ℕ) → numberOf exported n ≡ 18
+
+-- the words of a view as a load wrote them, in a lent slice that was long enough
+pub record ViewOf (bs view : List ℕ) : Type 0 where
+  pub lent : List ℕ
+  pub long : viewLength ≤ length lent
+  pub written : view ≡ writtenAfter 0 (wordsOfView (viewOf bs)) lent
+
+-- each exported query by the words of a view, against the inner query on the image's sections
+pub record Exports (bs view : List ℕ) (s : Sections) : Type 0 where
+  pub node-view : (i : ℕ) → Answers 10 (answerOfNodeView bs view i) (nodeAnswer (nodeView s i))
+  pub text : (at len : ℕ) → Answers 2 (answerOfText bs view at len) (wordsOfText (viewOf bs .strings .offset) (textQuery s (span at len)))
+  pub child-count : (i : ℕ) → Answers 1 (answerOfChildCount bs view i) (countAnswer (childCountOf s i))
+  pub child : (i j : ℕ) → Answers 1 (answerOfChild bs view i j) (foundAnswer (childQuery s i j))
+  pub named-child-count : (i : ℕ) → Answers 1 (answerOfNamedChildCount bs view i) (countAnswer (namedCountOf s i))
+  pub named-child : (i j : ℕ) → Answers 3 (answerOfNamedChild bs view i j) (namedAnswer (namedQuery s i j))
+  pub find-named-child : (i : ℕ) (name : List ℕ) → Answers 1 (answerOfFindNamedChild bs view i name) (foundAnswer (findNamed s i name))
+  pub list-payload : (i : ℕ)
+      → Answers 2 (answerOfListPayload bs view i) (atList (listPlace (nodeView s i)) (λ t. some (wordsOfPart (viewOf bs .payload .offset) t)))
+  pub list-counts : (i : ℕ) → Answers 2 (answerOfListCounts bs view i) (atList (listPlace (nodeView s i)) (λ t. listCountWords (listPart s t)))
+  pub list-entry : (i j : ℕ)
+      → Answers 5 (answerOfNodeListEntry bs view i j) (atList (listPlace (nodeView s i)) (λ t. entryAnswer (listEntry (listPart s t) (s .strings) j)))
+  pub list-origin : (i j : ℕ)
+      → Answers 2 (answerOfNodeListOrigin bs view i j) (atList (listPlace (nodeView s i)) (λ t. placeAnswer (listOrigin (listPart s t) (s .strings) j)))
+  pub definition-count : Answers 1 (answerOfDefinitionCount bs view) (some (definitionCount s ∷ []))
+  pub definition : (d : ℕ) → Answers 3 (answerOfDefinition bs view d) (definitionAnswer (definitionQuery s d))
+  pub first-item : (d : ℕ) → Answers 1 (answerOfFirstItem bs view d) (firstWords s d (definitionQuery s d))
+  pub definition-item : (d j : ℕ) → Answers 3 (answerOfDefinitionItem bs view d j) (itemAnswer (itemQuery s d j))
+  pub list-item : (name : List ℕ) → Answers 3 (answerOfListItem bs view name) (wordsOfListItem (listItem s name))
+  pub walk : (origin : ℕ) (relative : Bool) (path names : List ℕ)
+      → Answers 1 (answerOfWalk bs view origin relative path names) (foundAnswer (resolve s relative origin (components names path)))
+
+-- of all bytes that a load accepts
+abbrev pub AcceptedExports : Type 0
+AcceptedExports = (bs view : List ℕ) (work : ℕ) → Below 256 bs → loadRule bs work ≡ 0 → ViewOf bs view → Exports bs view (sectionsOf bs)

@@ -1,0 +1,44 @@
+-- How many work words a load and a write need.
+use Prim.Native.Nat.{ℕ, _+_, _*_, _/_, _≤_, _<_}
+use mathlib.Core.Path.{_≡_}
+use mathlib.Core.List.{List}
+use mathlib.Core.Bool.{cond}
+use lib.ListN.{length}
+use lib.Dec.{leb, eqb}
+use Rattle.image.specs.Sections.{Sections}
+use Rattle.image.specs.Header.{headerRule, sectionsOf}
+use Rattle.load.specs.Load.{loadRule, loadWords}
+use Rattle.draft.specs.Draft.{writeWords}
+use Rattle.encoder.specs.Encode.{encodeRule}
+use Rattle.story_image.specs.Exported.{viewLength, lentWords}
+use Rattle.story_image.specs.Writing.{wordsFor}
+
+-- of bytes whose header passes, as many as a load tests for; of others none, since a load refuses them before that test
+unfoldable pub wordsToLoad : List ℕ → ℕ
+wordsToLoad bs = cond (eqb (headerRule bs) 0) (loadWords (sectionsOf bs)) 0
+
+-- the largest number of a size
+abbrev pub largestSize : ℕ
+largestSize = 18446744073709551615
+
+-- of a draft, as many as the writer tests for, where a size can say it
+unfoldable pub wordsToWrite : Sections → ℕ
+wordsToWrite s = cond (leb (writeWords s) largestSize) (writeWords s) largestSize
+
+-- no slice of words has more
+abbrev pub mostWords : ℕ
+mostWords = 2305843009213693951
+
+-- ---- what is promised of them
+
+-- with so many work words, and a view that is not too short, a load never answers 7; they are at most a quarter of the bytes
+abbrev pub LoadWordsSuffice : Type 0
+LoadWordsSuffice =
+    (bs : List ℕ) → (wordsToLoad bs ≤ length bs / 4)
+    × ((work view : ℕ) → wordsToLoad bs ≤ work → viewLength ≤ view → loadRule bs (lentWords view work) ≡ 7 → ⊥)
+
+-- with so many work words, and a word for the length, the writer never answers 7
+abbrev pub WriteWordsSuffice : Type 0
+WriteWordsSuffice =
+    (ink : ℕ) (s : Sections) (work written room : ℕ) → work ≤ mostWords → wordsToWrite s ≤ work → 1 ≤ written
+    → encodeRule ink s (wordsFor written work) room ≡ 7 → ⊥
