@@ -329,8 +329,8 @@ enum {
 /* How many work words are needed is said at each call; those that are needed are zero on return, or as they were.
  * Words past them, and words of an answer, a view or an output past what is written, always stay as they were. */
 
-/* Work words that a load of the bytes needs: nodes + children + named entries + 1. At most length / 4, whatever the
- * header says; 0 where a load refuses the header, and so needs none. */
+/* Work words that suffice to load the bytes, whatever they are: nodes + children + named entries + 1. Never more than
+ * length / 4, whatever the header says; 0 where a load refuses the header (1 to 5), and so needs none. */
 size_t story_image_load_words(const uint8_t *bytes, size_t length);
 
 /* Tests the whole image. 0, and the view's STORY_IMAGE_VIEW_WORDS words. Or 1 to 17, and the view stays as it was.
@@ -349,7 +349,8 @@ uint32_t story_image_load(const uint8_t *bytes, size_t length, uint32_t *work, s
  * and a length in the strings; story_image_text gives its place in the bytes. A signed value is handed over as its 32
  * bits: (int32_t)word. A float's bits are copied into one with memcpy. */
 
-/* Whether a view has at least STORY_IMAGE_VIEW_WORDS words. */
+/* Whether a view has at least STORY_IMAGE_VIEW_WORDS words. Under such a view, and with an answer that holds the
+ * query's words, a query returns 18 only if there is nothing to answer. */
 bool story_image_view_whole(const uint32_t *view, size_t view_length);
 
 /* STORY_IMAGE_NODE_WORDS words: the view of a node. */
@@ -443,8 +444,8 @@ uint32_t story_image_command_name(uint32_t number, uint8_t *text, size_t text_le
 uint32_t story_image_operator_name(uint32_t number, uint8_t *text, size_t text_length, uint32_t *size,
                                    size_t size_length);
 
-/* Work words that writing a draft needs: 16 a node, 4 for each child, named entry, definition, item and payload
- * byte. */
+/* Work words that suffice to write a draft: 16 a node, 4 for each child, named entry, definition, item and payload
+ * byte; SIZE_MAX where that is less, and no slice has as many. */
 size_t story_image_write_words(const uint32_t *nodes, size_t nodes_length, const uint32_t *children,
                                size_t children_length, const uint32_t *named, size_t named_length,
                                const uint32_t *definitions, size_t definitions_length, const uint32_t *items,
@@ -463,60 +464,6 @@ uint32_t story_image_write(uint32_t ink_version, const uint32_t *nodes, size_t n
                            size_t items_length, const uint8_t *payload, size_t payload_length, const uint8_t *strings,
                            size_t strings_length, uint32_t *work, size_t work_length, uint8_t *output,
                            size_t output_length, uint32_t *written, size_t written_length);
-
-/* ---- How many words calls need. */
-
-/* Work words that suffice to load the bytes, whatever they are: with so many, and a view of STORY_IMAGE_VIEW_WORDS words,
- * story_image_load never returns 7. Never more than length / 4, whatever the header says; 0 where the header is refused. */
-size_t story_image_load_words(const uint8_t *bytes, size_t length);
-
-/* Work words that suffice to write a draft: with so many, and a word for the length, story_image_write never returns 7.
- * SIZE_MAX where that is less than a draft needs; no slice has as many. */
-size_t story_image_write_words(const uint32_t *nodes, size_t nodes_length, const uint32_t *children,
-                               size_t children_length, const uint32_t *named, size_t named_length,
-                               const uint32_t *definitions, size_t definitions_length, const uint32_t *items,
-                               size_t items_length, const uint8_t *payload, size_t payload_length);
-
-/* Whether these are enough words for a view, STORY_IMAGE_VIEW_WORDS or more. Under such a view, and with an answer that
- * holds the query's words, a query returns 18 only if there is nothing to answer; otherwise 18 may also say that one of
- * the two is too short. */
-bool story_image_view_whole(const uint32_t *view, size_t view_length);
-
-/* ---- Texts of commands and operators. */
-
-/* The text of a command's number, 0 to 25, or an operator's, 0 to 30, as STORY_IMAGE_NODE_VALUE gives it: its bytes at the
- * start of the text, and its length as the first word of the size; what lies past them stays. 18 for a number that is
- * none; 23 where the text does not fit, or there is no word for its length. Both leave text and size as they were. No
- * text is longer than 11 bytes. */
-uint32_t story_image_command_name(uint32_t number, uint8_t *text, size_t text_length, uint32_t *size,
-                                  size_t size_length);
-uint32_t story_image_operator_name(uint32_t number, uint8_t *text, size_t text_length, uint32_t *size,
-                                   size_t size_length);
-
-/* ---- List values by node, and the first item of a definition: queries as above. */
-
-/* Of a node that is a list value (12): start and length of its payload in the image's bytes, as story_image_list_entry
- * and story_image_list_origin take it (2 words). */
-uint32_t story_image_list_payload(const uint8_t *bytes, size_t length, const uint32_t *view, size_t view_length,
-                                  uint32_t node, uint32_t *answer, size_t answer_length);
-
-/* Of a node that is a list value: how many items, how many origins it has (2 words). */
-uint32_t story_image_list_counts(const uint8_t *bytes, size_t length, const uint32_t *view, size_t view_length,
-                                 uint32_t node, uint32_t *answer, size_t answer_length);
-
-/* Of a node that is a list value, item `index`: origin, its length (both NONE if there is none), name, its length, value
- * (5 words). */
-uint32_t story_image_node_list_entry(const uint8_t *bytes, size_t length, const uint32_t *view, size_t view_length,
-                                     uint32_t node, uint32_t index, uint32_t *answer, size_t answer_length);
-
-/* Of a node that is a list value, origin `index`: text, its length (2 words). */
-uint32_t story_image_node_list_origin(const uint8_t *bytes, size_t length, const uint32_t *view, size_t view_length,
-                                      uint32_t node, uint32_t index, uint32_t *answer, size_t answer_length);
-
-/* The number of a definition's first item among all items (1 word). The item number that story_image_list_item answers,
- * less the first item of its definition, is the item that story_image_definition_item takes. */
-uint32_t story_image_definition_first_item(const uint8_t *bytes, size_t length, const uint32_t *view, size_t view_length,
-                                           uint32_t index, uint32_t *answer, size_t answer_length);
 
 #ifdef __cplusplus
 }
