@@ -10,8 +10,9 @@
  * In short:
  *
  *     uint32_t view[STORY_IMAGE_VIEW_WORDS], node[STORY_IMAGE_NODE_WORDS], part[STORY_IMAGE_TEXT_WORDS];
- *     // at most length / 4 work words are ever needed
- *     uint32_t number = story_image_load(bytes, length, work, length / 4, view, STORY_IMAGE_VIEW_WORDS);
+ *     size_t words = story_image_load_words(bytes, length); // at most length / 4
+ *     uint32_t *work = malloc(4 * words + 4);
+ *     uint32_t number = story_image_load(bytes, length, work, words, view, STORY_IMAGE_VIEW_WORDS);
  *     if (number != STORY_IMAGE_OK) return refused(number);
  *     for (uint32_t n = 0; n < view[STORY_IMAGE_NODES_COUNT]; n++) {
  *         story_image_node_view(bytes, length, view, STORY_IMAGE_VIEW_WORDS, n, node, STORY_IMAGE_NODE_WORDS);
@@ -277,6 +278,16 @@ enum { /* story_image_list_origin */
     STORY_IMAGE_LIST_ORIGIN_TEXT_LENGTH,
     STORY_IMAGE_LIST_ORIGIN_WORDS
 };
+enum { /* story_image_list_payload: where the payload of a list value lies in the image's bytes */
+    STORY_IMAGE_LIST_PAYLOAD_START,
+    STORY_IMAGE_LIST_PAYLOAD_LENGTH,
+    STORY_IMAGE_LIST_PAYLOAD_WORDS
+};
+enum { /* story_image_list_counts */
+    STORY_IMAGE_LIST_COUNTS_ITEMS,
+    STORY_IMAGE_LIST_COUNTS_ORIGINS,
+    STORY_IMAGE_LIST_COUNTS_WORDS
+};
 enum { /* story_image_definition */
     STORY_IMAGE_DEFINITION_NAME,
     STORY_IMAGE_DEFINITION_NAME_LENGTH,
@@ -295,6 +306,9 @@ enum { /* story_image_list_item */
     STORY_IMAGE_LIST_ITEM_VALUE,
     STORY_IMAGE_LIST_ITEM_WORDS
 };
+
+/* The longest text of a command or an operator, in bytes. */
+#define STORY_IMAGE_NAME_BYTES 11
 
 /* Components of a path, three words each. */
 enum {
@@ -315,21 +329,29 @@ enum {
 /* How many work words are needed is said at each call; those that are needed are zero on return, or as they were.
  * Words past them, and words of an answer, a view or an output past what is written, always stay as they were. */
 
+/* Work words that suffice to load the bytes, whatever they are: nodes + children + named entries + 1. Never more than
+ * length / 4, whatever the header says; 0 where a load refuses the header (1 to 5), and so needs none. */
+size_t story_image_load_words(const uint8_t *bytes, size_t length);
+
 /* Tests the whole image. 0, and the view's STORY_IMAGE_VIEW_WORDS words. Or 1 to 17, and the view stays as it was.
- * Work words needed: nodes + children + named + 1, which the header says at bytes 24, 32 and 40; an image that passes
- * row 5 never needs more than length / 4, whatever its header says, so with length / 4 words lent 7 is not given.
- * Numbers 1 to 7 leave all work words as they were, else as many as are needed are 0 on return. A view of fewer words
- * counts as a lack of work words: 7, after rows 1 to 6. */
+ * With story_image_load_words(bytes) work words, and also with length / 4, 7 is not given. Numbers 1 to 7 leave all
+ * work words as they were, else as many as are needed are 0 on return. A view of fewer words counts as a lack of work
+ * words: 7, after rows 1 to 6. */
 uint32_t story_image_load(const uint8_t *bytes, size_t length, uint32_t *work, size_t work_length, uint32_t *view,
                           size_t view_length);
 
 /* Queries. Each returns 0 and writes its words at the start of the answer, or returns 18 and leaves the answer as it
  * was. The view is lent as the words that story_image_load wrote. A view of fewer than STORY_IMAGE_VIEW_WORDS words,
- * or an answer too short for the query's words, gives 18. Any bytes and any view may be asked: a section outside the
- * bytes counts as empty, and an answer's parts lie inside the bytes. On accepted bytes a node below the node count
- * has a view, texts are there and UTF-8, targets are below the node count. A text is an offset and a length in the
- * strings; story_image_text gives its place in the bytes. A signed value is handed over as its 32 bits:
- * (int32_t)word. A float's bits are copied into one with memcpy. */
+ * or an answer too short for the query's words, gives 18, as 'no such node' does: story_image_view_whole tells the
+ * first apart, and how many words an answer has is fixed for each query. Any bytes and any view may be asked: a
+ * section outside the bytes counts as empty, and an answer's parts lie inside the bytes. On accepted bytes a node
+ * below the node count has a view, texts are there and UTF-8, targets are below the node count. A text is an offset
+ * and a length in the strings; story_image_text gives its place in the bytes. A signed value is handed over as its 32
+ * bits: (int32_t)word. A float's bits are copied into one with memcpy. */
+
+/* Whether a view has at least STORY_IMAGE_VIEW_WORDS words. Under such a view, and with an answer that holds the
+ * query's words, a query returns 18 only if there is nothing to answer. */
+bool story_image_view_whole(const uint32_t *view, size_t view_length);
 
 /* STORY_IMAGE_NODE_WORDS words: the view of a node. */
 uint32_t story_image_node_view(const uint8_t *bytes, size_t length, const uint32_t *view, size_t view_length,
@@ -362,8 +384,20 @@ uint32_t story_image_find_named_child(const uint8_t *bytes, size_t length, const
                                       uint32_t node, const uint8_t *name, size_t name_length, uint32_t *answer,
                                       size_t answer_length);
 
-/* Of a list value, from its payload (the part of the payload section that the node's view names) and the whole
- * strings section. STORY_IMAGE_LIST_ENTRY_WORDS words: item `index`; the origin is NONE, NONE if there is none.
+/* Of the list value that a node is; 18 for another node. Where its payload lies in the image's bytes; how many items
+ * and origins it has; STORY_IMAGE_LIST_ENTRY_WORDS words: item `index`, the origin NONE, NONE if there is none;
+ * STORY_IMAGE_LIST_ORIGIN_WORDS words: origin `index`. */
+uint32_t story_image_list_payload(const uint8_t *bytes, size_t length, const uint32_t *view, size_t view_length,
+                                  uint32_t node, uint32_t *answer, size_t answer_length);
+uint32_t story_image_list_counts(const uint8_t *bytes, size_t length, const uint32_t *view, size_t view_length,
+                                 uint32_t node, uint32_t *answer, size_t answer_length);
+uint32_t story_image_node_list_entry(const uint8_t *bytes, size_t length, const uint32_t *view, size_t view_length,
+                                     uint32_t node, uint32_t index, uint32_t *answer, size_t answer_length);
+uint32_t story_image_node_list_origin(const uint8_t *bytes, size_t length, const uint32_t *view, size_t view_length,
+                                      uint32_t node, uint32_t index, uint32_t *answer, size_t answer_length);
+
+/* The same from the list value's payload (as story_image_list_payload gives it) and the whole strings section.
+ * STORY_IMAGE_LIST_ENTRY_WORDS words: item `index`; the origin is NONE, NONE if there is none.
  * STORY_IMAGE_LIST_ORIGIN_WORDS words: origin `index`. */
 uint32_t story_image_list_entry(const uint8_t *payload, size_t payload_length, const uint8_t *strings,
                                 size_t strings_length, uint32_t index, uint32_t *answer, size_t answer_length);
@@ -381,6 +415,11 @@ uint32_t story_image_definition(const uint8_t *bytes, size_t length, const uint3
 uint32_t story_image_definition_item(const uint8_t *bytes, size_t length, const uint32_t *view, size_t view_length,
                                      uint32_t index, uint32_t item, uint32_t *answer, size_t answer_length);
 
+/* STORY_IMAGE_COUNT_WORDS words: the number, among the items of all definitions, of a definition's first item. What
+ * story_image_list_item gives, less this, is the item's index in its definition. */
+uint32_t story_image_definition_first_item(const uint8_t *bytes, size_t length, const uint32_t *view,
+                                           size_t view_length, uint32_t index, uint32_t *answer, size_t answer_length);
+
 /* STORY_IMAGE_LIST_ITEM_WORDS words: the list item that a name means. What stands before the first dot is the
  * definition's name; without a dot the last definition that has the item answers. A name that is empty or White_Space
  * alone gives 18. The number of the item is among the items of all definitions, not among those of its own. */
@@ -397,11 +436,26 @@ uint32_t story_image_resolve_path(const uint8_t *bytes, size_t length, const uin
                                   uint32_t origin, bool relative, const uint32_t *path, size_t path_length,
                                   const uint8_t *names, size_t names_length, uint32_t *answer, size_t answer_length);
 
+/* The text of a command's, of an operator's number at the start of `text`, and its length as the first word of `size`;
+ * STORY_IMAGE_NAME_BYTES bytes suffice, and no byte 0 is written behind it. 0; 18 for a number that is none; 23 where
+ * text or size is too short. But for 0 both stay as they were. */
+uint32_t story_image_command_name(uint32_t number, uint8_t *text, size_t text_length, uint32_t *size,
+                                  size_t size_length);
+uint32_t story_image_operator_name(uint32_t number, uint8_t *text, size_t text_length, uint32_t *size,
+                                   size_t size_length);
+
+/* Work words that suffice to write a draft: 16 a node, 4 for each child, named entry, definition, item and payload
+ * byte; SIZE_MAX where that is less, and no slice has as many. */
+size_t story_image_write_words(const uint32_t *nodes, size_t nodes_length, const uint32_t *children,
+                               size_t children_length, const uint32_t *named, size_t named_length,
+                               const uint32_t *definitions, size_t definitions_length, const uint32_t *items,
+                               size_t items_length, const uint8_t *payload, size_t payload_length);
+
 /* Writes the image of a draft at the start of the output: sections 0 to 4 as words (nodes, children, named entries,
  * definitions, items; lengths are counts of words), payload and strings as bytes; any numbering with root 0, texts
  * anywhere in the strings. Children, named entries and payloads lie in the order of the nodes that have them. 0, and
  * the image's length as the first of the written words. Or 3, 7, 19 to 23, and output and written words stay as they
- * were. Work words needed: 16 a node, 4 for each child, named entry, definition, item and payload byte; numbers 3, 19
+ * were. Work words needed: story_image_write_words; numbers 3, 19
  * and 7 leave all work words as they were, else as many as are needed are 0 on return. No word for the length counts
  * as a lack of work words: 7, after 3 and 19. */
 uint32_t story_image_write(uint32_t ink_version, const uint32_t *nodes, size_t nodes_length, const uint32_t *children,
@@ -410,60 +464,6 @@ uint32_t story_image_write(uint32_t ink_version, const uint32_t *nodes, size_t n
                            size_t items_length, const uint8_t *payload, size_t payload_length, const uint8_t *strings,
                            size_t strings_length, uint32_t *work, size_t work_length, uint8_t *output,
                            size_t output_length, uint32_t *written, size_t written_length);
-
-/* ---- How many words calls need. */
-
-/* Work words that suffice to load the bytes, whatever they are: with so many, and a view of STORY_IMAGE_VIEW_WORDS words,
- * story_image_load never returns 7. Never more than length / 4, whatever the header says; 0 where the header is refused. */
-size_t story_image_load_words(const uint8_t *bytes, size_t length);
-
-/* Work words that suffice to write a draft: with so many, and a word for the length, story_image_write never returns 7.
- * SIZE_MAX where that is less than a draft needs; no slice has as many. */
-size_t story_image_write_words(const uint32_t *nodes, size_t nodes_length, const uint32_t *children,
-                               size_t children_length, const uint32_t *named, size_t named_length,
-                               const uint32_t *definitions, size_t definitions_length, const uint32_t *items,
-                               size_t items_length, const uint8_t *payload, size_t payload_length);
-
-/* Whether these are enough words for a view, STORY_IMAGE_VIEW_WORDS or more. Under such a view, and with an answer that
- * holds the query's words, a query returns 18 only if there is nothing to answer; otherwise 18 may also say that one of
- * the two is too short. */
-bool story_image_view_whole(const uint32_t *view, size_t view_length);
-
-/* ---- Texts of commands and operators. */
-
-/* The text of a command's number, 0 to 25, or an operator's, 0 to 30, as STORY_IMAGE_NODE_VALUE gives it: its bytes at the
- * start of the text, and its length as the first word of the size; what lies past them stays. 18 for a number that is
- * none; 23 where the text does not fit, or there is no word for its length. Both leave text and size as they were. No
- * text is longer than 11 bytes. */
-uint32_t story_image_command_name(uint32_t number, uint8_t *text, size_t text_length, uint32_t *size,
-                                  size_t size_length);
-uint32_t story_image_operator_name(uint32_t number, uint8_t *text, size_t text_length, uint32_t *size,
-                                   size_t size_length);
-
-/* ---- List values by node, and the first item of a definition: queries as above. */
-
-/* Of a node that is a list value (12): start and length of its payload in the image's bytes, as story_image_list_entry
- * and story_image_list_origin take it (2 words). */
-uint32_t story_image_list_payload(const uint8_t *bytes, size_t length, const uint32_t *view, size_t view_length,
-                                  uint32_t node, uint32_t *answer, size_t answer_length);
-
-/* Of a node that is a list value: how many items, how many origins it has (2 words). */
-uint32_t story_image_list_counts(const uint8_t *bytes, size_t length, const uint32_t *view, size_t view_length,
-                                 uint32_t node, uint32_t *answer, size_t answer_length);
-
-/* Of a node that is a list value, item `index`: origin, its length (both NONE if there is none), name, its length, value
- * (5 words). */
-uint32_t story_image_node_list_entry(const uint8_t *bytes, size_t length, const uint32_t *view, size_t view_length,
-                                     uint32_t node, uint32_t index, uint32_t *answer, size_t answer_length);
-
-/* Of a node that is a list value, origin `index`: text, its length (2 words). */
-uint32_t story_image_node_list_origin(const uint8_t *bytes, size_t length, const uint32_t *view, size_t view_length,
-                                      uint32_t node, uint32_t index, uint32_t *answer, size_t answer_length);
-
-/* The number of a definition's first item among all items (1 word). The item number that story_image_list_item answers,
- * less the first item of its definition, is the item that story_image_definition_item takes. */
-uint32_t story_image_definition_first_item(const uint8_t *bytes, size_t length, const uint32_t *view, size_t view_length,
-                                           uint32_t index, uint32_t *answer, size_t answer_length);
 
 #ifdef __cplusplus
 }

@@ -156,6 +156,7 @@ static void samples(const char *folder) {
         if (number == 0 || number > STORY_IMAGE_TOO_FEW_WORDS) {
             size_t needed = words_needed(&image);
             CHECK(needed <= image.length / 4, "%s needs no more words than a quarter of its bytes", table[i].name);
+            CHECK(story_image_load_words(image.bytes, image.length) == needed, "%s, the words it needs", table[i].name);
             CHECK(load(&image, needed) == number, "%s with as many words as it needs", table[i].name);
             CHECK(load(&image, needed - 1) == STORY_IMAGE_TOO_FEW_WORDS, "%s with one word fewer", table[i].name);
         }
@@ -187,12 +188,15 @@ static void damaged(const char *folder) {
     hostile[16] = sizeof hostile;
     struct image image = image_of(hostile, sizeof hostile);
     CHECK(load(&image, 22) == STORY_IMAGE_BAD_SECTIONS, "counts of 4294967295");
+    CHECK(story_image_load_words(image.bytes, image.length) <= 22, "no more words than a quarter of the bytes");
     free(image.bytes);
     /* a view of fewer words counts as a lack of work words, after rows 1 to 6 */
     uint32_t *work = marked(2), *view = marked(16);
     CHECK(story_image_load(whole.bytes, whole.length, work, 2, view, 16) == STORY_IMAGE_TOO_FEW_WORDS, "a short view");
     CHECK(story_image_load(whole.bytes, 87, work, 2, view, 16) == STORY_IMAGE_BAD_HEADER, "a short view, row 1 first");
     CHECK(all_are(work, 0, 2, MARK) && all_are(view, 0, 16, MARK), "nothing is written");
+    CHECK(!story_image_view_whole(view, 16) && story_image_view_whole(whole.view, STORY_IMAGE_VIEW_WORDS),
+          "a short view is told apart");
     free(work);
     free(view);
     free(whole.bytes);
@@ -219,15 +223,23 @@ enum {
     ITEM,
     LIST_ITEM,
     WALK,
+    LIST_PAYLOAD,
+    LIST_COUNTS,
+    NODE_ENTRY,
+    NODE_ORIGIN,
+    FIRST_ITEM,
     QUERIES
 };
 
-static const size_t answer_words[QUERIES] = {STORY_IMAGE_NODE_WORDS,       STORY_IMAGE_TEXT_WORDS,
-                                             STORY_IMAGE_COUNT_WORDS,      STORY_IMAGE_COUNT_WORDS,
-                                             STORY_IMAGE_FOUND_WORDS,      STORY_IMAGE_NAMED_CHILD_WORDS,
-                                             STORY_IMAGE_FOUND_WORDS,      STORY_IMAGE_COUNT_WORDS,
-                                             STORY_IMAGE_DEFINITION_WORDS, STORY_IMAGE_DEFINITION_ITEM_WORDS,
-                                             STORY_IMAGE_LIST_ITEM_WORDS,  STORY_IMAGE_FOUND_WORDS};
+static const size_t answer_words[QUERIES] = {STORY_IMAGE_NODE_WORDS,         STORY_IMAGE_TEXT_WORDS,
+                                             STORY_IMAGE_COUNT_WORDS,        STORY_IMAGE_COUNT_WORDS,
+                                             STORY_IMAGE_FOUND_WORDS,        STORY_IMAGE_NAMED_CHILD_WORDS,
+                                             STORY_IMAGE_FOUND_WORDS,        STORY_IMAGE_COUNT_WORDS,
+                                             STORY_IMAGE_DEFINITION_WORDS,   STORY_IMAGE_DEFINITION_ITEM_WORDS,
+                                             STORY_IMAGE_LIST_ITEM_WORDS,    STORY_IMAGE_FOUND_WORDS,
+                                             STORY_IMAGE_LIST_PAYLOAD_WORDS, STORY_IMAGE_LIST_COUNTS_WORDS,
+                                             STORY_IMAGE_LIST_ENTRY_WORDS,   STORY_IMAGE_LIST_ORIGIN_WORDS,
+                                             STORY_IMAGE_COUNT_WORDS};
 
 static uint32_t call(int query, const struct image *image, size_t view_length, const struct asked *asked,
                      uint32_t *answer, size_t answer_length) {
@@ -261,6 +273,18 @@ static uint32_t call(int query, const struct image *image, size_t view_length, c
     case LIST_ITEM:
         return story_image_list_item(bytes, length, view, view_length, asked->name, asked->name_length, answer,
                                      answer_length);
+    case LIST_PAYLOAD:
+        return story_image_list_payload(bytes, length, view, view_length, asked->node, answer, answer_length);
+    case LIST_COUNTS:
+        return story_image_list_counts(bytes, length, view, view_length, asked->node, answer, answer_length);
+    case NODE_ENTRY:
+        return story_image_node_list_entry(bytes, length, view, view_length, asked->node, asked->index, answer,
+                                           answer_length);
+    case NODE_ORIGIN:
+        return story_image_node_list_origin(bytes, length, view, view_length, asked->node, asked->index, answer,
+                                            answer_length);
+    case FIRST_ITEM:
+        return story_image_definition_first_item(bytes, length, view, view_length, asked->index, answer, answer_length);
     default:
         return story_image_resolve_path(bytes, length, view, view_length, asked->node, true, path,
                                         STORY_IMAGE_STEP_WORDS, asked->name, asked->name_length, answer, answer_length);
@@ -295,31 +319,47 @@ static bool text_inside(const struct image *image, uint32_t offset, uint32_t len
     return ask(TEXT, image, &asked, part) && (size_t)part[0] + part[1] <= image->length && part[1] == length;
 }
 
-static void list_value(const struct image *image, const uint32_t *node) {
-    const uint8_t *payload = image->bytes + image->view[STORY_IMAGE_PAYLOAD] + node[STORY_IMAGE_NODE_TEXT];
+/* A list value by its node, and from its payload and the strings: the same. */
+static void list_value(const struct image *image, uint32_t node, const uint32_t *words) {
+    struct asked asked = {node, 0, 0, 0, image->bytes, 0};
+    uint32_t place[STORY_IMAGE_LIST_PAYLOAD_WORDS], counts[STORY_IMAGE_LIST_COUNTS_WORDS], part[2];
+    uint32_t entry[STORY_IMAGE_LIST_ENTRY_WORDS], other[STORY_IMAGE_LIST_ENTRY_WORDS];
     const uint8_t *strings = image->bytes + image->view[STORY_IMAGE_STRINGS];
-    size_t payload_length = node[STORY_IMAGE_NODE_TEXT_LENGTH], strings_length = image->view[STORY_IMAGE_STRINGS_COUNT];
-    uint32_t entry[STORY_IMAGE_LIST_ENTRY_WORDS], origin[STORY_IMAGE_LIST_ORIGIN_WORDS], part[2], items = 0,
-                                                                                                  origins = 0;
-    while (story_image_list_entry(payload, payload_length, strings, strings_length, items, entry,
-                                  STORY_IMAGE_LIST_ENTRY_WORDS) == 0) {
+    size_t strings_length = image->view[STORY_IMAGE_STRINGS_COUNT];
+    CHECK(ask(LIST_PAYLOAD, image, &asked, place) && ask(LIST_COUNTS, image, &asked, counts), "list %u",
+          (unsigned)node);
+    CHECK(place[0] == image->view[STORY_IMAGE_PAYLOAD] + words[STORY_IMAGE_NODE_TEXT] &&
+              place[1] == words[STORY_IMAGE_NODE_TEXT_LENGTH],
+          "the payload of list %u", (unsigned)node);
+    const uint8_t *payload = image->bytes + place[0];
+    for (; asked.index < counts[STORY_IMAGE_LIST_COUNTS_ITEMS]; asked.index++) {
+        CHECK(ask(NODE_ENTRY, image, &asked, entry), "item %u of list %u", (unsigned)asked.index, (unsigned)node);
+        CHECK(story_image_list_entry(payload, place[1], strings, strings_length, asked.index, other,
+                                     STORY_IMAGE_LIST_ENTRY_WORDS) == 0 &&
+                  memcmp(entry, other, sizeof entry) == 0,
+              "the same from the payload");
         CHECK(text_inside(image, entry[STORY_IMAGE_LIST_ENTRY_NAME], entry[STORY_IMAGE_LIST_ENTRY_NAME_LENGTH], part),
               "an item's name");
-        items++;
     }
-    while (story_image_list_origin(payload, payload_length, strings, strings_length, origins, origin,
-                                   STORY_IMAGE_LIST_ORIGIN_WORDS) == 0)
-        origins++;
-    CHECK(8 + 20 * items + 8 * origins == payload_length, "a list's items and origins fill its payload");
-    CHECK(story_image_list_entry(payload, payload_length, strings, strings_length, 0, entry, 4) != 0, "a short answer");
-    CHECK(story_image_list_origin(payload, payload_length, strings, strings_length, 0, origin, 1) != 0,
-          "a short answer");
+    CHECK(!ask(NODE_ENTRY, image, &asked, entry), "no item past the last");
+    for (asked.index = 0; asked.index < counts[STORY_IMAGE_LIST_COUNTS_ORIGINS]; asked.index++) {
+        CHECK(ask(NODE_ORIGIN, image, &asked, entry), "origin %u of list %u", (unsigned)asked.index, (unsigned)node);
+        CHECK(story_image_list_origin(payload, place[1], strings, strings_length, asked.index, other,
+                                      STORY_IMAGE_LIST_ORIGIN_WORDS) == 0 &&
+                  memcmp(entry, other, 4 * STORY_IMAGE_LIST_ORIGIN_WORDS) == 0,
+              "the same from the payload");
+    }
+    CHECK(!ask(NODE_ORIGIN, image, &asked, entry), "no origin past the last");
+    CHECK(8 + 20 * counts[STORY_IMAGE_LIST_COUNTS_ITEMS] + 8 * counts[STORY_IMAGE_LIST_COUNTS_ORIGINS] == place[1],
+          "a list's items and origins fill its payload");
+    CHECK(story_image_list_entry(payload, place[1], strings, strings_length, 0, entry, 4) != 0, "a short answer");
+    CHECK(story_image_list_origin(payload, place[1], strings, strings_length, 0, entry, 1) != 0, "a short answer");
 }
 
 static void texts_of(const struct image *image, uint32_t node, const uint32_t *words) {
     uint32_t part[STORY_IMAGE_TEXT_WORDS], kind = words[STORY_IMAGE_NODE_KIND];
     if (kind == STORY_IMAGE_KIND_LIST)
-        list_value(image, words);
+        list_value(image, node, words);
     else if (words[STORY_IMAGE_NODE_TEXT] != STORY_IMAGE_NONE)
         CHECK(text_inside(image, words[STORY_IMAGE_NODE_TEXT], words[STORY_IMAGE_NODE_TEXT_LENGTH], part),
               "text of node %u", (unsigned)node);
@@ -362,11 +402,13 @@ static void children_of(const struct image *image, uint32_t node) {
 
 static void definitions_of(const struct image *image) {
     struct asked asked = {0, 0, 0, 0, image->bytes, 0};
-    uint32_t count = 0, words[3], item[3], found[3], part[2];
+    uint32_t count = 0, words[3], item[3], found[3], part[2], first[1], before = 0;
     CHECK(ask(DEFINITION_COUNT, image, &asked, &count) && count == image->view[STORY_IMAGE_DEFINITIONS_COUNT],
           "definitions");
     for (asked.index = 0; asked.index < count; asked.index++) {
         CHECK(ask(DEFINITION, image, &asked, words), "definition %u", (unsigned)asked.index);
+        CHECK(ask(FIRST_ITEM, image, &asked, first) && first[0] == before, "its first item");
+        before += words[STORY_IMAGE_DEFINITION_ITEMS];
         if (words[STORY_IMAGE_DEFINITION_ITEMS] == 0)
             continue;
         CHECK(ask(ITEM, image, &asked, item), "first item of definition %u", (unsigned)asked.index);
@@ -378,10 +420,12 @@ static void definitions_of(const struct image *image) {
                            (const char *)image->bytes + part[0]);
         struct asked by = {0, 0, 0, 0, (const uint8_t *)name, (size_t)length};
         CHECK(ask(LIST_ITEM, image, &by, found) && found[STORY_IMAGE_LIST_ITEM_DEFINITION] == asked.index &&
+                  found[STORY_IMAGE_LIST_ITEM_ITEM] == first[0] &&
                   found[STORY_IMAGE_LIST_ITEM_VALUE] == item[STORY_IMAGE_DEFINITION_ITEM_VALUE],
               "item %s by its name", name);
     }
-    CHECK(!ask(DEFINITION, image, &asked, words), "no definition past the last");
+    CHECK(!ask(DEFINITION, image, &asked, words) && !ask(FIRST_ITEM, image, &asked, first),
+          "no definition past the last");
     struct asked blank = {0, 0, 0, 0, (const uint8_t *)" \t\xe2\x80\x83", 5};
     CHECK(!ask(LIST_ITEM, image, &blank, found), "a blank name");
 }
@@ -462,6 +506,42 @@ static void walks(const char *folder) {
     free(image.bytes);
 }
 
+/* ---- names */
+
+static void names(void) {
+    uint8_t text[STORY_IMAGE_NAME_BYTES + 1];
+    uint32_t size[2];
+    for (uint32_t kind = 0; kind < 2; kind++)
+        for (uint32_t number = 0; number < 40; number++) {
+            uint32_t (*name)(uint32_t, uint8_t *, size_t, uint32_t *, size_t) =
+                kind == 0 ? story_image_command_name : story_image_operator_name;
+            uint32_t count = kind == 0 ? (uint32_t)STORY_IMAGE_COMMAND_COUNT : (uint32_t)STORY_IMAGE_OPERATOR_COUNT;
+            memset(text, '?', sizeof text);
+            size[0] = size[1] = MARK;
+            uint32_t answer = name(number, text, STORY_IMAGE_NAME_BYTES, size, 1);
+            CHECK(answer == (number < count ? STORY_IMAGE_OK : STORY_IMAGE_NOT_FOUND), "name %u", (unsigned)number);
+            if (answer != 0) {
+                CHECK(text[0] == '?' && size[0] == MARK, "nothing is written");
+                continue;
+            }
+            CHECK(size[0] <= STORY_IMAGE_NAME_BYTES && text[size[0]] == '?' && size[1] == MARK, "its length");
+            uint32_t length = size[0];
+            memset(text, '?', sizeof text);
+            size[0] = MARK;
+            CHECK(name(number, text, length - 1, size, 1) == STORY_IMAGE_NO_ROOM && text[0] == '?' && size[0] == MARK,
+                  "a byte too few");
+            CHECK(name(number, text, length, size, 0) == STORY_IMAGE_NO_ROOM && text[0] == '?',
+                  "no word for the length");
+            CHECK(name(number, text, length, size, 1) == 0 && size[0] == length, "exactly its length");
+        }
+    CHECK(story_image_command_name(STORY_IMAGE_COMMAND_POP_TUNNEL, text, 11, size, 1) == 0 && size[0] == 4 &&
+              memcmp(text, "->->", 4) == 0,
+          "the name of a command");
+    CHECK(story_image_operator_name(STORY_IMAGE_OPERATOR_LIST_INVERT, text, 11, size, 1) == 0 && size[0] == 11 &&
+              memcmp(text, "LIST_INVERT", 11) == 0,
+          "the name of an operator");
+}
+
 /* ---- writing */
 
 /* Sections 0 to 4, payload, strings, by pointer and length. */
@@ -472,8 +552,16 @@ struct draft {
 };
 
 static size_t write_words(const struct draft *draft) {
-    return 16 * (draft->node_words / 10) +
-           4 * (draft->child_words + draft->named_words / 3 + draft->definition_words / 4 + draft->item_words / 3);
+    static const uint32_t none[1] = {0};
+    size_t words = 16 * (draft->node_words / 10) + 4 * (draft->child_words + draft->named_words / 3 +
+                                                        draft->definition_words / 4 + draft->item_words / 3);
+    CHECK(story_image_write_words(draft->nodes, draft->node_words, draft->children ? draft->children : none,
+                                  draft->child_words, draft->named ? draft->named : none, draft->named_words,
+                                  draft->definitions ? draft->definitions : none, draft->definition_words,
+                                  draft->items ? draft->items : none, draft->item_words, (const uint8_t *)"",
+                                  0) == words,
+          "the words that writing needs");
+    return words;
 }
 
 /* Writes with so much room, and sees what the call leaves. */
@@ -593,6 +681,7 @@ int main(int count, char **arguments) {
     queries(folder, "guide");
     any_bytes(folder);
     walks(folder);
+    names();
     drafts(folder);
     printf("%lu passed, %lu failed\n", passed, failed);
     return failed != 0;

@@ -36,8 +36,24 @@ pub struct Draft<'a> {
 impl Draft<'_> {
     /// How many work words its writing takes: 16 a node, 4 for each other entry and payload byte.
     pub fn work_words(&self) -> usize {
-        let entries = self.children.len() + self.named.len() / 3 + self.definitions.len() / 4 + self.items.len() / 3;
-        16 * (self.nodes.len() / 10) + 4 * (entries + self.payload.len())
+        let Draft { nodes, children, named, definitions, items, payload, .. } = self;
+        // SAFETY: the slices live through the call.
+        unsafe {
+            ffi::story_image_write_words(
+                nodes.as_ptr(),
+                nodes.len(),
+                children.as_ptr(),
+                children.len(),
+                named.as_ptr(),
+                named.len(),
+                definitions.as_ptr(),
+                definitions.len(),
+                items.as_ptr(),
+                items.len(),
+                payload.as_ptr(),
+                payload.len(),
+            )
+        }
     }
 
     /// Writes the image at the start of the output and gives that part of it. A refusal leaves the output as it was.

@@ -10,6 +10,10 @@ unsafe extern "C" {
         view_length: usize,
     ) -> u32;
 
+    pub fn story_image_load_words(bytes: *const u8, length: usize) -> usize;
+
+    pub fn story_image_view_whole(view: *const u32, view_length: usize) -> bool;
+
     pub fn story_image_node_view(
         bytes: *const u8,
         length: usize,
@@ -105,6 +109,58 @@ unsafe extern "C" {
         answer_length: usize,
     ) -> u32;
 
+    pub fn story_image_list_payload(
+        bytes: *const u8,
+        length: usize,
+        view: *const u32,
+        view_length: usize,
+        node: u32,
+        answer: *mut u32,
+        answer_length: usize,
+    ) -> u32;
+
+    pub fn story_image_list_counts(
+        bytes: *const u8,
+        length: usize,
+        view: *const u32,
+        view_length: usize,
+        node: u32,
+        answer: *mut u32,
+        answer_length: usize,
+    ) -> u32;
+
+    pub fn story_image_node_list_entry(
+        bytes: *const u8,
+        length: usize,
+        view: *const u32,
+        view_length: usize,
+        node: u32,
+        index: u32,
+        answer: *mut u32,
+        answer_length: usize,
+    ) -> u32;
+
+    pub fn story_image_node_list_origin(
+        bytes: *const u8,
+        length: usize,
+        view: *const u32,
+        view_length: usize,
+        node: u32,
+        index: u32,
+        answer: *mut u32,
+        answer_length: usize,
+    ) -> u32;
+
+    pub fn story_image_definition_first_item(
+        bytes: *const u8,
+        length: usize,
+        view: *const u32,
+        view_length: usize,
+        index: u32,
+        answer: *mut u32,
+        answer_length: usize,
+    ) -> u32;
+
     pub fn story_image_definition_count(
         bytes: *const u8,
         length: usize,
@@ -184,5 +240,36 @@ unsafe extern "C" {
         output_length: usize,
         written: *mut u32,
         written_length: usize,
+    ) -> u32;
+
+    pub fn story_image_write_words(
+        nodes: *const u32,
+        nodes_length: usize,
+        children: *const u32,
+        children_length: usize,
+        named: *const u32,
+        named_length: usize,
+        definitions: *const u32,
+        definitions_length: usize,
+        items: *const u32,
+        items_length: usize,
+        payload: *const u8,
+        payload_length: usize,
+    ) -> usize;
+
+    pub fn story_image_command_name(
+        number: u32,
+        text: *mut u8,
+        text_length: usize,
+        size: *mut u32,
+        size_length: usize,
+    ) -> u32;
+
+    pub fn story_image_operator_name(
+        number: u32,
+        text: *mut u8,
+        text_length: usize,
+        size: *mut u32,
+        size_length: usize,
     ) -> u32;
 }

@@ -4,7 +4,7 @@ use crate::ffi;
 use crate::lists::{DefinitionView, ListView};
 use crate::node::{NodeKindOf, NodeViewOf, Parts, ValueOf};
 use crate::path::{self, Step};
-use crate::raw::{ListItem, ListPlace, Queries, TextPlace};
+use crate::raw::{ListItem, Queries, TextPlace};
 use crate::refusal::Refusal;
 use crate::view::View;
 
@@ -46,25 +46,20 @@ pub struct Image<'a> {
     strings: &'a [u8],
 }
 
-/// How many work words a load of these bytes takes, where they are an image: nodes + children + named entries + 1 by the
-/// header. Never more than a quarter of the bytes, whatever the header says; 0 where there is no header.
+/// How many work words a load of these bytes takes: nodes + children + named entries + 1. Never more than a quarter of the
+/// bytes, whatever a header says; 0 where a load refuses the header, and so takes none.
 ///
 /// ```
 /// use story_image::load_words;
 ///
-/// let mut bytes = [255; 88];
-/// assert_eq!(load_words(&bytes), 22);
-/// assert_eq!(load_words(&bytes[..87]), 0);
-/// bytes[24..88].fill(0);
-/// assert_eq!(load_words(&bytes), 1);
+/// # let bytes = include_bytes!(concat!(env!("CARGO_MANIFEST_DIR"), "/../../samples/smallest.image"));
+/// assert_eq!(load_words(bytes), 2);
+/// // a header that asks for more than there can be
+/// assert_eq!(load_words(&[255; 88]), 0);
 /// ```
 pub fn load_words(bytes: &[u8]) -> usize {
-    if bytes.len() < 88 {
-        return 0;
-    }
-    let count = |at: usize| u64::from(u32::from_le_bytes([bytes[at], bytes[at + 1], bytes[at + 2], bytes[at + 3]]));
-    let needed = count(24) + count(32) + count(40) + 1;
-    needed.min(bytes.len() as u64 / 4) as usize
+    // SAFETY: the slice lives through the call.
+    unsafe { ffi::story_image_load_words(bytes.as_ptr(), bytes.len()) }
 }
 
 impl core::fmt::Debug for Image<'_> {
@@ -87,8 +82,10 @@ impl<'a> Parts for Image<'a> {
     }
 
     #[inline]
-    fn list(&self, offset: u32, length: u32) -> ListView<'a> {
-        ListView { payload: self.asked.list_part(ListPlace { offset, length }), strings: self.strings }
+    fn list(&self, node: u32, _: u32, _: u32) -> Option<ListView<'a>> {
+        let (start, length) = self.asked.list_payload(node)?;
+        let payload = self.bytes().get(start..start + length)?;
+        Some(ListView { payload, strings: self.strings, counts: self.asked.list_counts(node)? })
     }
 }
 
@@ -190,10 +187,7 @@ impl<'a> Image<'a> {
 
     /// The list value of a node, where it is one.
     pub fn list(&self, node: u32) -> Option<ListView<'a>> {
-        match self.node_view(node)?.kind {
-            NodeKindOf::Value(ValueOf::List(list)) => Some(list),
-            _ => None,
-        }
+        Parts::list(self, node, 0, 0)
     }
 
     pub fn definition_count(&self) -> u32 {

@@ -1,12 +1,13 @@
 //! List values and definitions.
 
-use crate::raw::{self, TextPlace};
+use crate::raw::{self, ListCounts, TextPlace};
 
 /// A list value: items and origins.
 #[derive(Clone, Copy)]
 pub struct ListView<'a> {
     pub(crate) payload: &'a [u8],
     pub(crate) strings: &'a [u8],
+    pub(crate) counts: ListCounts,
 }
 
 /// An item of a list value.
@@ -30,6 +31,14 @@ impl<'a> ListView<'a> {
         let text = self.strings.get(start..start + text.length as usize).unwrap_or(&[]);
         // SAFETY: only an `Image` makes a list, and of an accepted image every text of a list is UTF-8.
         unsafe { core::str::from_utf8_unchecked(text) }
+    }
+
+    pub fn item_count(&self) -> u32 {
+        self.counts.items
+    }
+
+    pub fn origin_count(&self) -> u32 {
+        self.counts.origins
     }
 
     pub fn item(&self, index: u32) -> Option<ListEntryView<'a>> {
@@ -57,12 +66,12 @@ impl<'a> ListView<'a> {
     /// ```
     pub fn items(&self) -> impl Iterator<Item = ListEntryView<'a>> + use<'a> {
         let list = *self;
-        (0..u32::MAX).map_while(move |index| list.item(index))
+        (0..list.item_count()).map_while(move |index| list.item(index))
     }
 
     pub fn origins(&self) -> impl Iterator<Item = &'a str> + use<'a> {
         let list = *self;
-        (0..u32::MAX).map_while(move |index| list.origin(index))
+        (0..list.origin_count()).map_while(move |index| list.origin(index))
     }
 }
 

@@ -95,12 +95,12 @@ impl PushPopType {
 /// As many words the library writes: parent, place, kind, text and length, variable and length, target, value, flags.
 pub(crate) const WORDS: usize = 10;
 
-/// What texts and list values are handed back as, by their places.
+/// What texts and list values are handed back as, by their places; a list also by its node.
 pub(crate) trait Parts {
     type Text;
     type List;
     fn text(&self, offset: u32, length: u32) -> Self::Text;
-    fn list(&self, offset: u32, length: u32) -> Self::List;
+    fn list(&self, node: u32, offset: u32, length: u32) -> Option<Self::List>;
 }
 
 #[inline]
@@ -116,15 +116,15 @@ fn optional_text<P: Parts>(parts: &P, offset: u32, length: u32) -> Option<P::Tex
 /// The view that ten words of the library say; nothing for words that it does not write. Each case makes the whole view, so
 /// that its fields go straight to their places.
 #[inline]
-pub(crate) fn view_of<P: Parts>(words: &[u32; WORDS], parts: &P) -> Option<NodeViewOf<P::Text, P::List>> {
+pub(crate) fn view_of<P: Parts>(node: u32, words: &[u32; WORDS], parts: &P) -> Option<NodeViewOf<P::Text, P::List>> {
     let [parent, place, tag, offset, length, variable, variable_length, target, value, flags] = *words;
-    let node = |kind| Some(NodeViewOf { parent: optional(parent), child_index: optional(place), kind });
+    let view = |kind| Some(NodeViewOf { parent: optional(parent), child_index: optional(place), kind });
     let text = || parts.text(offset, length);
     match tag {
-        1 => node(NodeKindOf::Container { count_flags: flags as i32, name: optional_text(parts, offset, length) }),
-        2 => node(NodeKindOf::ChoicePoint { flags: flags as i32, target: optional(target) }),
-        3 => node(NodeKindOf::ControlCommand(CommandType::from_number(value)?)),
-        4 => node(NodeKindOf::Divert {
+        1 => view(NodeKindOf::Container { count_flags: flags as i32, name: optional_text(parts, offset, length) }),
+        2 => view(NodeKindOf::ChoicePoint { flags: flags as i32, target: optional(target) }),
+        3 => view(NodeKindOf::ControlCommand(CommandType::from_number(value)?)),
+        4 => view(NodeKindOf::Divert {
             path: optional_text(parts, offset, length),
             target: optional(target),
             variable_name: optional_text(parts, variable, variable_length),
@@ -134,23 +134,23 @@ pub(crate) fn view_of<P: Parts>(words: &[u32; WORDS], parts: &P) -> Option<NodeV
             pushes_to_stack: flags & 4 != 0,
             stack_push_type: PushPopType::from_number(flags >> 3)?,
         }),
-        5 => node(NodeKindOf::Glue),
-        6 => node(NodeKindOf::NativeFunction(Op::from_number(value)?)),
-        7 => node(NodeKindOf::Tag(text())),
-        8 => node(NodeKindOf::Value(ValueOf::Bool(value != 0))),
-        9 => node(NodeKindOf::Value(ValueOf::Int(value as i32))),
-        10 => node(NodeKindOf::Value(ValueOf::Float(f32::from_bits(value)))),
-        11 => node(NodeKindOf::Value(ValueOf::String(text()))),
-        12 => node(NodeKindOf::Value(ValueOf::List(parts.list(offset, length)))),
-        13 => node(NodeKindOf::Value(ValueOf::DivertTarget(text()))),
-        14 => node(NodeKindOf::Value(ValueOf::VariablePointer { name: text(), context_index: value as i32 })),
-        16 => node(NodeKindOf::VariableAssignment {
+        5 => view(NodeKindOf::Glue),
+        6 => view(NodeKindOf::NativeFunction(Op::from_number(value)?)),
+        7 => view(NodeKindOf::Tag(text())),
+        8 => view(NodeKindOf::Value(ValueOf::Bool(value != 0))),
+        9 => view(NodeKindOf::Value(ValueOf::Int(value as i32))),
+        10 => view(NodeKindOf::Value(ValueOf::Float(f32::from_bits(value)))),
+        11 => view(NodeKindOf::Value(ValueOf::String(text()))),
+        12 => view(NodeKindOf::Value(ValueOf::List(parts.list(node, offset, length)?))),
+        13 => view(NodeKindOf::Value(ValueOf::DivertTarget(text()))),
+        14 => view(NodeKindOf::Value(ValueOf::VariablePointer { name: text(), context_index: value as i32 })),
+        16 => view(NodeKindOf::VariableAssignment {
             name: text(),
             global: flags & 1 != 0,
             new_declaration: flags & 2 != 0,
         }),
-        17 => node(NodeKindOf::VariableReference { name: text(), count_target: optional(target) }),
-        18 => node(NodeKindOf::Void),
+        17 => view(NodeKindOf::VariableReference { name: text(), count_target: optional(target) }),
+        18 => view(NodeKindOf::Void),
         _ => None,
     }
 }

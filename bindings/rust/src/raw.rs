@@ -41,6 +41,13 @@ pub struct ListEntry {
     pub value: i32,
 }
 
+/// How many items and origins a list value has.
+#[derive(Clone, Copy, Debug, PartialEq, Eq)]
+pub struct ListCounts {
+    pub items: u32,
+    pub origins: u32,
+}
+
 #[derive(Clone, Copy, Debug, PartialEq, Eq)]
 pub struct Definition {
     pub name: TextPlace,
@@ -90,8 +97,8 @@ impl Parts for Places {
     }
 
     #[inline]
-    fn list(&self, offset: u32, length: u32) -> ListPlace {
-        ListPlace { offset, length }
+    fn list(&self, _: u32, offset: u32, length: u32) -> Option<ListPlace> {
+        Some(ListPlace { offset, length })
     }
 }
 
@@ -124,6 +131,19 @@ macro_rules! ask {
     }};
 }
 
+/// An item of a list value.
+#[inline]
+fn entry(&[origin, origin_length, offset, length, value]: &[u32; 5]) -> Option<ListEntry> {
+    let origin = (origin != NONE).then_some(TextPlace { offset: origin, length: origin_length });
+    Some(ListEntry { origin, name: TextPlace { offset, length }, value: value as i32 })
+}
+
+/// The place of a text.
+#[inline]
+fn place(&[offset, length]: &[u32; 2]) -> Option<TextPlace> {
+    Some(TextPlace { offset, length })
+}
+
 /// An answer of one word.
 #[inline]
 fn word(&[word]: &[u32; 1]) -> Option<u32> {
@@ -150,7 +170,7 @@ impl<'a> Queries<'a> {
     /// The view, with texts and lists as `parts` hands them back.
     #[inline]
     pub(crate) fn node_view_with<P: Parts>(&self, node: u32, parts: &P) -> Option<NodeViewOf<P::Text, P::List>> {
-        ask!(self, story_image_node_view, node => |words| node::view_of(words, parts))
+        ask!(self, story_image_node_view, node => |words| node::view_of(node, words, parts))
     }
 
     pub fn node_view(&self, node: u32) -> Option<NodeView> {
@@ -207,8 +227,27 @@ impl<'a> Queries<'a> {
         self.section_part(strings, 0, strings.count)
     }
 
+    /// Where the payload of a node's list value lies in the bytes: start and length.
+    pub fn list_payload(&self, node: u32) -> Option<(usize, usize)> {
+        ask!(self, story_image_list_payload, node => |&[start, length]| Some((start as usize, length as usize)))
+    }
+
+    pub fn list_counts(&self, node: u32) -> Option<ListCounts> {
+        ask!(self, story_image_list_counts, node => |&[items, origins]| Some(ListCounts { items, origins }))
+    }
+
+    /// Item `index` of a node's list value.
+    pub fn node_list_entry(&self, node: u32, index: u32) -> Option<ListEntry> {
+        ask!(self, story_image_node_list_entry, node, index => entry)
+    }
+
+    /// Origin `index` of a node's list value.
+    pub fn node_list_origin(&self, node: u32, index: u32) -> Option<TextPlace> {
+        ask!(self, story_image_node_list_origin, node, index => place)
+    }
+
     /// The payload of a list value; empty where it is not inside the bytes.
-    pub(crate) fn list_part(&self, list: ListPlace) -> &'a [u8] {
+    fn list_part(&self, list: ListPlace) -> &'a [u8] {
         self.section_part(self.view().payload, list.offset, list.length)
     }
 
@@ -234,7 +273,7 @@ impl<'a> Queries<'a> {
 
     /// The first item of a definition among the items of all.
     pub fn first_item(&self, definition: u32) -> Option<u32> {
-        (0..definition).try_fold(0u32, |sum, before| sum.checked_add(self.definition(before)?.items))
+        ask!(self, story_image_definition_first_item, definition => word)
     }
 
     /// Item `item` of a definition, counted from its first.
@@ -273,10 +312,7 @@ pub fn list_entry(payload: &[u8], strings: &[u8], index: u32) -> Option<ListEntr
         |answer, length| unsafe {
             ffi::story_image_list_entry(payload, payload_length, strings, strings_length, index, answer, length)
         },
-        |&[origin, origin_length, offset, length, value]| {
-            let origin = (origin != NONE).then_some(TextPlace { offset: origin, length: origin_length });
-            Some(ListEntry { origin, name: TextPlace { offset, length }, value: value as i32 })
-        },
+        entry,
     )
 }
 
@@ -289,6 +325,6 @@ pub fn list_origin(payload: &[u8], strings: &[u8], index: u32) -> Option<TextPla
         |answer, length| unsafe {
             ffi::story_image_list_origin(payload, payload_length, strings, strings_length, index, answer, length)
         },
-        |&[offset, length]| Some(TextPlace { offset, length }),
+        place,
     )
 }

@@ -56,7 +56,7 @@ fn work_words() {
     // a header that asks for more words than the machine has
     let mut hostile = [255; 88];
     hostile[..8].copy_from_slice(b"BLINKIMG");
-    assert_eq!(load_words(&hostile), 22);
+    assert_eq!(load_words(&hostile), 0);
     assert_eq!(load_words(&[0; 87]), 0);
     assert_eq!(load_words(SMALLEST), 2);
     // one word fewer than is said is not enough
@@ -77,6 +77,11 @@ fn short_view() {
         ffi::story_image_load(SMALLEST.as_ptr(), SMALLEST.len(), work.as_mut_ptr(), 2, view.as_mut_ptr(), 16)
     };
     assert_eq!((number, work, view), (7, [5; 2], [5; 16]));
+    // SAFETY: as above.
+    let whole = |words: usize| unsafe { ffi::story_image_view_whole(view.as_ptr(), words) };
+    assert!(!whole(16) && !whole(0));
+    // SAFETY: as above.
+    assert!(unsafe { ffi::story_image_view_whole([0; 17].as_ptr(), 17) });
 }
 
 /// The words are those of README's table, FORMAT has as many rows, and the header has the same names.

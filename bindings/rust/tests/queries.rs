@@ -2,7 +2,8 @@
 
 use story_image::raw::{self, TextPlace};
 use story_image::{
-    CommandType, Image, ListItem, NONE, NodeKindView, Op, Refusal, Section, Step, ValueView, View, ffi, load_words,
+    CommandType, Image, ListItem, NONE, NodeKindOf, NodeKindView, Op, Refusal, Section, Step, ValueOf, ValueView, View,
+    ffi, load_words,
 };
 
 const STEP: &[u8] = include_bytes!("../../../samples/step.image");
@@ -80,6 +81,35 @@ fn names() {
     assert!(CommandType::ALL.iter().all(|one| CommandType::from_name(one.name()) == Some(*one)));
     assert!(Op::ALL.iter().all(|one| Op::from_name(one.name()) == Some(*one)));
     assert_eq!((CommandType::from_number(26), Op::from_number(31)), (None, None));
+    for number in 0..40 {
+        let command = CommandType::from_number(number).map(|one| one.name().into());
+        assert_eq!(spelled(ffi::story_image_command_name, number), command);
+        assert_eq!(
+            spelled(ffi::story_image_operator_name, number),
+            Op::from_number(number).map(|one| one.name().into())
+        );
+    }
+}
+
+/// A function of the library that spells a number.
+type Spelling = unsafe extern "C" fn(u32, *mut u8, usize, *mut u32, usize) -> u32;
+
+/// The text that the library gives; with a byte too few it gives none, and writes nothing.
+fn spelled(spelling: Spelling, number: u32) -> Option<String> {
+    let (mut text, mut size) = ([b'?'; 16], [77; 2]);
+    // SAFETY: the slices live through the call and do not overlap.
+    let answer = unsafe { spelling(number, text.as_mut_ptr(), 16, size.as_mut_ptr(), 2) };
+    if answer != 0 {
+        assert_eq!((answer, text, size), (18, [b'?'; 16], [77; 2]));
+        return None;
+    }
+    let length = size[0] as usize;
+    assert!(text[length..].iter().all(|byte| *byte == b'?') && size[1] == 77);
+    let (mut short, mut none) = ([b'?'; 16], [77; 2]);
+    // SAFETY: as above.
+    let too_short = unsafe { spelling(number, short.as_mut_ptr(), length - 1, none.as_mut_ptr(), 2) };
+    assert_eq!((too_short, short, none), (23, [b'?'; 16], [77; 2]));
+    Some(String::from_utf8(text[..length].to_vec()).unwrap())
 }
 
 #[test]
@@ -165,6 +195,7 @@ fn lists() {
     assert!(before > 0);
     assert_eq!(image.list_item(" "), None);
     let lists: Vec<_> = (0..image.node_count()).filter_map(|node| image.list(node)).collect();
+    lists_by_node(&image);
     assert!(!lists.is_empty());
     for list in &lists {
         assert_eq!(*list, *list);
@@ -174,10 +205,38 @@ fn lists() {
                 assert_eq!(image.list_item(format!("{origin}.{}", item.name)).unwrap().value, item.value);
             }
         }
-        assert_eq!(list.item(list.items().count() as u32), None);
-        assert_eq!(list.origin(list.origins().count() as u32), None);
+        assert_eq!(list.items().count(), list.item_count() as usize);
+        assert_eq!(list.origins().count(), list.origin_count() as usize);
+        assert_eq!((list.item(list.item_count()), list.origin(list.origin_count())), (None, None));
     }
     assert!(lists.iter().any(|list| list.items().count() > 0));
+}
+
+/// Lists by node and by place say the same; a node that is no list has none.
+fn lists_by_node(image: &Image<'_>) {
+    let raw = image.raw();
+    for node in 0..=image.node_count() {
+        let place = match raw.node_view(node).map(|node| node.kind) {
+            Some(NodeKindOf::Value(ValueOf::List(place))) => place,
+            _ => {
+                assert_eq!((raw.list_payload(node), raw.list_counts(node)), (None, None));
+                assert_eq!((raw.node_list_entry(node, 0), raw.node_list_origin(node, 0)), (None, None));
+                continue;
+            }
+        };
+        let (start, length) = raw.list_payload(node).unwrap();
+        assert_eq!(start, (image.view().payload.offset + place.offset) as usize);
+        assert_eq!(length, place.length as usize);
+        let counts = raw.list_counts(node).unwrap();
+        for index in 0..=counts.items {
+            assert_eq!(raw.node_list_entry(node, index), raw.list_entry(place, index));
+            assert_eq!(raw.list_entry(place, index).is_some(), index < counts.items);
+        }
+        for index in 0..=counts.origins {
+            assert_eq!(raw.node_list_origin(node, index), raw.list_origin(place, index));
+            assert_eq!(raw.list_origin(place, index).is_some(), index < counts.origins);
+        }
+    }
 }
 
 /// Any bytes and any view may be asked; an answer's parts lie inside the bytes.
