@@ -19,7 +19,8 @@ use Rattle.views.specs.declared.Found.{Found}
 use Rattle.views.specs.declared.Found.the-variants.{Node, NotFound}
 use Rattle.answers.specs.AnswerWords.{foundAnswer}
 use Rattle.image.specs.declared.ImageView.{ImageView}
-use Rattle.load.specs.Load.{loadedOf, loadedNumber}
+use Rattle.load.specs.Load.{loadedOf}
+use Rattle.promises.specs.Answers.{ofLoaded}
 use Rattle.load.specs.declared.Loaded.{Loaded}
 use Rattle.load.specs.declared.Loaded.the-variants as Loaded
 use Rattle.writer.specs.declared.Encoded.{Encoded}
@@ -79,13 +80,13 @@ module _ (f : List ℕ) (at : ℕ) (a : Found) (r : Bool) where
 -- ---- a load
 
 module _ (a : Loaded) (n : ℕ) (bs : List ℕ) where
-  pub view-number : (v : ImageView) → a ≡ loadedOf bs n → a ≡ Loaded.View v → 0 ≡ loadedNumber (loadedOf bs n)
-  view-number v e q = ap loadedNumber (sym q ∙ e)
+  pub view-number : (v : ImageView) → a ≡ loadedOf bs n → a ≡ Loaded.View v → 0 ≡ ofLoaded (loadedOf bs n) .number
+  view-number v e q = ap (λ (x : Loaded). ofLoaded x .number) (sym q ∙ e)
 
-  pub refused-number : (k : ℕ) → a ≡ loadedOf bs n → a ≡ Loaded.Refused k → k ≡ loadedNumber (loadedOf bs n)
-  refused-number k e q = ap loadedNumber (sym q ∙ e)
+  pub refused-number : (k : ℕ) → a ≡ loadedOf bs n → a ≡ Loaded.Refused k → k ≡ ofLoaded (loadedOf bs n) .number
+  refused-number k e q = ap (λ (x : Loaded). ofLoaded x .number) (sym q ∙ e)
 
-pub load-recorded : (f : List ℕ) (a : Loaded) (x y : ℕ) → x ≡ loadedNumber a → y ≡ wordIn f 0 → eqb x y ≡ recordedLoad f a
+pub load-recorded : (f : List ℕ) (a : Loaded) (x y : ℕ) → x ≡ ofLoaded a .number → y ≡ wordIn f 0 → eqb x y ≡ recordedLoad f a
 unfolding recordedLoad
 load-recorded f a x y e h = rw (e, h) refl
 

@@ -10,7 +10,7 @@ use Rattle.texts.specs.Text.{same}
 use Rattle.image.specs.declared.Section.{Section}
 use Rattle.image.specs.Header.{sectionBytes}
 use Rattle.load.specs.declared.Loaded.{Loaded}
-use Rattle.load.specs.Load.{loadedNumber}
+use Rattle.promises.specs.Answers.{ofLoaded}
 use Rattle.writer.specs.declared.Encoded.{Encoded}
 use Rattle.writer.specs.declared.Encoded.the-variants.{Written, Refused}
 
@@ -22,7 +22,7 @@ recorded r at count (some ws) =
 
 -- whether the first word of a record is the number of a load's answer
 unfoldable pub recordedLoad : List ℕ → Loaded → Bool
-recordedLoad r a = eqb (loadedNumber a) (wordIn r 0)
+recordedLoad r a = eqb (ofLoaded a .number) (wordIn r 0)
 
 -- whether a refusal is the recorded one: 0 is none, 21 stands for any
 unfoldable pub refusedAlike : ℕ → ℕ → Bool

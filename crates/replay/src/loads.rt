@@ -2,7 +2,8 @@
 // image.
 ghost use mathlib.Core.Path.{_≡_};
 ghost use lib.ListN.{length};
-ghost use Rattle.load.specs.Load.{loadedOf, loadedNumber};
+ghost use Rattle.load.specs.Load.{loadedOf};
+ghost use Rattle.promises.specs.Answers.{ofLoaded};
 ghost use Rattle.replay.specs.Recorded.{recordedLoad};
 use load::Loaded;
 
@@ -11,7 +12,7 @@ const CHECKSUM_AT: usize = 84;
 
 // What a load answers, as a number.
 fn number_with(bytes: &[u8], work: &mut [u32]) -> u32
-    ensures { λ r. ⌜ r ≡ loadedNumber (loadedOf (now (bytes .entry)) (length (now (work .entry)))) ⌝ }
+    ensures { λ r. ⌜ r ≡ ofLoaded (loadedOf (now (bytes .entry)) (length (now (work .entry)))) .number ⌝ }
 {
     match load::load(bytes, work) {
         Loaded::View(_) => 0,

@@ -56,7 +56,7 @@ use Rattle.answers.proofs.ListPlaces.{Lies, list-lies}
 use Rattle.story_image.specs.Exported.{viewLength, wordsOfView, viewBy, under, writtenAfter}
 use Rattle.story_image.specs.Queries.{atList, firstWords}
 use Rattle.story_image.specs.Accepted.{Answers, ViewOf, Exports, AcceptedExports, wordsOfPart, wordsOfText, wordsOfListItem}
-use Rattle.story_image.proofs.Views.{enough}
+use Rattle.story_image.proofs.Views.{view-back, enough}
 
 -- ---- how many words an answer has
 
@@ -143,14 +143,21 @@ answering k exported inner e size =
 
 -- ---- the view that a load wrote
 
-module _ (bs view : List ℕ) (v : ViewOf bs view) where
+right-version : (bs : List ℕ) → Opens bs → viewOf bs .version ≡ version
+unfolding viewOf
+right-version bs o = eqb-true (wordAt bs 8) version (o .versioned)
+
+module _ (bs view : List ℕ) (versioned : viewOf bs .version ≡ version) (v : ViewOf bs view) where
   view-long : viewLength ≤ length view
   unfolding writtenAfter
   view-long = rw (v .written) (omega arith)
 
-  view-same : viewOf bs ≡ viewBy view
+  written-back : viewBy (wordsOfView (viewOf bs)) ≡ viewBy view
   unfolding writtenAfter
-  view-same = rw (v .written)
+  written-back = rw (v .written)
+
+  view-same : viewOf bs ≡ viewBy view
+  view-same = sym (view-back (viewOf bs) versioned) ∙ written-back
 
   pub asked-as : (query : ImageView → Option (List ℕ)) → under view query ≡ query (viewOf bs)
   asked-as query = sym (enough view query view-long (viewOf bs) view-same)
@@ -279,31 +286,31 @@ module _ (bs view : List ℕ) (o : Opens bs) (short : length bs < 2 ^ 32) (v : V
   pub exports : Exports bs view s
   exports =
       record {
-        node-view = λ i. answering 10 _ _ (asked-as bs view v _) (node-size (nodeView s i));
-        text = λ at len. answering 2 _ _ (asked-as bs view v _ ∙ text-whole bs o short (span at len)) (text-size _ (textQuery s (span at len)));
-        child-count = λ i. answering 1 _ _ (asked-as bs view v _) (count-size (childCountOf s i));
-        child = λ i j. answering 1 _ _ (asked-as bs view v _) (found-size (childQuery s i j));
-        named-child-count = λ i. answering 1 _ _ (asked-as bs view v _) (count-size (namedCountOf s i));
-        named-child = λ i j. answering 3 _ _ (asked-as bs view v _) (named-size (namedQuery s i j));
-        find-named-child = λ i name. answering 1 _ _ (asked-as bs view v _) (found-size (findNamed s i name));
+        node-view = λ i. answering 10 _ _ (asked-as bs view (right-version bs o) v _) (node-size (nodeView s i));
+        text = λ at len. answering 2 _ _ (asked-as bs view (right-version bs o) v _ ∙ text-whole bs o short (span at len)) (text-size _ (textQuery s (span at len)));
+        child-count = λ i. answering 1 _ _ (asked-as bs view (right-version bs o) v _) (count-size (childCountOf s i));
+        child = λ i j. answering 1 _ _ (asked-as bs view (right-version bs o) v _) (found-size (childQuery s i j));
+        named-child-count = λ i. answering 1 _ _ (asked-as bs view (right-version bs o) v _) (count-size (namedCountOf s i));
+        named-child = λ i j. answering 3 _ _ (asked-as bs view (right-version bs o) v _) (named-size (namedQuery s i j));
+        find-named-child = λ i name. answering 1 _ _ (asked-as bs view (right-version bs o) v _) (found-size (findNamed s i name));
         list-payload = λ i.
-            answering 2 _ _ (asked-as bs view v _ ∙ payload-whole bs o short (atNode i) (list-lies s i))
+            answering 2 _ _ (asked-as bs view (right-version bs o) v _ ∙ payload-whole bs o short (atNode i) (list-lies s i))
             (list-size 2 (atNode i) _ (λ t. some-size 2 (wordsOfPart (viewOf bs .payload .offset) t) refl));
-        list-counts = λ i. answering 2 _ _ (asked-as bs view v _) (list-size 2 (atNode i) _ (λ t. counts-size (listPart s t)));
+        list-counts = λ i. answering 2 _ _ (asked-as bs view (right-version bs o) v _) (list-size 2 (atNode i) _ (λ t. counts-size (listPart s t)));
         list-entry = λ i j.
-            answering 5 _ _ (asked-as bs view v _) (list-size 5 (atNode i) _ (λ t. entry-size (listEntry (listPart s t) (s .strings) j)));
+            answering 5 _ _ (asked-as bs view (right-version bs o) v _) (list-size 5 (atNode i) _ (λ t. entry-size (listEntry (listPart s t) (s .strings) j)));
         list-origin = λ i j.
-            answering 2 _ _ (asked-as bs view v _) (list-size 2 (atNode i) _ (λ t. place-size (listOrigin (listPart s t) (s .strings) j)));
+            answering 2 _ _ (asked-as bs view (right-version bs o) v _) (list-size 2 (atNode i) _ (λ t. place-size (listOrigin (listPart s t) (s .strings) j)));
         definition-count =
-            answering 1 _ _ (asked-as bs view v _ ∙ sym (count-some (definitionCount s) (definitions-few bs o short)))
+            answering 1 _ _ (asked-as bs view (right-version bs o) v _ ∙ sym (count-some (definitionCount s) (definitions-few bs o short)))
             (some-size 1 (definitionCount s ∷ []) refl);
-        definition = λ d. answering 3 _ _ (asked-as bs view v _) (definition-size (definitionQuery s d));
-        first-item = λ d. answering 1 _ _ (asked-as bs view v _) (first-size s d (definitionQuery s d));
-        definition-item = λ d j. answering 3 _ _ (asked-as bs view v _) (item-size (itemQuery s d j));
+        definition = λ d. answering 3 _ _ (asked-as bs view (right-version bs o) v _) (definition-size (definitionQuery s d));
+        first-item = λ d. answering 1 _ _ (asked-as bs view (right-version bs o) v _) (first-size s d (definitionQuery s d));
+        definition-item = λ d j. answering 3 _ _ (asked-as bs view (right-version bs o) v _) (item-size (itemQuery s d j));
         list-item = λ name.
-            answering 3 _ _ (asked-as bs view v _ ∙ item-whole bs o short (listItem s name) (item-numbers s name)) (list-item-size (listItem s name));
+            answering 3 _ _ (asked-as bs view (right-version bs o) v _ ∙ item-whole bs o short (listItem s name) (item-numbers s name)) (list-item-size (listItem s name));
         walk = λ origin relative path names.
-            answering 1 _ _ (asked-as bs view v _) (found-size (resolve s relative origin (components names path)));
+            answering 1 _ _ (asked-as bs view (right-version bs o) v _) (found-size (resolve s relative origin (components names path)));
       }
 
 pub accepted-exports : AcceptedExports

@@ -9,11 +9,24 @@ use borrow.Author.Tests.{le-leb, lt-leb}
 use Rattle.image.specs.declared.ImageView.{ImageView}
 use Rattle.answers.specs.AnswerWords.{Answered}
 use Rattle.answers.proofs.AnswerSlices.{unanswered, answered-as}
+use Rattle.image.specs.Header.{version}
 use Rattle.story_image.specs.Exported.{wordsOfView, viewLength, viewBy, under}
 
--- the words of a view give it back
-pub view-back : (v : ImageView) → viewBy (wordsOfView v) ≡ v
-view-back v = refl
+-- the words of a view of the one version there is give it back
+pub view-back : (v : ImageView) → v .version ≡ version → viewBy (wordsOfView v) ≡ v
+view-back v e =
+    λ t. record {
+      version = sym e t;
+      «ink_version» = v .«ink_version»;
+      nodes = v .nodes;
+      children = v .children;
+      named = v .named;
+      definitions = v .definitions;
+      items = v .items;
+      index = v .index;
+      payload = v .payload;
+      strings = v .strings;
+    }
 
 module _ (view : List ℕ) (query : ImageView → Option (List ℕ)) where
   pub too-few : length view < viewLength → none ≡ under view query

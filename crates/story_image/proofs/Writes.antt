@@ -16,7 +16,7 @@ use Rattle.draft.proofs.Rules.{tables}
 use Rattle.draft_image.specs.Encode.{imageFor, encodeRule, outAfter, untouched, encodeWorkAfter}
 use Rattle.writer.specs.declared.Encoded.{Encoded}
 use Rattle.writer.specs.declared.Encoded.the-variants.{Written, Refused}
-use Rattle.writer.specs.Answer.{encodedBy, encodedOf, encodedNumber}
+use Rattle.writer.specs.Answer.{encodedBy, encodedOf, ofEncoded}
 use Rattle.writer.proofs.Numbers.{tables-leave}
 use Rattle.writer.proofs.Answers.{ink-wrong, tables-wrong, words-few}
 use Rattle.story_image.specs.Writing.{wordsFor, lengthAfter}
@@ -33,15 +33,15 @@ unfolding encodedBy
 refused-by zero k long e = let z : _≡_ {A = ℕ} 0 1 = cc in absurd (omega arith)
 refused-by (suc r) k long e = let q : k ≡ suc r = cc in (q, λ z. omega arith)
 
-number-by : (r long : ℕ) → encodedNumber (encodedBy r long) ≡ r
+number-by : (r long : ℕ) → ofEncoded (encodedBy r long) .number ≡ r
 unfolding encodedBy
 number-by zero long = refl
 number-by (suc r) long = refl
 
-pub number : (ink : ℕ) (s : Sections) (work room : ℕ) (a : Encoded) (r : ℕ) → a ≡ encodedOf ink s work room → r ≡ encodedNumber a
+pub number : (ink : ℕ) (s : Sections) (work room : ℕ) (a : Encoded) (r : ℕ) → a ≡ encodedOf ink s work room → r ≡ ofEncoded a .number
     → r ≡ encodeRule ink s work room
 unfolding encodedOf
-number ink s work room a r e q = q ∙ ap encodedNumber e ∙ number-by (encodeRule ink s work room) (length (imageFor ink s))
+number ink s work room a r e q = q ∙ ap (λ (x : Encoded). ofEncoded x .number) e ∙ number-by (encodeRule ink s work room) (length (imageFor ink s))
 
 pub output-by : (r k : ℕ) (image out now : List ℕ) → r ≡ k → now ≡ outAfter k image out → now ≡ outAfter r image out
 output-by r k image out now e p = p ∙ ap (λ (m : ℕ). outAfter m image out) (sym e)

@@ -7,6 +7,7 @@ use lib.ListN.{length, drop, getD}
 use lib.Dec.{leb}
 use Rattle.image.specs.declared.Section.{Section}
 use Rattle.image.specs.declared.ImageView.{ImageView}
+use Rattle.image.specs.Header.{version}
 
 abbrev sectionThen : Section → List ℕ → List ℕ
 sectionThen s ws = s .offset ∷ s .count ∷ ws
@@ -24,13 +25,14 @@ wordsOfView v =
 abbrev pub viewLength : ℕ
 viewLength = 17
 
--- the view that lent words give
+-- the view that lent words give; they are those of an image of the one version there is
 abbrev sectionBy : List ℕ → ℕ → Section
 sectionBy ws k = record { offset = getD ws (1 + 2 * k) 0; count = getD ws (2 + 2 * k) 0 }
 
 abbrev pub viewBy : List ℕ → ImageView
 viewBy ws =
     record {
+      version = version;
       «ink_version» = getD ws 0 0;
       nodes = sectionBy ws 0;
       children = sectionBy ws 1;

@@ -15,7 +15,8 @@ ghost use mathlib.Core.Path.{_≡_};
 ghost use Prim.Native.Nat.{_≤_};
 ghost use lib.ListN.{length};
 ghost use Rattle.image.specs.Header.{sectionsOf, viewOf};
-ghost use Rattle.load.specs.Load.{loadRule, loadWords, loadedNumber, workAfter};
+ghost use Rattle.load.specs.Load.{loadRule, loadWords, workAfter};
+ghost use Rattle.promises.specs.Answers.{ofLoaded};
 ghost use Rattle.story_image.specs.Exported.{wordsOfView, viewBy, viewLength, lentWords, writtenAfter};
 
 // Words of a view: the ink version, then offset and count of each section.
@@ -27,6 +28,7 @@ fn view_of(words: &[u32]) -> ImageView
     ensures { λ r. ⌜ r ≡ viewBy (now (words .entry)) ⌝ }
 {
     ImageView {
+        version: ImageView::VERSION,
         ink_version: words[0],
         nodes: Section {
             offset: words[1],
@@ -99,7 +101,7 @@ fn put_view(found: ImageView, view: &mut [u32])
 
 // Document 01's number for an answer.
 fn number_of(loaded: Loaded) -> u32
-    ensures { λ r. ⌜ r ≡ loadedNumber loaded ⌝ }
+    ensures { λ r. ⌜ r ≡ ofLoaded loaded .number ⌝ }
 {
     match loaded {
         Loaded::View(_) => 0,

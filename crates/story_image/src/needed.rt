@@ -1,6 +1,7 @@
 // How many words calls need.
 use crate::VIEW_WORDS;
 use draft::Needed;
+use draft::source::Source;
 use image::ImageView;
 use image::Opened;
 ghost use mathlib.Core.Path.{_≡_};
@@ -8,6 +9,7 @@ ghost use mathlib.Core.Bool.{Bool};
 ghost use mathlib.Core.List.{[]};
 ghost use lib.ListN.{length};
 ghost use lib.Dec.{leb};
+ghost use Rattle.image.specs.Header.{version};
 ghost use Rattle.draft.specs.Source.{draftOf};
 ghost use Rattle.story_image.specs.Exported.{viewLength};
 ghost use Rattle.story_image.specs.Needed.{wordsToLoad, wordsToWrite};
@@ -46,18 +48,22 @@ pub extern "C" fn story_image_write_words(
     items: &[u32],
     payload: &[u8],
 ) -> usize
-    ensures { λ r. ⌜ (let s = draftOf (now (nodes .entry)) (now (children .entry)) (now (named .entry)) (now (definitions .entry))
+    ensures { λ r. ⌜ (let s = draftOf version (now (nodes .entry)) (now (children .entry)) (now (named .entry)) (now (definitions .entry))
         (now (items .entry)) (now (payload .entry)) [] in r ≡ wordsToWrite s) ⌝ }
 {
-    match draft::work_words_fit(
+    let source = Source {
+        version: ImageView::VERSION,
+    };
+    let counts = draft::entry_counts(
         nodes,
         children,
         named,
         definitions,
         items,
         payload,
-        LARGEST_SIZE,
-    ) {
+        source,
+    );
+    match draft::work_words_fit(counts, LARGEST_SIZE) {
         Needed::TooMany => LARGEST_SIZE,
         Needed::Words(words) => words,
     }

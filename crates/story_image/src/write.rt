@@ -2,14 +2,15 @@
 use writer::Encoded;
 ghost use mathlib.Core.Path.{_≡_};
 ghost use lib.ListN.{length};
+ghost use Rattle.image.specs.Header.{version};
 ghost use Rattle.draft.specs.Source.{draftOf};
 ghost use Rattle.draft_image.specs.Encode.{imageFor, encodeRule, outAfter};
-ghost use Rattle.writer.specs.Answer.{encodedNumber};
+ghost use Rattle.writer.specs.Answer.{ofEncoded};
 ghost use Rattle.story_image.specs.Writing.{Wrote};
 
-// Document 01's number for an answer.
+// The number of an answer.
 fn number_of(answer: Encoded) -> u32
-    ensures { λ r. ⌜ r ≡ encodedNumber answer ⌝ }
+    ensures { λ r. ⌜ r ≡ ofEncoded answer .number ⌝ }
 {
     match answer {
         Encoded::Written(_) => 0,
@@ -29,10 +30,10 @@ fn write_without_words(
     strings: &[u8],
     output: &mut [u8],
 ) -> u32
-    ensures answer { λ r. ⌜ (let s = draftOf (now (nodes .entry)) (now (children .entry)) (now (named .entry)) (now (definitions .entry))
+    ensures answer { λ r. ⌜ (let s = draftOf version (now (nodes .entry)) (now (children .entry)) (now (named .entry)) (now (definitions .entry))
         (now (items .entry)) (now (payload .entry)) (now (strings .entry)) in
         r ≡ encodeRule ink s 0 (length (now (output .entry)))) ⌝ }
-    ensures output { λ r. ⌜ (let s = draftOf (now (nodes .entry)) (now (children .entry)) (now (named .entry)) (now (definitions .entry))
+    ensures output { λ r. ⌜ (let s = draftOf version (now (nodes .entry)) (now (children .entry)) (now (named .entry)) (now (definitions .entry))
         (now (items .entry)) (now (payload .entry)) (now (strings .entry)) in
         now (output .exit) ≡ outAfter r (imageFor ink s) (now (output .entry))) ⌝ }
 {
@@ -69,7 +70,7 @@ pub extern "C" fn story_image_write(
     output: &mut [u8],
     written: &mut [u32],
 ) -> u32
-    ensures { λ r. ⌜ (let s = draftOf (now (nodes .entry)) (now (children .entry)) (now (named .entry)) (now (definitions .entry))
+    ensures { λ r. ⌜ (let s = draftOf version (now (nodes .entry)) (now (children .entry)) (now (named .entry)) (now (definitions .entry))
         (now (items .entry)) (now (payload .entry)) (now (strings .entry)) in
         Wrote ink s (now (output .entry)) (now (output .exit)) (now (work .entry)) (now (work .exit))
         (now (written .entry)) (now (written .exit)) r) ⌝ }
