@@ -70,6 +70,7 @@ fn bit_of(word: u32) -> u32
     if word == 0 { 0 } else { 1 }
 }
 
+// Name and flags.
 fn container(node: NodeRecord, strings: usize) -> KindFound
     ensures { λ r. ⌜ wordsFound r ≡ wordsOfKind (containerView strings node) ⌝ }
 {
@@ -77,6 +78,7 @@ fn container(node: NodeRecord, strings: usize) -> KindFound
     KindFound::Kind(text_alone(1, name, NONE, 0, node.f2))
 }
 
+// Path, variable, target, number of arguments, flags; none where the push type is unknown.
 fn divert(node: NodeRecord, strings: usize) -> KindFound
     ensures { λ r. ⌜ wordsFound r ≡ wordsOfKind (divertView strings node) ⌝ }
 {
@@ -105,6 +107,7 @@ fn numbered(tag: u32, number: Number) -> KindFound
     }
 }
 
+// The place of a list value, where it is inside the payload.
 fn list(payload: usize, start: u32, len: u32) -> KindFound
     ensures { λ r. ⌜ wordsFound r ≡ wordsOfKind (listView payload start len) ⌝ }
 {
