@@ -12,7 +12,7 @@ use borrow.Author.Tests.{leb-true, leb-false}
 use Rattle.words.specs.Words.{NONE}
 use Rattle.image.specs.declared.ImageView.{ImageView}
 use Rattle.image.specs.Sections.{partAt, present}
-use Rattle.image.specs.Header.{sectionBytes, sectionsIn, sectionsBy}
+use Rattle.image.specs.Header.{sectionBytes, sectionsBy}
 use Rattle.image.proofs.Parts.{section-inside, section-outside, section-length}
 use Rattle.image.proofs.Tests.{both-true}
 use Rattle.views.specs.declared.Span.{Span}
@@ -71,7 +71,7 @@ module _ (bs : List ℕ) (v : ImageView) (t : Span) where
   -- what a query for a text hands over bounds the text's part of the image
   pub text-held : (from len : ℕ) → partAnswer (length bs) (v .strings .offset) (textQuery (sectionsBy bs v) t) ≡ some (from ∷ len ∷ [])
       → partAt bs from len ≡ shownText (sectionsBy bs v .strings) (t .offset) (t .len)
-  unfolding textQuery sectionsIn
+  unfolding textQuery sectionsBy
   text-held from len e = shown-by (shown (length section) (t .offset) (t .len)) refl e
     where
       same : some (start ∷ t .len ∷ []) ≡ some (from ∷ len ∷ []) → partAt bs start (t .len) ≡ partAt bs from len
