@@ -79,7 +79,8 @@ fn right_children(
 {
     let mut j = 0;
     while j < count {
-        if !right_child(nodes, children[start + j], id, j, source) {
+        let child = source::word(children, start + j);
+        if !right_child(nodes, child, id, j, source) {
             return false;
         }
         j += 1;

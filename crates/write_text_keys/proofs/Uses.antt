@@ -27,7 +27,10 @@ tail-part at w = take-all (length w - at) (drop at w) (omega (arith, length-drop
 pub part-self : (strings tab : List ℕ) (a b : ℕ) → onePart tab a b ≡ true → false ≡ before (textIn strings tab a) (textIn strings tab b)
 part-self strings tab a b e =
     let p = both-true (eqb (getD tab (a + a) 0) (getD tab (b + b) 0)) _ e in
-    rw (eqb-true _ _ (p .0), eqb-true _ _ (p .1)) (sym (before-self (textIn strings tab b)))
+    let at : getD tab (a + a) 0 ≡ getD tab (b + b) 0 = eqb-true _ _ (p .0) in
+    let len : getD tab (a + a + 1) 0 ≡ getD tab (b + b + 1) 0 = eqb-true _ _ (p .1) in
+    let one : textIn strings tab a ≡ textIn strings tab b = λ t. textOrEmpty strings (at t) (len t) in
+    sym (ap (λ (x : List ℕ). before x (textIn strings tab b)) one ∙ before-self (textIn strings tab b))
 
 module _ (v : ℕ) (nodes strings : List ℕ) where
   -- a name, read from its end

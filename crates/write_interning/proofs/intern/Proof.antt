@@ -4,16 +4,11 @@ use mathlib.Core.List.{List}
 use native.Mathlib.Omega.{arith}
 use lib.ListN.{length}
 use Rattle.write_text_keys.specs.Keys.{keyOf}
-use Rattle.write_sorting.specs.Sorted.{byKey, isort}
-use Rattle.write_interning.specs.Uses.{storedOf, joined, answerOf, Offsets, Firsts, upFrom}
+use Rattle.write_sorting.specs.Sorted.{upFrom, byKey, isort}
+use Rattle.write_interning.specs.Uses.{storedOf, joined, answerOf, Offsets, Firsts}
 use borrow.Author.Needs.{needs}
 use Rattle.write_interning.proofs.intern.Statement.{statement}
 use Rattle.write_interning.proofs.intern.Tie as tie
-use Rattle.write_interning.proofs.intern.Reads as reads
-use Rattle.write_interning.proofs.intern.Lts as lts
-use Rattle.write_interning.proofs.arrange.Reads as arrange-reads
-use Rattle.write_interning.proofs.assign.Reads as assign-reads
-use Rattle.write_interning.proofs.mark.Reads as mark-reads
 
 -- the texts by some tables
 abbrev by : tie.After-arrange → List ℕ → ℕ → List ℕ
