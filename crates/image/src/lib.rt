@@ -3,7 +3,7 @@ ghost use mathlib.Core.Path.{_≡_};
 ghost use Prim.Native.Nat.{_+_, _*_, _/_, _≤_, _<_};
 ghost use lib.ListN.{length, getD};
 ghost use Rattle.words.specs.Words.{wordsOf};
-ghost use Rattle.image.specs.Sections.{nodeWords, textEntrySize, definitionSize, goodIn, goodBytes, insideAmong, optionalIn, partAt, textOrEmpty};
+ghost use Rattle.image.specs.Sections.{nodeWords, nodeSize, textEntrySize, definitionSize, goodIn, goodBytes, insideAmong, optionalIn, partAt, textOrEmpty};
 ghost use Rattle.image.specs.Header.{sectionBytes, sizes, openedOf};
 ghost use Rattle.image.specs.Entries.{recordOf, textEntryOf, definitionOf};
 
@@ -189,6 +189,13 @@ pub fn section_sizes(version: u32) -> [u32; 8]
         ImageView::PAYLOAD_SIZE,
         ImageView::STRINGS_SIZE,
     ]
+}
+
+// The bytes of a view's nodes.
+pub fn nodes_part(bytes: &[u8], view: ImageView) -> &[u8]
+    ensures { λ r. ⌜ now r ≡ sectionBytes (now (bytes .entry)) (view .nodes) (nodeSize (view .version)) ⌝ }
+{
+    section_part(bytes, view.nodes, node_size(view.version))
 }
 
 // How many nodes the nodes' bytes hold.

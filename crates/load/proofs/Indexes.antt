@@ -6,8 +6,9 @@ use Rattle.laws.specs.Refusal.{_▸_}
 use Rattle.laws.proofs.First.{second}
 use Rattle.words.specs.Words.{wordsOf}
 use Rattle.image.specs.declared.ImageView.{ImageView}
+use Rattle.image.specs.Sections.{nodeSize, textEntrySize, definitionSize}
 use Rattle.image.specs.Header.{sectionBytes, sectionsBy}
-use Rattle.image.proofs.Views.{stride-by, nodes-by, index-by, definitions-by, items-by, strings-by}
+use Rattle.image.proofs.Views.{version-by, nodes-by, index-by, definitions-by, items-by, strings-by}
 use Rattle.records.proofs.Tests.{refused}
 use Rattle.index.specs.Index.{indexRule}
 use Rattle.index.specs.Definitions.{definitionsRule}
@@ -15,19 +16,19 @@ use Rattle.index.specs.Parts.{indexParts, definitionParts}
 use Rattle.index.proofs.Index.{index-parts}
 use Rattle.index.proofs.Definitions.{definitions-parts}
 
-module _ (bs : List ℕ) (v : ImageView) (ns is ss : List ℕ) (n : ns ≡ sectionBytes bs (v .nodes) 40) (x : is ≡ sectionBytes bs (v .index) 12)
-    (t : ss ≡ sectionBytes bs (v .strings) 1) (q : ℕ) (e : q ≡ indexRule (indexParts ns is ss)) where
+module _ (bs : List ℕ) (v : ImageView) (ns is ss : List ℕ) (n : ns ≡ sectionBytes bs (v .nodes) (nodeSize (v .version))) (x : is ≡ sectionBytes bs (v .index) textEntrySize)
+    (t : ss ≡ sectionBytes bs (v .strings) 1) (q : ℕ) (e : q ≡ indexRule (indexParts (v .version) ns is ss)) where
   index-is : q ≡ indexRule (sectionsBy bs v)
   index-is =
       e
       ∙ sym
-      (index-parts (sectionsBy bs v) ns is ss (stride-by bs v) (nodes-by bs v ∙ ap wordsOf (sym n)) (index-by bs v ∙ ap wordsOf (sym x))
+      (index-parts (sectionsBy bs v) (v .version) ns is ss (version-by bs v) (nodes-by bs v ∙ ap wordsOf (sym n)) (index-by bs v ∙ ap wordsOf (sym x))
       (strings-by bs v ∙ sym t))
 
   pub index-refused : (q ≡ 0 → ⊥) → q ≡ (indexRule (sectionsBy bs v) ▸ definitionsRule (sectionsBy bs v))
   index-refused d = refused (indexRule (sectionsBy bs v)) (definitionsRule (sectionsBy bs v)) q index-is d
 
-  pub index-passed : (r : ℕ) (ds ts : List ℕ) → q ≡ 0 → ds ≡ sectionBytes bs (v .definitions) 16 → ts ≡ sectionBytes bs (v .items) 12
+  pub index-passed : (r : ℕ) (ds ts : List ℕ) → q ≡ 0 → ds ≡ sectionBytes bs (v .definitions) definitionSize → ts ≡ sectionBytes bs (v .items) textEntrySize
       → r ≡ definitionsRule (definitionParts ds ts ss) → r ≡ (indexRule (sectionsBy bs v) ▸ definitionsRule (sectionsBy bs v))
   index-passed r ds ts z d y u =
       u

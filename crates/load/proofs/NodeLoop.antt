@@ -12,11 +12,11 @@ use Rattle.laws.proofs.First.{first-next, both}
 use Rattle.words.specs.Words.{wordsOf}
 use Rattle.image.specs.declared.ImageView.{ImageView}
 use Rattle.image.specs.declared.NodeRecord.{NodeRecord}
-use Rattle.image.specs.Sections.{Sections, nodeCount, isContainer}
+use Rattle.image.specs.Sections.{Sections, nodeWords, nodeSize, nodeCount, isContainer}
 use Rattle.image.specs.Entries.{nodeIn, recordOf}
-use Rattle.image.specs.Header.{nodeWords, sectionBytes, sectionsBy}
+use Rattle.image.specs.Header.{sectionBytes, sectionsBy}
 use Rattle.image.proofs.Entries.{node-record}
-use Rattle.image.proofs.Views.{stride-by, nodes-by, payload-by, strings-by}
+use Rattle.image.proofs.Views.{version-by, nodes-by, payload-by, strings-by}
 use Rattle.records.specs.declared.Counts.{Counts}
 use Rattle.records.specs.declared.Sums.{Sums}
 use Rattle.records.specs.Fields.{kindOf}
@@ -29,7 +29,7 @@ use Rattle.load.specs.declared.nodes.Nodes.the-variants.{Passed, Refused
 use Rattle.load.specs.Nodes.{ReadFrom, nodesBy, nodesOf}
 use Rattle.load.proofs.SectionReads.{node-total}
 
-module _ (s : Sections) (i : ℕ) (ns ps ts : List ℕ) (counts : Counts) (r : NodeRecord) (g : ReadFrom s ns ps ts counts) (node : r ≡ nodeIn s i) where
+module _ (s : Sections) (i : ℕ) (version : ℕ) (ns ps ts : List ℕ) (counts : Counts) (r : NodeRecord) (g : ReadFrom s version ns ps ts counts) (node : r ≡ nodeIn s i) where
   pub parent-told : (tag : ℕ) → tag ≡ tagIn s (r .parent) → ShowsParent s i r counts tag
   parent-told tag e = record { node = node; counts = g .counts; parent = e ∙ ap (λ (x : NodeRecord). tagIn s (x .parent)) node }
 
@@ -46,12 +46,12 @@ module _ (s : Sections) (i : ℕ) (ns ps ts : List ℕ) (counts : Counts) (r : N
       }
 
 -- the sections of a view are read from its parts
-pub read-from : (bs : List ℕ) (v : ImageView) (ns ps ts : List ℕ) (counts : Counts) → ns ≡ sectionBytes bs (v .nodes) 40
+pub read-from : (bs : List ℕ) (v : ImageView) (ns ps ts : List ℕ) (counts : Counts) → ns ≡ sectionBytes bs (v .nodes) (nodeSize (v .version))
     → ps ≡ sectionBytes bs (v .payload) 1 → ts ≡ sectionBytes bs (v .strings) 1 → counts ≡ countsOf (sectionsBy bs v)
-    → ReadFrom (sectionsBy bs v) ns ps ts counts
+    → ReadFrom (sectionsBy bs v) (v .version) ns ps ts counts
 read-from bs v ns ps ts counts n p t c =
     record {
-      stride = stride-by bs v;
+      versioned = version-by bs v;
       nodes-are = nodes-by bs v ∙ ap wordsOf (sym n);
       payload-is = payload-by bs v ∙ sym p;
       strings-are = strings-by bs v ∙ sym t;
@@ -109,7 +109,7 @@ pub fields-pass : (s : Sections) (i : ℕ) → nodeRule s i ≡ 0 → fieldsRule
 unfolding nodeRule
 fields-pass s i e = both (parentRule s i) (fieldsRule s i) e .1
 
-module _ (s : Sections) (ns ps ts : List ℕ) (counts : Counts) (g : ReadFrom s ns ps ts counts) where
+module _ (s : Sections) (version : ℕ) (ns ps ts : List ℕ) (counts : Counts) (g : ReadFrom s version ns ps ts counts) where
   pub total : counts .nodes ≡ nodeCount s
   total = ap (λ (c : Counts). c .nodes) (g .counts)
 
@@ -122,8 +122,8 @@ module _ (s : Sections) (ns ps ts : List ℕ) (counts : Counts) (g : ReadFrom s 
   pub node-past : (i : ℕ) → counts .nodes ≤ i → nodeCount s ≤ i
   node-past i h = rw total at h
 
-  pub node-there : (i : ℕ) → i < counts .nodes → 40 * i + 40 ≤ length ns
-  node-there i h = let e : counts .nodes ≡ length ns / 40 = total ∙ node-total s ns i (g .stride) (g .nodes-are) in omega arith
+  pub node-there : (i : ℕ) → i < counts .nodes → i < length (wordsOf ns) / nodeWords version
+  node-there i h = rw (total ∙ node-total s version ns i (g .versioned) (g .nodes-are)) at h
 
-  pub node-is : (i : ℕ) (r : NodeRecord) → r ≡ recordOf (wordsOf ns) i → r ≡ nodeIn s i
-  node-is i r e = e ∙ node-record s (wordsOf ns) i (g .stride) (g .nodes-are)
+  pub node-is : (i : ℕ) (r : NodeRecord) → r ≡ recordOf version (wordsOf ns) i → r ≡ nodeIn s i
+  node-is i r e = e ∙ node-record s version (wordsOf ns) i (g .versioned) (g .nodes-are)

@@ -5,6 +5,7 @@ use mathlib.Core.Logic.{_⊎_, inl, inr, ⊎-elim}
 use mathlib.Core.List.{List, [], _∷_}
 use mathlib.Core.Bool.{Bool, true, false, not, _&&_, true≢false}
 use native.Mathlib.Omega.{arith}
+use native.Mathlib.Nat.{zero-mul}
 use native.Mathlib.Decide.{decLt}
 use lib.ListN.{length, drop}
 use lib.Dec.{eqb}
@@ -14,11 +15,12 @@ use Rattle.laws.proofs.First.{both, then, second, pass, passed, fail}
 use Rattle.words.specs.Words.{wordsOf}
 use Rattle.image.specs.declared.ImageView.{ImageView}
 use Rattle.image.specs.declared.Section.{Section}
-use Rattle.image.specs.Sections.{Sections, nodeCount, indexCount, nodeWord, partAt}
-use Rattle.image.specs.Header.{sectionBytes, sectionsIn, sectionsBy}
-use Rattle.image.proofs.Parts.{section-length, section-outside}
+use Rattle.image.specs.Sections.{Sections, nodeWords, nodeSize, childSize, textEntrySize, nodeCount, indexCount, nodeWord, partAt}
+use Rattle.image.specs.Header.{sectionBytes, sectionsBy}
+use Rattle.image.proofs.Parts.{section-length, section-outside, entry-count}
+use Rattle.image.proofs.Widths.{words-some}
 use Rattle.image.proofs.Tests.{both-true}
-use Rattle.image.proofs.Views.{stride-by, nodes-by, children-by, named-by, strings-by}
+use Rattle.image.proofs.Views.{Within, version-by, nodes-by, children-by, named-by, strings-by}
 use Rattle.records.specs.declared.Sums.{Sums}
 use Rattle.records.specs.Records.{nodeRule, rootRight, usedUp, containersBefore}
 use Rattle.records.specs.Shown.{sumsBefore}
@@ -34,7 +36,6 @@ use Rattle.load.specs.declared.nodes.Nodes.{Nodes}
 use Rattle.load.specs.declared.nodes.Nodes.the-variants.{Passed, Refused}
 use Rattle.load.specs.Nodes.{nodesBy, nodesOf}
 use Rattle.load.specs.Load.{leftoverRule, recordsRule, sectionsRule, loadWords}
-use Rattle.load.proofs.SectionReads.{ten}
 
 -- ---- row 13
 
@@ -60,21 +61,28 @@ module _ (s : Sections) (r : Bool) (e : r ≡ usedUp s) where
 
 -- ---- rows 8 to 13
 
+abbrev part : List ℕ → ImageView → List ℕ
+part bs v = sectionBytes bs (v .nodes) (nodeSize (v .version))
+
 -- a section of nodes has none, or at least one whole node
-some-node : (bs : List ℕ) (n : Section) → (sectionBytes bs n 40 ≡ []) ⊎ (40 ≤ length (sectionBytes bs n 40))
-some-node bs n =
-    elim (decLt (length bs) (n .offset + n .count * 40)) [
-      | yes h ↦ inl (section-outside bs n 40 h)
-      | no d ↦ by-count (n .count) (section-length bs n 40 (omega arith))
+some-node : (bs : List ℕ) (v : ImageView) → (part bs v ≡ []) ⊎ (0 < length (wordsOf (part bs v)) / nodeWords (v .version))
+some-node bs v =
+    elim (decLt (length bs) (v .nodes .offset + v .nodes .count * nodeSize (v .version))) [
+      | yes h ↦ inl (section-outside bs (v .nodes) (nodeSize (v .version)) h)
+      | no d ↦ by-count (v .nodes .count) refl (omega arith)
     ]
   where
     none : (xs : List ℕ) → length xs ≡ 0 → xs ≡ []
     none [] e = refl
     none (x ∷ xs) e = absurd (omega arith)
 
-    by-count : (k : ℕ) → length (sectionBytes bs n 40) ≡ k * 40 → (sectionBytes bs n 40 ≡ []) ⊎ (40 ≤ length (sectionBytes bs n 40))
-    by-count zero e = inl (none (sectionBytes bs n 40) e)
-    by-count (suc k) e = inr (omega arith)
+    by-count : (k : ℕ) → v .nodes .count ≡ k → Within bs (v .nodes) (nodeSize (v .version))
+        → (part bs v ≡ []) ⊎ (0 < length (wordsOf (part bs v)) / nodeWords (v .version))
+    by-count zero e w = inl (none (part bs v) (section-length bs (v .nodes) (nodeSize (v .version)) w ∙ ap (λ (n : ℕ). n * nodeSize (v .version)) e ∙ zero-mul (nodeSize (v .version))))
+    by-count (suc k) e w =
+        inr (let n : length (wordsOf (part bs v)) / nodeWords (v .version) ≡ v .nodes .count
+        = entry-count (part bs v) (nodeWords (v .version)) (v .nodes .count) (omega (arith, words-some (v .version))) (section-length bs (v .nodes) (nodeSize (v .version)) w) in
+        omega arith)
 
 -- without a node the root is not right
 no-root : (s : Sections) → s .nodes ≡ [] → rootRight s ≡ false
@@ -82,20 +90,21 @@ unfolding rootRight nodeWord
 no-root s e = rw e refl
 
 module _ (bs : List ℕ) (v : ImageView) where
-  empty-nodes : sectionBytes bs (v .nodes) 40 ≡ [] → sectionsBy bs v .nodes ≡ []
-  unfolding sectionsIn wordsOf
+  empty-nodes : sectionBytes bs (v .nodes) (nodeSize (v .version)) ≡ [] → sectionsBy bs v .nodes ≡ []
+  unfolding sectionsBy wordsOf
   empty-nodes e = ap wordsOf e
 
-  pub short-root : (ns : List ℕ) → ns ≡ sectionBytes bs (v .nodes) 40 → length ns < 40 → rootRight (sectionsBy bs v) ≡ false
-  short-root ns e h =
+  pub short-root : (ns : List ℕ) (count : ℕ) → ns ≡ sectionBytes bs (v .nodes) (nodeSize (v .version)) → count ≡ length (wordsOf ns) / nodeWords (v .version)
+      → count ≡ 0 → rootRight (sectionsBy bs v) ≡ false
+  short-root ns count e c z =
       ⊎-elim (λ q. no-root (sectionsBy bs v) (empty-nodes q))
-      (λ q. let k : length ns ≡ length (sectionBytes bs (v .nodes) 40) = ap length e in absurd (omega arith)) (some-node bs (v .nodes))
+      (λ q. let k : count ≡ length (wordsOf (part bs v)) / nodeWords (v .version)
+      = c ∙ ap (λ (x : List ℕ). length (wordsOf x) / nodeWords (v .version)) e in absurd (omega arith)) (some-node bs v)
 
   pub root-some : rootRight (sectionsBy bs v) ≡ true → 0 < nodeCount (sectionsBy bs v)
-  unfolding sectionsIn
+  unfolding sectionsBy
   root-some r =
-      ⊎-elim (λ q. let z : true ≡ false = sym r ∙ no-root (sectionsBy bs v) (empty-nodes q) in absurd (true≢false z))
-      (λ (q : 40 ≤ length (sectionBytes bs (v .nodes) 40)). rw (ten (sectionBytes bs (v .nodes) 40)) (omega arith)) (some-node bs (v .nodes))
+      ⊎-elim (λ q. let z : true ≡ false = sym r ∙ no-root (sectionsBy bs v) (empty-nodes q) in absurd (true≢false z)) (λ q. q) (some-node bs v)
 
 module _ (s : Sections) where
   pub root-wrong : rootRight s ≡ false → 8 ≡ recordsRule s
@@ -154,8 +163,8 @@ tree-fit bs v e =
 
 -- ---- rows 14 and 15, out of the parts of a view
 
-module _ (bs : List ℕ) (v : ImageView) (ns cs ms ss : List ℕ) (n : ns ≡ sectionBytes bs (v .nodes) 40) (k : cs ≡ sectionBytes bs (v .children) 4)
-    (m : ms ≡ sectionBytes bs (v .named) 12) (t : ss ≡ sectionBytes bs (v .strings) 1) where
+module _ (bs : List ℕ) (v : ImageView) (ns cs ms ss : List ℕ) (n : ns ≡ sectionBytes bs (v .nodes) (nodeSize (v .version))) (k : cs ≡ sectionBytes bs (v .children) childSize)
+    (m : ms ≡ sectionBytes bs (v .named) textEntrySize) (t : ss ≡ sectionBytes bs (v .strings) 1) where
   from-nodes : sectionsBy bs v .nodes ≡ wordsOf ns
   from-nodes = nodes-by bs v ∙ ap wordsOf (sym n)
 
@@ -168,19 +177,19 @@ module _ (bs : List ℕ) (v : ImageView) (ns cs ms ss : List ℕ) (n : ns ≡ se
   from-strings : sectionsBy bs v .strings ≡ ss
   from-strings = strings-by bs v ∙ sym t
 
-  pub part-words : treeWords (partsOf ns cs ms ss) ≡ loadWords (sectionsBy bs v)
-  part-words = parts-words (sectionsBy bs v) ns cs ms ss (stride-by bs v) from-nodes from-children from-named from-strings
+  pub part-words : treeWords (partsOf (v .version) ns cs ms ss) ≡ loadWords (sectionsBy bs v)
+  part-words = parts-words (sectionsBy bs v) (v .version) ns cs ms ss (version-by bs v) from-nodes from-children from-named from-strings
 
-  pub part-fit : recordsRule (sectionsBy bs v) ≡ 0 → Fit (partsOf ns cs ms ss)
-  part-fit e = parts-fit (sectionsBy bs v) ns cs ms ss (stride-by bs v) from-nodes from-children from-named from-strings (tree-fit bs v e)
+  pub part-fit : recordsRule (sectionsBy bs v) ≡ 0 → Fit (partsOf (v .version) ns cs ms ss)
+  part-fit e = parts-fit (sectionsBy bs v) (v .version) ns cs ms ss (version-by bs v) from-nodes from-children from-named from-strings (tree-fit bs v e)
 
-  pub part-room : (w : ℕ) → loadWords (sectionsBy bs v) ≤ w → treeWords (partsOf ns cs ms ss) ≤ w
+  pub part-room : (w : ℕ) → loadWords (sectionsBy bs v) ≤ w → treeWords (partsOf (v .version) ns cs ms ss) ≤ w
   part-room w h = rw part-words h
 
-  pub part-tree : (r : ℕ) → r ≡ treeRule (partsOf ns cs ms ss) → r ≡ treeRule (sectionsBy bs v)
-  part-tree r e = e ∙ parts-rule (sectionsBy bs v) ns cs ms ss (stride-by bs v) from-nodes from-children from-named from-strings
+  pub part-tree : (r : ℕ) → r ≡ treeRule (partsOf (v .version) ns cs ms ss) → r ≡ treeRule (sectionsBy bs v)
+  part-tree r e = e ∙ parts-rule (sectionsBy bs v) (v .version) ns cs ms ss (version-by bs v) from-nodes from-children from-named from-strings
 
-  pub part-rest : (w₀ w : List ℕ) → drop (treeWords (partsOf ns cs ms ss)) w ≡ drop (treeWords (partsOf ns cs ms ss)) w₀
+  pub part-rest : (w₀ w : List ℕ) → drop (treeWords (partsOf (v .version) ns cs ms ss)) w ≡ drop (treeWords (partsOf (v .version) ns cs ms ss)) w₀
       → drop (loadWords (sectionsBy bs v)) w ≡ drop (loadWords (sectionsBy bs v)) w₀
   part-rest w₀ w e = rw part-words at e
 

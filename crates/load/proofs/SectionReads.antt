@@ -9,59 +9,57 @@ use borrow.Author.Tests.{le-ltb, lt-ltb}
 use Rattle.words.specs.Words.{NONE, wordsOf}
 use Rattle.words.proofs.Words.{length-words}
 use Rattle.image.specs.declared.ImageView.{ImageView}
-use Rattle.image.specs.Sections.{Sections, nodeCount, indexCount, nodeWord, tagOf, inside}
-use Rattle.image.specs.Header.{nodeWords, sectionBytes, sectionsIn, sectionsBy}
+use Rattle.image.specs.Sections.{Sections, nodeWords, textEntryWords, nodeSize, childSize, textEntrySize, nodeCount, indexCount, nodeWord, tagOf, inside, insideAmong}
+use Rattle.image.specs.Header.{sectionBytes, sectionsBy}
 use Rattle.records.specs.declared.Counts.{Counts}
 use Rattle.records.specs.Shown.{tagIn, countsOf}
-use Rattle.records.proofs.Tests.{none-inside, some-inside}
+use Rattle.image.proofs.Tests.{inside-true}
 
 -- ---- counts
 
-three : (bs : List ℕ) → length (wordsOf bs) / 3 ≡ length bs / 12
+three : (bs : List ℕ) → length (wordsOf bs) / textEntryWords ≡ length bs / textEntrySize
 three bs = rw (length-words bs) (omega arith)
 
-pub ten : (bs : List ℕ) → length (wordsOf bs) / 10 ≡ length bs / 40
-ten bs = rw (length-words bs) (omega arith)
-
 module _ (bs : List ℕ) (v : ImageView) where
-  pub counts-read : (ns cs ms : List ℕ) → ns ≡ sectionBytes bs (v .nodes) 40 → cs ≡ sectionBytes bs (v .children) 4
-      → ms ≡ sectionBytes bs (v .named) 12
-      → _≡_ {A = Counts} (record { nodes = length ns / 40; children = length cs / 4; named = length ms / 12 }) (countsOf (sectionsBy bs v))
-  unfolding sectionsIn
-  counts-read ns cs ms n c m =
+  pub counts-read : (ns cs ms : List ℕ) (count : ℕ) → ns ≡ sectionBytes bs (v .nodes) (nodeSize (v .version)) → cs ≡ sectionBytes bs (v .children) childSize
+      → ms ≡ sectionBytes bs (v .named) textEntrySize → count ≡ length (wordsOf ns) / nodeWords (v .version)
+      → _≡_ {A = Counts} (record { nodes = count; children = length cs / childSize; named = length ms / textEntrySize }) (countsOf (sectionsBy bs v))
+  unfolding sectionsBy
+  counts-read ns cs ms count n c m e =
       λ k.
       record {
-        nodes = (ap (λ (x : List ℕ). length x / 40) n ∙ sym (ten (sectionBytes bs (v .nodes) 40))) k;
-        children = (ap (λ (x : List ℕ). length x / 4) c ∙ sym (length-words (sectionBytes bs (v .children) 4))) k;
-        named = (ap (λ (x : List ℕ). length x / 12) m ∙ sym (three (sectionBytes bs (v .named) 12))) k;
+        nodes = (e ∙ ap (λ (x : List ℕ). length (wordsOf x) / nodeWords (v .version)) n) k;
+        children = (ap (λ (x : List ℕ). length x / childSize) c ∙ sym (length-words (sectionBytes bs (v .children) childSize))) k;
+        named = (ap (λ (x : List ℕ). length x / textEntrySize) m ∙ sym (three (sectionBytes bs (v .named) textEntrySize))) k;
       }
 
-  pub index-read : (is : List ℕ) → is ≡ sectionBytes bs (v .index) 12 → length is / 12 ≡ indexCount (sectionsBy bs v)
-  unfolding sectionsIn
-  index-read is e = ap (λ (x : List ℕ). length x / 12) e ∙ sym (three (sectionBytes bs (v .index) 12))
+  pub index-read : (is : List ℕ) → is ≡ sectionBytes bs (v .index) textEntrySize → length is / textEntrySize ≡ indexCount (sectionsBy bs v)
+  unfolding sectionsBy
+  index-read is e = ap (λ (x : List ℕ). length x / textEntrySize) e ∙ sym (three (sectionBytes bs (v .index) textEntrySize))
 
 -- ---- the tag of node n
 
-module _ (s : Sections) (ns : List ℕ) (n : ℕ) (wide : s .stride ≡ nodeWords) (nodes : s .nodes ≡ wordsOf ns) where
-  pub node-total : nodeCount s ≡ length ns / 40
-  node-total = rw (wide, nodes) (ten ns)
+module _ (s : Sections) (version : ℕ) (ns : List ℕ) (n : ℕ) (versioned : s .version ≡ version) (nodes : s .nodes ≡ wordsOf ns) where
+  pub node-total : nodeCount s ≡ length (wordsOf ns) / nodeWords version
+  node-total = rw (versioned, nodes)
 
-  pub tag-none : n ≡ NONE → 0 ≡ tagIn s n
-  unfolding tagIn
-  tag-none e = ap (λ (b : Bool). cond b (tagOf s n) 0) (none-inside (nodeCount s) n e)
+  -- by the count that the code reads
+  module _ (count : ℕ) (c : count ≡ length (wordsOf ns) / nodeWords version) (b : Bool) (e : b ≡ insideAmong count n) where
+    there : b ≡ inside s n
+    there = e ∙ ap (λ (k : ℕ). insideAmong k n) (c ∙ sym node-total)
 
-  pub tag-outside : (n ≡ NONE → ⊥) → length ns / 40 ≤ n → 0 ≡ tagIn s n
-  unfolding tagIn
-  tag-outside d h =
-      let k : nodeCount s ≤ n = rw node-total h in
-      ap (λ (b : Bool). cond b (tagOf s n) 0) (sym (le-ltb n (nodeCount s) k) ∙ some-inside (nodeCount s) n d)
+    pub tag-outside : b ≡ false → 0 ≡ tagIn s n
+    unfolding tagIn
+    tag-outside h = ap (λ (t : Bool). cond t (tagOf s n) 0) (sym h ∙ there)
 
-  tag-word : getD (wordsOf ns) (n * 10 + 2) 0 ≡ tagOf s n
-  unfolding nodeWord
-  tag-word = rw (wide, nodes)
+    tag-word : getD (wordsOf ns) (n * nodeWords version + 2) 0 ≡ tagOf s n
+    unfolding nodeWord
+    tag-word = rw (versioned, nodes)
 
-  pub tag-inside : (x : ℕ) → (n ≡ NONE → ⊥) → n < length ns / 40 → x ≡ getD (wordsOf ns) (n * 10 + 2) 0 → x ≡ tagIn s n
-  unfolding tagIn
-  tag-inside x d h e =
-      let k : n < nodeCount s = rw node-total h in
-      e ∙ tag-word ∙ ap (λ (b : Bool). cond b (tagOf s n) 0) (sym (lt-ltb n (nodeCount s) k) ∙ some-inside (nodeCount s) n d)
+    pub tag-inside : (x : ℕ) → b ≡ true → x ≡ getD (wordsOf ns) (n * nodeWords version + 2) 0 → x ≡ tagIn s n
+    unfolding tagIn
+    tag-inside x h q = q ∙ tag-word ∙ ap (λ (t : Bool). cond t (tagOf s n) 0) (sym h ∙ there)
+
+-- a number that the code found inside is below the count
+pub inside-below : (count n : ℕ) (b : Bool) (total : ℕ) → count ≡ total → b ≡ insideAmong count n → b ≡ true → n < total
+inside-below count n b total c e h = inside-true total n (ap (λ (k : ℕ). insideAmong k n) (sym c) ∙ sym e ∙ h) .0

@@ -5,16 +5,15 @@ use mathlib.Core.List.{List}
 use Rattle.laws.specs.Refusal.{firstOf, refusals}
 use Rattle.words.specs.Words.{wordsOf}
 use Rattle.image.specs.Sections.{Sections, nodeCount}
-use Rattle.image.specs.Header.{nodeWords}
 use Rattle.records.specs.declared.Counts.{Counts}
 use Rattle.records.specs.Records.{nodeRule}
 use Rattle.records.specs.Shown.{countsOf, sumsBefore}
 use Rattle.load.specs.declared.nodes.Nodes.{Nodes}
 use Rattle.load.specs.declared.nodes.Nodes.the-variants.{Passed, Refused}
 
--- the sections whose nodes, payload and strings have these bytes
-pub record ReadFrom (s : Sections) (nodes payload strings : List ℕ) (c : Counts) : Type 0 where
-  pub stride : s .stride ≡ nodeWords
+-- the sections of a version whose nodes, payload and strings have these bytes
+pub record ReadFrom (s : Sections) (version : ℕ) (nodes payload strings : List ℕ) (c : Counts) : Type 0 where
+  pub versioned : s .version ≡ version
   pub nodes-are : s .nodes ≡ wordsOf nodes
   pub payload-is : s .payload ≡ payload
   pub strings-are : s .strings ≡ strings

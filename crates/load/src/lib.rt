@@ -26,23 +26,23 @@ fn tree_of(bytes: &[u8], view: ImageView, work: &mut [u32]) -> u32
     requires { ⌜ recordsRule (sectionsBy (now bytes) view) ≡ 0 ⌝ }
     requires { ⌜ loadWords (sectionsBy (now bytes) view) ≤ length (now work) ⌝ }
     ensures answer { λ r. ⌜ r ≡ treeRule (sectionsBy (now (bytes .entry)) view) ⌝ }
-    ensures rest { λ r. ⌜ drop (loadWords (sectionsBy (now (bytes .entry)) view)) (now (work .exit)) ≡ drop (loadWords (sectionsBy (now (bytes .entry)) view)) (now (work .entry)) ⌝ }
+    ensures rest { λ r. ⌜ (let n = loadWords (sectionsBy (now (bytes .entry)) view) in drop n (now (work .exit)) ≡ drop n (now (work .entry))) ⌝ }
 {
-    let nodes = image::section_part(bytes, view.nodes, ImageView::NODE_SIZE);
+    let nodes = image::nodes_part(bytes, view);
     let children = image::section_part(bytes, view.children, ImageView::CHILD_SIZE);
     let named = image::section_part(bytes, view.named, ImageView::NAMED_SIZE);
     let strings = image::section_part(bytes, view.strings, ImageView::STRINGS_SIZE);
-    tree::tree_rule(nodes, children, named, strings, work)
+    tree::tree_rule(nodes, children, named, strings, work, view.version)
 }
 
 // Rows 16 and 17.
 fn index_of(bytes: &[u8], view: ImageView) -> u32
-    ensures { λ r. ⌜ r ≡ (indexRule (sectionsBy (now (bytes .entry)) view) ▸ definitionsRule (sectionsBy (now (bytes .entry)) view)) ⌝ }
+    ensures { λ r. ⌜ (let s = sectionsBy (now (bytes .entry)) view in r ≡ (indexRule s ▸ definitionsRule s)) ⌝ }
 {
-    let nodes = image::section_part(bytes, view.nodes, ImageView::NODE_SIZE);
+    let nodes = image::nodes_part(bytes, view);
     let paths = image::section_part(bytes, view.index, ImageView::INDEX_SIZE);
     let strings = image::section_part(bytes, view.strings, ImageView::STRINGS_SIZE);
-    let wrong = index::index_rule(nodes, paths, strings);
+    let wrong = index::index_rule(nodes, paths, strings, view.version);
     if wrong != 0 {
         return wrong;
     }
@@ -55,7 +55,7 @@ fn index_of(bytes: &[u8], view: ImageView) -> u32
 fn sections_rule(bytes: &[u8], view: ImageView, work: &mut [u32]) -> u32
     requires { ⌜ loadWords (sectionsBy (now bytes) view) ≤ length (now work) ⌝ }
     ensures answer { λ r. ⌜ r ≡ sectionsRule (sectionsBy (now (bytes .entry)) view) ⌝ }
-    ensures rest { λ r. ⌜ drop (loadWords (sectionsBy (now (bytes .entry)) view)) (now (work .exit)) ≡ drop (loadWords (sectionsBy (now (bytes .entry)) view)) (now (work .entry)) ⌝ }
+    ensures rest { λ r. ⌜ (let n = loadWords (sectionsBy (now (bytes .entry)) view) in drop n (now (work .exit)) ≡ drop n (now (work .entry))) ⌝ }
 {
     let first = nodes::records_rule(bytes, view);
     if first != 0 {
@@ -73,7 +73,8 @@ fn load_view(bytes: &[u8], view: ImageView, work: &mut [u32]) -> Loaded
     requires { ⌜ headerRule (now bytes) ≡ 0 ⌝ }
     requires { ⌜ view ≡ viewOf (now bytes) ⌝ }
     ensures answer { λ r. ⌜ r ≡ loadedOf (now (bytes .entry)) (length (now (work .entry))) ⌝ }
-    ensures words { λ r. ⌜ now (work .exit) ≡ workAfter (loadWords (sectionsOf (now (bytes .entry)))) (loadRule (now (bytes .entry)) (length (now (work .entry)))) (now (work .entry)) ⌝ }
+    ensures words { λ r. ⌜ (let bs = now (bytes .entry) in
+        now (work .exit) ≡ workAfter (loadWords (sectionsOf bs)) (loadRule bs (length (now (work .entry)))) (now (work .entry))) ⌝ }
 {
     if words::word(bytes, 84) != checksum::checksum(bytes) {
         return Loaded::Refused(BAD_CHECKSUM);
@@ -97,7 +98,8 @@ fn load_view(bytes: &[u8], view: ImageView, work: &mut [u32]) -> Loaded
 // Loads an image. As many work words as nodes, ordered children and named entries, and one more, are used, and zero on return.
 pub fn load(bytes: &[u8], work: &mut [u32]) -> Loaded
     ensures answer { λ r. ⌜ r ≡ loadedOf (now (bytes .entry)) (length (now (work .entry))) ⌝ }
-    ensures words { λ r. ⌜ now (work .exit) ≡ workAfter (loadWords (sectionsOf (now (bytes .entry)))) (loadRule (now (bytes .entry)) (length (now (work .entry)))) (now (work .entry)) ⌝ }
+    ensures words { λ r. ⌜ (let bs = now (bytes .entry) in
+        now (work .exit) ≡ workAfter (loadWords (sectionsOf bs)) (loadRule bs (length (now (work .entry)))) (now (work .entry))) ⌝ }
 {
     match ImageView::new(bytes) {
         Opened::Refused(wrong) => Loaded::Refused(wrong),

@@ -1,6 +1,5 @@
 // The record rules, node by node, with the sums of the counts before each; what is left over.
 use image::ImageView;
-use image::NONE;
 use image::NodeRecord;
 use image::refusal::BAD_ROOT;
 use image::refusal::LEFT_OVER;
@@ -11,7 +10,7 @@ ghost use Prim.Native.Nat.{ℕ};
 ghost use Rattle.words.specs.Words.{wordsOf};
 ghost use Rattle.image.specs.Sections.{Sections, nodeCount};
 ghost use Rattle.image.specs.Entries.{nodeIn};
-ghost use Rattle.image.specs.Header.{nodeWords, sectionsBy};
+ghost use Rattle.image.specs.Header.{sectionsBy};
 ghost use Rattle.records.specs.Records.{nodeRule};
 ghost use Rattle.records.specs.Shown.{tagIn, countsOf, sumsBefore};
 ghost use Rattle.load.specs.Load.{leftoverRule, recordsRule};
@@ -24,15 +23,11 @@ pub enum Nodes {
 }
 
 // The tag of node `n`, 0 where there is no such node.
-fn tag_at(nodes: &[u8], n: u32) -> u32
-    ensures { λ r. ⌜ ((s : Sections) → s .stride ≡ nodeWords → s .nodes ≡ wordsOf (now (nodes .entry)) → r ≡ tagIn s n) ⌝ }
+fn tag_at(nodes: &[u8], n: u32, version: u32) -> u32
+    ensures { λ r. ⌜ ((s : Sections) → s .version ≡ version → s .nodes ≡ wordsOf (now (nodes .entry)) → r ≡ tagIn s n) ⌝ }
 {
-    if n == NONE {
-        return 0;
-    }
-    let at = n as usize;
-    if at < nodes.len() / 40 {
-        image::part_word(nodes, at * 10 + 2)
+    if image::is_inside(image::node_count(nodes, version), n) {
+        image::node_word(nodes, version, n as usize, NodeRecord::TAG)
     } else {
         0
     }
@@ -47,10 +42,12 @@ fn node_rule(
     sums: Sums,
     i: usize,
     node: NodeRecord,
+    version: u32,
 ) -> u32
-    ensures { λ r. ⌜ ((s : Sections) → ReadFrom s (now (nodes .entry)) (now (payload .entry)) (now (strings .entry)) counts → sums ≡ sumsBefore s i → node ≡ nodeIn s i → r ≡ nodeRule s i) ⌝ }
+    ensures { λ r. ⌜ ((s : Sections) → ReadFrom s version (now (nodes .entry)) (now (payload .entry)) (now (strings .entry)) counts
+        → sums ≡ sumsBefore s i → node ≡ nodeIn s i → r ≡ nodeRule s i) ⌝ }
 {
-    let wrong = records::parent_rule(node, i, counts, tag_at(nodes, node.parent));
+    let wrong = records::parent_rule(node, i, counts, tag_at(nodes, node.parent, version));
     if wrong != 0 {
         return wrong;
     }
@@ -58,7 +55,7 @@ fn node_rule(
         node,
         counts,
         sums,
-        tag_at(nodes, records::target_of(node)),
+        tag_at(nodes, records::target_of(node), version),
         payload,
         strings,
     )
@@ -68,13 +65,13 @@ fn node_rule(
 fn counts_of(bytes: &[u8], view: ImageView) -> Counts
     ensures { λ r. ⌜ r ≡ countsOf (sectionsBy (now (bytes .entry)) view) ⌝ }
 {
-    let nodes = image::section_part(bytes, view.nodes, ImageView::NODE_SIZE);
+    let nodes = image::nodes_part(bytes, view);
     let children = image::section_part(bytes, view.children, ImageView::CHILD_SIZE);
     let named = image::section_part(bytes, view.named, ImageView::NAMED_SIZE);
     Counts {
-        nodes: nodes.len() / 40,
-        children: children.len() / 4,
-        named: named.len() / 12,
+        nodes: image::node_count(nodes, view.version),
+        children: children.len() / ImageView::WORD_BYTES,
+        named: named.len() / ImageView::TEXT_ENTRY_BYTES,
     }
 }
 
@@ -83,7 +80,7 @@ fn nodes_rule(bytes: &[u8], view: ImageView, counts: Counts) -> Nodes
     requires { ⌜ counts ≡ countsOf (sectionsBy (now bytes) view) ⌝ }
     ensures { λ r. ⌜ r ≡ nodesOf (sectionsBy (now (bytes .entry)) view) ⌝ }
 {
-    let nodes = image::section_part(bytes, view.nodes, ImageView::NODE_SIZE);
+    let nodes = image::nodes_part(bytes, view);
     let payload = image::section_part(bytes, view.payload, ImageView::PAYLOAD_SIZE);
     let strings = image::section_part(bytes, view.strings, ImageView::STRINGS_SIZE);
     let mut sums = Sums {
@@ -94,8 +91,8 @@ fn nodes_rule(bytes: &[u8], view: ImageView, counts: Counts) -> Nodes
     };
     let mut i = 0;
     while i < counts.nodes {
-        let node = image::node_record(nodes, i);
-        let wrong = node_rule(nodes, payload, strings, counts, sums, i, node);
+        let node = image::node_record(nodes, view.version, i);
+        let wrong = node_rule(nodes, payload, strings, counts, sums, i, node, view.version);
         if wrong != 0 {
             return Nodes::Refused(wrong);
         }
@@ -108,7 +105,7 @@ fn nodes_rule(bytes: &[u8], view: ImageView, counts: Counts) -> Nodes
 // Row 13.
 fn left_over(bytes: &[u8], view: ImageView, counts: Counts, sums: Sums) -> u32
     requires { ⌜ counts ≡ countsOf (sectionsBy (now bytes) view) ⌝ }
-    requires { ⌜ sums ≡ sumsBefore (sectionsBy (now bytes) view) (nodeCount (sectionsBy (now bytes) view)) ⌝ }
+    requires { ⌜ (let s = sectionsBy (now bytes) view in sums ≡ sumsBefore s (nodeCount s)) ⌝ }
     ensures { λ r. ⌜ r ≡ leftoverRule (sectionsBy (now (bytes .entry)) view) ⌝ }
 {
     let payload = image::section_part(bytes, view.payload, ImageView::PAYLOAD_SIZE);
@@ -116,7 +113,7 @@ fn left_over(bytes: &[u8], view: ImageView, counts: Counts, sums: Sums) -> u32
     if !records::used_up(sums, counts, payload.len()) {
         return LEFT_OVER;
     }
-    if sums.containers == index.len() / 12 {
+    if sums.containers == index.len() / ImageView::TEXT_ENTRY_BYTES {
         0
     } else {
         LEFT_OVER
@@ -127,11 +124,11 @@ fn left_over(bytes: &[u8], view: ImageView, counts: Counts, sums: Sums) -> u32
 pub fn records_rule(bytes: &[u8], view: ImageView) -> u32
     ensures { λ r. ⌜ r ≡ recordsRule (sectionsBy (now (bytes .entry)) view) ⌝ }
 {
-    let nodes = image::section_part(bytes, view.nodes, ImageView::NODE_SIZE);
-    if nodes.len() < 40 {
+    let nodes = image::nodes_part(bytes, view);
+    if image::node_count(nodes, view.version) == 0 {
         return BAD_ROOT;
     }
-    if !records::root_right(image::node_record(nodes, 0)) {
+    if !records::root_right(image::node_record(nodes, view.version, 0)) {
         return BAD_ROOT;
     }
     let counts = counts_of(bytes, view);

@@ -1,6 +1,6 @@
 -- The rules by kind, over a record and the numbers around it, are those of the node that they show.
-use Prim.Native.Nat.{ℕ, suc, _≤_, _<_}
-use mathlib.Core.Path.{_≡_, refl, sym, ap, _∙_, subst}
+use Prim.Native.Nat.{ℕ, suc, _+_, _≤_, _<_}
+use mathlib.Core.Path.{_≡_, refl, sym, ap, _∙_}
 use mathlib.Core.Logic.{_⊎_, inl, inr, ⊎-elim}
 use mathlib.Core.Bool.{Bool, true, false, cond, not, _&&_, _||_}
 use mathlib.Core.List.{List}
@@ -15,12 +15,12 @@ use Rattle.laws.proofs.First.{first-all, passed}
 use Rattle.words.specs.Words.{NONE, isNone}
 use Rattle.image.specs.declared.NodeRecord.{NodeRecord}
 use Rattle.image.specs.Entries.{nodeIn}
-use Rattle.image.specs.Sections.{Sections, nodeCount, tagOf, parentOf, f, inside, isContainer}
+use Rattle.image.specs.Sections.{Sections, nodeCount, tagOf, parentOf, f, inside, isContainer, containerTag}
 use Rattle.records.specs.declared.Counts.{Counts}
 use Rattle.records.specs.declared.Sums.{Sums}
-use Rattle.records.specs.Fields.{Kind, Container, Choice, Divert, BoolValue, ListValue, TargetValue, Assignment, Reference, Unknown, kinds, kindOf, fields}
-use Rattle.records.specs.Records.{targetIn, targetOf, fieldRule, firstField, fieldsRule, parentRule, rootRight, usedUp, payloadRule, listItemRule, listOriginRule, listWord}
-use Rattle.records.specs.Shown.{countsOf, sumsBefore, tagIn, Shows, ShowsParent, containerAmong, containerRule, choiceRule, divertRule, textRule, targetRule, assignmentRule, referenceRule, listRule}
+use Rattle.records.specs.Fields.{Kind, Container, Choice, Command, Divert, Glue, Operator, Tag, BoolValue, IntValue, FloatValue, StringValue, ListValue, TargetValue, PointerValue, Assignment, Reference, Void, Unknown, kinds, kindOf, fields, targetAmong}
+use Rattle.records.specs.Records.{fieldWord, targetIn, targetOf, fieldRule, firstField, fieldsRule, parentRule, rootRight, usedUp, payloadRule, listItemRule, listOriginRule, listWord}
+use Rattle.records.specs.Shown.{countsOf, sumsBefore, tagIn, Shows, ShowsParent, containerAmong, containerRule, choiceRule, divertRule, textRule, targetRule, assignmentRule, referenceRule, listRule, fieldsBy, parentBy, rootBy, sumsAfter, usedUpBy}
 use Rattle.records.proofs.Tests.{skip, last}
 
 -- ---- kinds and targets
@@ -32,14 +32,14 @@ past-kinds t h = List·getD-eq-default kinds Unknown {n = t} h
 
 -- f2 of tags 2, 4 and 13
 pub target-second : (r : NodeRecord) (t : ℕ) → (t ≡ 2) ⊎ ((t ≡ 4) ⊎ (t ≡ 13)) → r .f2 ≡ targetIn r (kindOf t)
-unfolding targetIn kinds
+unfolding targetIn fieldWord targetAmong fields kinds
 target-second r t (inl e) = ap (λ (x : ℕ). targetIn r (kindOf x)) (sym e)
 target-second r t (inr (inl e)) = ap (λ (x : ℕ). targetIn r (kindOf x)) (sym e)
 target-second r t (inr (inr e)) = ap (λ (x : ℕ). targetIn r (kindOf x)) (sym e)
 
 -- f4 of 17
 pub target-fourth : (r : NodeRecord) (t : ℕ) → t ≡ 17 → r .f4 ≡ targetIn r (kindOf t)
-unfolding targetIn kinds
+unfolding targetIn fieldWord targetAmong fields kinds
 target-fourth r t e = ap (λ (x : ℕ). targetIn r (kindOf x)) (sym e)
 
 -- of each tag: it is one of the four, or has no target
@@ -47,7 +47,7 @@ fourOrNone : NodeRecord → ℕ → Bool
 fourOrNone r t = eqb t 2 || (eqb t 4 || (eqb t 13 || (eqb t 17 || eqb (targetIn r (kindOf t)) NONE)))
 
 four-or-none : (r : NodeRecord) → firstOf 19 (λ t. unless (fourOrNone r t) 1) ≡ 0
-unfolding firstOf _▸_ unless targetIn kinds fourOrNone
+unfolding firstOf _▸_ unless targetIn fieldWord targetAmong fields kinds fourOrNone
 four-or-none r = refl
 
 pub target-none : (r : NodeRecord) (t : ℕ) → ((t ≡ 2) ⊎ ((t ≡ 4) ⊎ (t ≡ 13)) → ⊥) → (t ≡ 17 → ⊥) → NONE ≡ targetIn r (kindOf t)
@@ -61,7 +61,7 @@ target-none r t h k = side (decLt t 19)
 
     side : Dec (t < 19) → NONE ≡ targetIn r (kindOf t)
     side (yes l) = below (passed (fourOrNone r t) 0 (first-all 19 (λ x. unless (fourOrNone r x) 1) (four-or-none r) t l))
-    side (no l) = unfold targetIn in ap (targetIn r) (sym (past-kinds t (omega arith)))
+    side (no l) = unfold targetIn fieldWord targetAmong fields in ap (targetIn r) (sym (past-kinds t (omega arith)))
 
 -- ---- the tag of a node that is named
 
@@ -135,76 +135,102 @@ module _ (s : Sections) (i : ℕ) where
 
   -- ---- over a record and numbers that are the node's
 
-  by-tag : (t : ℕ) → tagOf s i ≡ t → firstField s i (fields (kindOf t)) ≡ fieldsRule s i
-  by-tag t e = ap (λ (x : ℕ). firstField s i (fields (kindOf x))) (sym e)
+  -- the rules of each kind, of the node's own words
+  own : (k : Kind) → fieldsBy k (nodeIn s i) (countsOf s) (sumsBefore s i) (tagIn s (targetOf s i k)) (s .payload) (s .strings) ≡ firstField s i (fields k)
+  own Container = unfold fieldsBy in container-own
+  own Choice = unfold fieldsBy targetIn fieldWord targetAmong fields in choice-own
+  own Command = unfold fieldsBy kinds in command-own
+  own Divert = unfold fieldsBy in divert-own
+  own Glue = unfold fieldsBy firstField fields in refl
+  own Operator = unfold fieldsBy kinds in operator-own
+  own Tag = unfold fieldsBy kinds in tag-own
+  own BoolValue = unfold fieldsBy in bool-own
+  own IntValue = unfold fieldsBy firstField fieldRule fields _▸_ in refl
+  own FloatValue = unfold fieldsBy firstField fieldRule fields _▸_ in refl
+  own StringValue = unfold fieldsBy kinds in string-own
+  own ListValue = unfold fieldsBy in list-own
+  own TargetValue = unfold fieldsBy in target-own
+  own PointerValue = unfold fieldsBy kinds in pointer-own
+  own Assignment = unfold fieldsBy in assignment-own
+  own Reference = unfold fieldsBy targetIn fieldWord targetAmong fields in reference-own
+  own Void = unfold fieldsBy firstField fields in refl
+  own Unknown = unfold fieldsBy firstField fieldRule fields _▸_ in refl
 
-  module _ (r : NodeRecord) (c : Counts) (u : Sums) (tag : ℕ) (ps ts : List ℕ) (h : Shows s i r c u tag ps ts) where
-    tagged : (t : ℕ) → r .tag ≡ t → tagOf s i ≡ t
-    tagged t e = sym (ap (λ (x : NodeRecord). x .tag) (h .node)) ∙ e
+  -- what is shown of a node decides its field rules
+  pub shown-fields : (r : NodeRecord) (c : Counts) (u : Sums) (tag : ℕ) (ps ts : List ℕ) → Shows s i r c u tag ps ts
+      → fieldsBy (kindOf (r .tag)) r c u tag ps ts ≡ fieldsRule s i
+  shown-fields r c u tag ps ts h =
+      (λ j. fieldsBy (kindOf (h .node j .tag)) (h .node j) (h .counts j) (h .sums j) (h .target j) (h .payload j) (h .strings j))
+      ∙ own (kindOf (tagOf s i))
 
-    target-tag : (t : ℕ) → r .tag ≡ t → tag ≡ tagIn s (targetOf s i (kindOf t))
-    target-tag t e = h .target ∙ ap (λ (x : ℕ). tagIn s (targetOf s i (kindOf x))) (tagged t e)
+-- ---- the rules by the tag that the code finds
 
-    pub at-container : r .tag ≡ 1 → containerRule r c u ts ≡ fieldsRule s i
-    unfolding kinds
-    at-container e = (λ j. containerRule (h .node j) (h .counts j) (h .sums j) (h .strings j)) ∙ container-own ∙ by-tag 1 (tagged 1 e)
+module _ (r : NodeRecord) (c : Counts) (u : Sums) (tag : ℕ) (ps ts : List ℕ) where
+  abbrev told : ℕ
+  told = fieldsBy (kindOf (r .tag)) r c u tag ps ts
 
-    pub at-choice : r .tag ≡ 2 → choiceRule r (c .nodes) tag ts ≡ fieldsRule s i
-    unfolding kinds targetIn
-    at-choice e = (λ j. choiceRule (h .node j) (h .counts j .nodes) (target-tag 2 e j) (h .strings j)) ∙ choice-own ∙ by-tag 2 (tagged 2 e)
+  by-tag : (t : ℕ) → r .tag ≡ t → fieldsBy (kindOf t) r c u tag ps ts ≡ told
+  by-tag t e = ap (λ (x : ℕ). fieldsBy (kindOf x) r c u tag ps ts) (sym e)
 
-    pub at-divert : r .tag ≡ 4 → divertRule r (c .nodes) ts ≡ fieldsRule s i
-    unfolding kinds
-    at-divert e = (λ j. divertRule (h .node j) (h .counts j .nodes) (h .strings j)) ∙ divert-own ∙ by-tag 4 (tagged 4 e)
+  pub at-container : r .tag ≡ 1 → containerRule r c u ts ≡ told
+  unfolding fieldsBy kinds
+  at-container e = by-tag 1 e
 
-    pub at-target : r .tag ≡ 13 → targetRule r (c .nodes) ts ≡ fieldsRule s i
-    unfolding kinds
-    at-target e = (λ j. targetRule (h .node j) (h .counts j .nodes) (h .strings j)) ∙ target-own ∙ by-tag 13 (tagged 13 e)
+  pub at-choice : r .tag ≡ 2 → choiceRule r (c .nodes) tag ts ≡ told
+  unfolding fieldsBy kinds
+  at-choice e = by-tag 2 e
 
-    pub at-assignment : r .tag ≡ 16 → assignmentRule r ts ≡ fieldsRule s i
-    unfolding kinds
-    at-assignment e = (λ j. assignmentRule (h .node j) (h .strings j)) ∙ assignment-own ∙ by-tag 16 (tagged 16 e)
+  pub at-divert : r .tag ≡ 4 → divertRule r (c .nodes) ts ≡ told
+  unfolding fieldsBy kinds
+  at-divert e = by-tag 4 e
 
-    pub at-reference : r .tag ≡ 17 → referenceRule r (c .nodes) tag ts ≡ fieldsRule s i
-    unfolding kinds targetIn
-    at-reference e = (λ j. referenceRule (h .node j) (h .counts j .nodes) (target-tag 17 e j) (h .strings j)) ∙ reference-own ∙ by-tag 17 (tagged 17 e)
+  pub at-target : r .tag ≡ 13 → targetRule r (c .nodes) ts ≡ told
+  unfolding fieldsBy kinds
+  at-target e = by-tag 13 e
 
-    pub at-list : r .tag ≡ 12 → listRule r u ps ts ≡ fieldsRule s i
-    unfolding kinds
-    at-list e = (λ j. listRule (h .node j) (h .sums j) (h .payload j) (h .strings j)) ∙ list-own ∙ by-tag 12 (tagged 12 e)
+  pub at-assignment : r .tag ≡ 16 → assignmentRule r ts ≡ told
+  unfolding fieldsBy kinds
+  at-assignment e = by-tag 16 e
 
-    pub at-bool : r .tag ≡ 8 → unless (leb (r .f0) 1) 12 ≡ fieldsRule s i
-    unfolding kinds
-    at-bool e = (λ j. unless (leb (h .node j .f0) 1) 12) ∙ bool-own ∙ by-tag 8 (tagged 8 e)
+  pub at-reference : r .tag ≡ 17 → referenceRule r (c .nodes) tag ts ≡ told
+  unfolding fieldsBy kinds
+  at-reference e = by-tag 17 e
 
-    text-at : (t : ℕ) → TextOnly t → r .tag ≡ t → textRule (r .tag) (r .f0) (r .f1) ts ≡ fieldsRule s i
-    text-at t own e = (λ j. textRule (e j) (h .node j .f0) (h .node j .f1) (h .strings j)) ∙ own ∙ by-tag t (tagged t e)
+  pub at-list : r .tag ≡ 12 → listRule r u ps ts ≡ told
+  unfolding fieldsBy kinds
+  at-list e = by-tag 12 e
 
-    pub at-text : (r .tag ≡ 3) ⊎ ((r .tag ≡ 11) ⊎ (r .tag ≡ 14)) → textRule (r .tag) (r .f0) (r .f1) ts ≡ fieldsRule s i
-    at-text (inl e) = text-at 3 command-own e
-    at-text (inr (inl e)) = text-at 11 string-own e
-    at-text (inr (inr e)) = text-at 14 pointer-own e
+  pub at-bool : r .tag ≡ 8 → unless (leb (r .f0) 1) 12 ≡ told
+  unfolding fieldsBy kinds
+  at-bool e = by-tag 8 e
 
-    pub at-text-range : 6 ≤ r .tag → r .tag ≤ 7 → textRule (r .tag) (r .f0) (r .f1) ts ≡ fieldsRule s i
-    at-text-range l m = ⊎-elim (λ e. text-at 6 operator-own (sym e)) (λ k. text-at 7 tag-own (omega arith)) (eq-or-lt-of-le l)
+  text-at : (t : ℕ) → textRule t (r .f0) (r .f1) ts ≡ fieldsBy (kindOf t) r c u tag ps ts → r .tag ≡ t → textRule (r .tag) (r .f0) (r .f1) ts ≡ told
+  text-at t q e = ap (λ (x : ℕ). textRule x (r .f0) (r .f1) ts) e ∙ q ∙ by-tag t e
 
-    -- ---- kinds without a rule, and no kind
+  pub at-text : (r .tag ≡ 3) ⊎ ((r .tag ≡ 11) ⊎ (r .tag ≡ 14)) → textRule (r .tag) (r .f0) (r .f1) ts ≡ told
+  unfolding fieldsBy kinds
+  at-text (inl e) = text-at 3 refl e
+  at-text (inr (inl e)) = text-at 11 refl e
+  at-text (inr (inr e)) = text-at 14 refl e
 
-    pub at-empty : (r .tag ≡ 5) ⊎ (r .tag ≡ 18) → 0 ≡ fieldsRule s i
-    unfolding firstField fields kinds
-    at-empty (inl e) = by-tag 5 (tagged 5 e)
-    at-empty (inr e) = by-tag 18 (tagged 18 e)
+  pub at-text-range : 6 ≤ r .tag → r .tag ≤ 7 → textRule (r .tag) (r .f0) (r .f1) ts ≡ told
+  unfolding fieldsBy kinds
+  at-text-range l m = ⊎-elim (λ e. text-at 6 refl (sym e)) (λ k. text-at 7 refl (omega arith)) (eq-or-lt-of-le l)
 
-    pub at-number : 9 ≤ r .tag → r .tag ≤ 10 → 0 ≡ fieldsRule s i
-    unfolding firstField fieldRule fields kinds _▸_
-    at-number l m = ⊎-elim (λ e. by-tag 9 (tagged 9 (sym e))) (λ k. by-tag 10 (tagged 10 (omega arith))) (eq-or-lt-of-le l)
+  pub at-empty : (r .tag ≡ 5) ⊎ (r .tag ≡ 18) → 0 ≡ told
+  unfolding fieldsBy kinds
+  at-empty (inl e) = by-tag 5 e
+  at-empty (inr e) = by-tag 18 e
 
-    pub at-unknown : (r .tag ≡ 0) ⊎ ((r .tag ≡ 15) ⊎ (19 ≤ r .tag)) → 12 ≡ fieldsRule s i
-    unfolding firstField fieldRule fields kinds _▸_
-    at-unknown (inl e) = by-tag 0 (tagged 0 e)
-    at-unknown (inr (inl e)) = by-tag 15 (tagged 15 e)
-    at-unknown (inr (inr l)) =
-        ap (λ (k : Kind). firstField s i (fields k)) (sym (past-kinds (tagOf s i) (subst (λ (x : NodeRecord). 19 ≤ x .tag) (h .node) l)))
+  pub at-number : 9 ≤ r .tag → r .tag ≤ 10 → 0 ≡ told
+  unfolding fieldsBy kinds
+  at-number l m = ⊎-elim (λ e. by-tag 9 (sym e)) (λ k. by-tag 10 (omega arith)) (eq-or-lt-of-le l)
+
+  pub at-unknown : (r .tag ≡ 0) ⊎ ((r .tag ≡ 15) ⊎ (19 ≤ r .tag)) → 12 ≡ told
+  unfolding fieldsBy kinds
+  at-unknown (inl e) = by-tag 0 e
+  at-unknown (inr (inl e)) = by-tag 15 e
+  at-unknown (inr (inr l)) = ap (λ (k : Kind). fieldsBy k r c u tag ps ts) (sym (past-kinds (r .tag) l))
 
 -- ---- tags in the decision's ranges
 
@@ -238,60 +264,80 @@ no-kind t r h = ⊎-elim (λ e. inr (inl (sym e))) (λ l. inr (inr (past l))) (e
     past : 16 ≤ t → 19 ≤ t
     past l = up 18 t (up 17 t (up 16 t l (r .0 .1)) (r .1)) (λ e. r .0 .0 .0 .0 .0 .0 .1 (inr e))
 
--- ---- the parent, the root, what is left over
+-- ---- the parent, the root, what is left over: what is shown decides them
 
-abbrev parentIn : ℕ → NodeRecord → ℕ → ℕ → ℕ
-parentIn i r nodes tag = cond (eqb i 0) 0 (unless (containerAmong nodes (r .parent) tag && not (eqb (r .parent) i)) 9)
+pub shown-parent : (s : Sections) (i : ℕ) (r : NodeRecord) (c : Counts) (tag : ℕ) → ShowsParent s i r c tag → parentBy i r (c .nodes) tag ≡ parentRule s i
+unfolding parentBy parentRule
+shown-parent s i r c tag h =
+    (λ j. parentBy i (h .node j) (h .counts j .nodes) (h .parent j)) ∙ simp tag-told
 
-module _ (s : Sections) (i : ℕ) (r : NodeRecord) (c : Counts) (tag : ℕ) (h : ShowsParent s i r c tag) where
-  parent-own : parentIn i (nodeIn s i) (nodeCount s) (tagIn s (parentOf s i)) ≡ parentRule s i
-  unfolding parentRule
-  parent-own = simp tag-told
+pub shown-root : (s : Sections) (r : NodeRecord) → r ≡ nodeIn s 0 → rootBy r ≡ rootRight s
+unfolding rootBy rootRight
+shown-root s r h = ap rootBy h
 
-  parent-shown : parentIn i r (c .nodes) tag ≡ parentRule s i
-  parent-shown = (λ j. parentIn i (h .node j) (h .counts j .nodes) (h .parent j)) ∙ parent-own
+pub shown-used : (s : Sections) (u : Sums) (c : Counts) (n : ℕ) → u ≡ sumsBefore s (nodeCount s) → c ≡ countsOf s → n ≡ length (s .payload)
+    → usedUpBy u c n ≡ usedUp s
+unfolding usedUpBy usedUp
+shown-used s u c n p q l = λ j. usedUpBy (p j) (q j) (l j)
 
-  pub parent-of-root : i ≡ 0 → 0 ≡ parentRule s i
-  parent-of-root e = rw (eq-eqb i 0 e) at parent-shown
+-- ---- the same by the tests that the code makes
+
+module _ (i : ℕ) (r : NodeRecord) (nodes tag : ℕ) where
+  pub parent-of-root : i ≡ 0 → 0 ≡ parentBy i r nodes tag
+  unfolding parentBy
+  parent-of-root e = rw (eq-eqb i 0 e)
 
   -- by the flag that the test for a container gave
-  module _ (d : i ≡ 0 → ⊥) (b : Bool) (e : b ≡ containerAmong (c .nodes) (r .parent) tag) where
-    pub parent-missing : not b ≡ true → 9 ≡ parentRule s i
-    unfolding unless
-    parent-missing n = rw (ne-eqb i 0 d, ← e, not-true b n) at parent-shown
+  module _ (d : i ≡ 0 → ⊥) (b : Bool) (e : b ≡ containerAmong nodes (r .parent) tag) where
+    pub parent-missing : not b ≡ true → 9 ≡ parentBy i r nodes tag
+    unfolding unless parentBy
+    parent-missing n = rw (ne-eqb i 0 d, ← e, not-true b n)
 
-    pub parent-self : not b ≡ false → r .parent ≡ i → 9 ≡ parentRule s i
-    unfolding unless
-    parent-self n q = rw (ne-eqb i 0 d, ← e, not-false b n, eq-eqb (r .parent) i q) at parent-shown
+    pub parent-self : not b ≡ false → r .parent ≡ i → 9 ≡ parentBy i r nodes tag
+    unfolding unless parentBy
+    parent-self n q = rw (ne-eqb i 0 d, ← e, not-false b n, eq-eqb (r .parent) i q)
 
-    pub parent-right : not b ≡ false → (r .parent ≡ i → ⊥) → 0 ≡ parentRule s i
-    unfolding unless
-    parent-right n q = rw (ne-eqb i 0 d, ← e, not-false b n, ne-eqb (r .parent) i q) at parent-shown
+    pub parent-right : not b ≡ false → (r .parent ≡ i → ⊥) → 0 ≡ parentBy i r nodes tag
+    unfolding unless parentBy
+    parent-right n q = rw (ne-eqb i 0 d, ← e, not-false b n, ne-eqb (r .parent) i q)
 
-module _ (s : Sections) (r : NodeRecord) (h : r ≡ nodeIn s 0) where
-  root-shown : (isNone (r .parent) && isNone (r .place) && eqb (r .tag) 1) ≡ rootRight s
-  unfolding rootRight
-  root-shown = λ j. isNone (h j .parent) && isNone (h j .place) && eqb (h j .tag) 1
+module _ (r : NodeRecord) where
+  pub root-parent : (r .parent ≡ NONE → ⊥) → false ≡ rootBy r
+  unfolding rootBy
+  root-parent d = rw (ne-eqb (r .parent) NONE d)
 
-  pub root-parent : (r .parent ≡ NONE → ⊥) → false ≡ rootRight s
-  root-parent d = rw (ne-eqb (r .parent) NONE d) at root-shown
+  pub root-place : r .parent ≡ NONE → (r .place ≡ NONE → ⊥) → false ≡ rootBy r
+  unfolding rootBy
+  root-place e d = rw (eq-eqb (r .parent) NONE e, ne-eqb (r .place) NONE d)
 
-  pub root-place : r .parent ≡ NONE → (r .place ≡ NONE → ⊥) → false ≡ rootRight s
-  root-place e d = rw (eq-eqb (r .parent) NONE e, ne-eqb (r .place) NONE d) at root-shown
+  pub root-tag : r .parent ≡ NONE → r .place ≡ NONE → eqb (r .tag) containerTag ≡ rootBy r
+  unfolding rootBy
+  root-tag e d = rw (eq-eqb (r .parent) NONE e, eq-eqb (r .place) NONE d)
 
-  pub root-tag : r .parent ≡ NONE → r .place ≡ NONE → eqb (r .tag) 1 ≡ rootRight s
-  root-tag e d = rw (eq-eqb (r .parent) NONE e, eq-eqb (r .place) NONE d) at root-shown
+module _ (u : Sums) (c : Counts) (n : ℕ) where
+  pub used-children : (u .children ≡ c .children → ⊥) → false ≡ usedUpBy u c n
+  unfolding usedUpBy
+  used-children d = rw (ne-eqb (u .children) (c .children) d)
 
-module _ (s : Sections) (u : Sums) (c : Counts) (n : ℕ) (p : u ≡ sumsBefore s (nodeCount s)) (q : c ≡ countsOf s) (l : n ≡ length (s .payload)) where
-  used-shown : (eqb (u .children) (c .children) && eqb (u .named) (c .named) && eqb (u .payload) n) ≡ usedUp s
-  unfolding usedUp
-  used-shown = λ j. eqb (p j .children) (q j .children) && eqb (p j .named) (q j .named) && eqb (p j .payload) (l j)
+  pub used-named : u .children ≡ c .children → (u .named ≡ c .named → ⊥) → false ≡ usedUpBy u c n
+  unfolding usedUpBy
+  used-named e d = rw (eq-eqb (u .children) (c .children) e, ne-eqb (u .named) (c .named) d)
 
-  pub used-children : (u .children ≡ c .children → ⊥) → false ≡ usedUp s
-  used-children d = rw (ne-eqb (u .children) (c .children) d) at used-shown
+  pub used-payload : u .children ≡ c .children → u .named ≡ c .named → eqb (u .payload) n ≡ usedUpBy u c n
+  unfolding usedUpBy
+  used-payload e d = rw (eq-eqb (u .children) (c .children) e, eq-eqb (u .named) (c .named) d)
 
-  pub used-named : u .children ≡ c .children → (u .named ≡ c .named → ⊥) → false ≡ usedUp s
-  used-named e d = rw (eq-eqb (u .children) (c .children) e, ne-eqb (u .named) (c .named) d) at used-shown
+-- the sums after a node, by its tag
+module _ (u : Sums) (r : NodeRecord) where
+  pub after-container : r .tag ≡ containerTag
+      → record { children = r .f3 + r .f4; named = r .f5 + r .f6; payload = u .payload; containers = u .containers + 1 } ≡ sumsAfter u r
+  unfolding sumsAfter
+  after-container e = rw (eq-eqb (r .tag) containerTag e)
 
-  pub used-payload : u .children ≡ c .children → u .named ≡ c .named → eqb (u .payload) n ≡ usedUp s
-  used-payload e d = rw (eq-eqb (u .children) (c .children) e, eq-eqb (u .named) (c .named) d) at used-shown
+  pub after-list : r .tag ≡ 12 → record { children = u .children; named = u .named; payload = r .f0 + r .f1; containers = u .containers } ≡ sumsAfter u r
+  unfolding sumsAfter
+  after-list e = rw e
+
+  pub after-other : (r .tag ≡ containerTag → ⊥) → (r .tag ≡ 12 → ⊥) → u ≡ sumsAfter u r
+  unfolding sumsAfter
+  after-other d e = rw (ne-eqb (r .tag) containerTag d, ne-eqb (r .tag) 12 e)

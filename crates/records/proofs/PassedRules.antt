@@ -21,9 +21,9 @@ use Rattle.image.specs.Entries.{nodeIn}
 use Rattle.image.specs.Sections.{Sections, nodeCount, childCount, namedCount, parentOf, placeOf, tagOf, f, textAt, goodText, goodOptional, inside, isContainer, insideContainer}
 use Rattle.image.proofs.Tests.{both-true}
 use Rattle.records.specs.declared.Sums.{Sums}
-use Rattle.records.specs.Fields.{Kind, Container, Choice, Command, Divert, Glue, Operator, Tag, BoolValue, IntValue, FloatValue, StringValue, ListValue, TargetValue, PointerValue, Assignment, Reference, Void, Unknown, Field, text, optional, command, operator, node, optionalNode, container, optionalContainer, atMost, children, named, payload, kinds, kindOf, fields}
-use Rattle.records.specs.Records.{targetIn, targetOf, numberOfChildren, numberOfNamed, payloadLengthOf, containerOf, childrenBefore, namedBefore, payloadBefore, containersBefore, listItems, listOrigins, listItemWord, listOriginWord, listItemRule, listOriginRule, payloadRule, fieldRule, firstField, fieldsRule, parentRule, nodeRule, rootRight, usedUp}
-use Rattle.records.specs.Shown.{sumsBefore}
+use Rattle.records.specs.Fields.{Kind, Container, Choice, Command, Divert, Glue, Operator, Tag, BoolValue, IntValue, FloatValue, StringValue, ListValue, TargetValue, PointerValue, Assignment, Reference, Void, Unknown, Field, text, optional, command, operator, node, optionalNode, container, optionalContainer, atMost, children, named, payload, kinds, kindOf, fields, targetAmong}
+use Rattle.records.specs.Records.{fieldWord, targetIn, targetOf, numberOfChildren, numberOfNamed, payloadLengthOf, containerOf, childrenBefore, namedBefore, payloadBefore, containersBefore, listItems, listOrigins, listItemWord, listOriginWord, listItemRule, listOriginRule, payloadRule, fieldRule, firstField, fieldsRule, parentRule, nodeRule, rootRight, usedUp}
+use Rattle.records.specs.Shown.{sumsBefore, sumsAfter}
 use Rattle.records.proofs.Tests.{refused}
 
 -- ---- node numbers
@@ -309,6 +309,18 @@ module _ (s : Sections) (i : ℕ) (u : Sums) (r : NodeRecord) (q : u ≡ sumsBef
       (λ j. record { children = children-stay j; named = named-stay j; payload = payload-stays j; containers = containers-stay j })
       ∙ sym (next-sums s i (other-counts s i (λ t. d (same ∙ t)) (λ t. e (same ∙ t))))
 
+  -- so the sums after a node whose field rules pass are those before the next one
+  pub shown-sums : fieldsRule s i ≡ 0 → sumsAfter u r ≡ sumsBefore s (suc i)
+  unfolding sumsAfter
+  shown-sums p =
+      elim (ℕ-discrete (r .tag) 1) [
+        | yes e ↦ rw (eq-eqb (r .tag) 1 e) (sums-container e p)
+        | no d ↦ elim (ℕ-discrete (r .tag) 12) [
+          | yes e ↦ rw e (sums-list e p)
+          | no o ↦ rw (ne-eqb (r .tag) 1 d, ne-eqb (r .tag) 12 o) (sums-other d o)
+        ]
+      ]
+
 -- ---- nothing left over
 
 pub record UsedUp (s : Sections) : Type 0 where
@@ -366,7 +378,7 @@ parent s i h p =
 
 module _ (s : Sections) (i : ℕ) where
   kind-target : (k : Kind) → firstField s i (fields k) ≡ 0 → (targetOf s i k ≡ NONE → ⊥) → Node s (targetOf s i k)
-  unfolding firstField fields targetIn
+  unfolding firstField fields targetIn fieldWord targetAmong
   kind-target Choice p d = node-of s _ (both-true _ _ (container-passed s i 2 (both _ _ (both _ _ p .1) .0)) .0)
   kind-target Divert p d = node-of s _ (optional-node-passed s i 2 (both _ _ (both _ _ p .1) .0) d)
   kind-target TargetValue p d = node-of s _ (node-passed s i 2 (both _ _ (both _ _ p .1) .0))

@@ -8,7 +8,9 @@ use borrow.Author.Tests.{le-leb, lt-leb, eq-eqb, ne-eqb, not-true, not-false}
 use Rattle.laws.specs.Refusal.{unless, _▸_, firstOf}
 use Rattle.laws.proofs.First.{first, second, pass, fail, first-hit}
 use Rattle.words.specs.Words.{NONE, isNone}
-use Rattle.records.specs.Shown.{insideAmong, containerAmong, startsNext}
+use Rattle.image.specs.Sections.{insideAmong, containerTag}
+use Rattle.image.proofs.Tests.{false-and, true-and}
+use Rattle.records.specs.Shown.{containerAmong, startsNext}
 
 -- ---- a chain of rules
 
@@ -71,31 +73,17 @@ above w m h = sym (fail (leb w m) 12 (lt-leb w m h))
 
 -- ---- node numbers
 
-either-false : (a : Bool) → false ≡ (a && false)
-either-false true = refl
-either-false false = refl
-
-either-true : (a : Bool) → a ≡ (a && true)
-either-true true = refl
-either-true false = refl
-
-pub none-inside : (nodes n : ℕ) → n ≡ NONE → false ≡ insideAmong nodes n
-none-inside nodes n h = rw (eq-eqb n NONE h) (either-false (ltb n nodes))
-
-pub some-inside : (nodes n : ℕ) → (n ≡ NONE → ⊥) → ltb n nodes ≡ insideAmong nodes n
-some-inside nodes n h = rw (ne-eqb n NONE h) (either-true (ltb n nodes))
-
 pub none-optional : (n : ℕ) (b : Bool) → n ≡ NONE → true ≡ (isNone n || b)
 none-optional n b h = rw (eq-eqb n NONE h)
 
 pub some-optional : (n : ℕ) (v b : Bool) → (n ≡ NONE → ⊥) → v ≡ b → v ≡ (isNone n || b)
 some-optional n v b h q = rw (ne-eqb n NONE h) q
 
-pub other-tag : (nodes n tag : ℕ) → (tag ≡ 1 → ⊥) → false ≡ containerAmong nodes n tag
-other-tag nodes n tag h = rw (ne-eqb tag 1 h) (either-false (insideAmong nodes n))
+pub other-tag : (nodes n tag : ℕ) → (tag ≡ containerTag → ⊥) → false ≡ containerAmong nodes n tag
+other-tag nodes n tag h = rw (ne-eqb tag containerTag h) (false-and (insideAmong nodes n))
 
-pub that-tag : (nodes n tag : ℕ) (v : Bool) → tag ≡ 1 → v ≡ insideAmong nodes n → v ≡ containerAmong nodes n tag
-that-tag nodes n tag v h q = rw (eq-eqb tag 1 h) (q ∙ either-true (insideAmong nodes n))
+pub that-tag : (nodes n tag : ℕ) (v : Bool) → tag ≡ containerTag → v ≡ insideAmong nodes n → v ≡ containerAmong nodes n tag
+that-tag nodes n tag v h q = rw (eq-eqb tag containerTag h) (q ∙ true-and (insideAmong nodes n))
 
 -- ---- ranges
 

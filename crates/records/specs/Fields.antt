@@ -9,10 +9,48 @@ pub data Kind : Type 0 where
   -- no tag of a node
   Unknown : Kind
 
+-- by tag, from 0 on
 unfoldable pub kinds : List Kind
 kinds =
-    Unknown ∷ Container ∷ Choice ∷ Command ∷ Divert ∷ Glue ∷ Operator ∷ Tag ∷ BoolValue ∷ IntValue ∷ FloatValue ∷ StringValue ∷ ListValue
-    ∷ TargetValue ∷ PointerValue ∷ Unknown ∷ Assignment ∷ Reference ∷ Void ∷ []
+    -- 0
+    Unknown
+    -- 1
+    ∷ Container
+    -- 2
+    ∷ Choice
+    -- 3
+    ∷ Command
+    -- 4
+    ∷ Divert
+    -- 5
+    ∷ Glue
+    -- 6
+    ∷ Operator
+    -- 7
+    ∷ Tag
+    -- 8
+    ∷ BoolValue
+    -- 9
+    ∷ IntValue
+    -- 10
+    ∷ FloatValue
+    -- 11
+    ∷ StringValue
+    -- 12
+    ∷ ListValue
+    -- 13
+    ∷ TargetValue
+    -- 14
+    ∷ PointerValue
+    -- 15
+    ∷ Unknown
+    -- 16
+    ∷ Assignment
+    -- 17
+    ∷ Reference
+    -- 18
+    ∷ Void
+    ∷ []
 
 -- the kind of a tag: 1 to 14 and 16 to 18 have one
 abbrev pub kindOf : ℕ → Kind
@@ -55,7 +93,38 @@ fields Reference = text 0 ∷ optional 2 ∷ optionalContainer 4 ∷ []
 fields Void = []
 fields Unknown = wrong ∷ []
 
+-- ---- the target of a node: the field that names another node
+
+-- the word of the target, counted from f0, of fields of which this is the first: its own, or that of the others
+abbrev pub targetBefore : Field → ℕ → ℕ
+targetBefore (node k) others = k
+targetBefore (optionalNode k) others = k
+targetBefore (container k) others = k
+targetBefore (optionalContainer k) others = k
+targetBefore (text k) others = others
+targetBefore (optional k) others = others
+targetBefore (command k) others = others
+targetBefore (operator k) others = others
+targetBefore (plain k) others = others
+targetBefore (atMost k n) others = others
+targetBefore children others = others
+targetBefore named others = others
+targetBefore payload others = others
+targetBefore wrong others = others
+
+-- past f6, where no field has one
+abbrev pub noPlace : ℕ
+noPlace = 7
+
+unfoldable pub targetAmong : List Field → ℕ
+targetAmong [] = noPlace
+targetAmong (x ∷ xs) = let others = targetAmong xs in targetBefore x others
+
+-- f2 of choices, diverts and target values, f4 of references
+abbrev pub targetPlace : Kind → ℕ
+targetPlace k = targetAmong (fields k)
+
 -- names on an `unfolding` line what a computation with this module needs
 unfoldable pub schema : Unit {0}
-unfolding kinds fields
+unfolding kinds fields targetAmong
 schema = tt

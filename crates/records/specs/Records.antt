@@ -1,8 +1,8 @@
 -- The record rules: the rule of each field of a node, of its parent, of a list's payload; sums of the counts before; leftovers.
 use Prim.Native.Nat.{ℕ, _+_, _*_}
 use mathlib.Core.List.{List, [], _∷_}
-use mathlib.Core.Bool.{Bool, cond, _&&_, _||_, not}
-use lib.ListN.{length}
+use mathlib.Core.Bool.{Bool, true, false, cond, _&&_, _||_, not}
+use lib.ListN.{length, getD}
 use lib.Dec.{leb, eqb}
 use Rattle.laws.specs.Refusal.{unless, _▸_, firstOf, refusals}
 use Rattle.laws.specs.Counted.{sumOf, counted}
@@ -12,7 +12,7 @@ use Rattle.names.specs.Names.{commands, operators, names}
 use Rattle.image.specs.declared.NodeRecord.{NodeRecord}
 use Rattle.image.specs.Entries.{nodeIn}
 use Rattle.image.specs.Sections.{Sections, nodeCount, childCount, namedCount, parentOf, placeOf, tagOf, f, textAt, goodText, goodOptional, inside, isContainer, insideContainer, sections}
-use Rattle.records.specs.Fields.{Kind, Container, Choice, Command, Divert, Glue, Operator, Tag, BoolValue, IntValue, FloatValue, StringValue, ListValue, TargetValue, PointerValue, Assignment, Reference, Void, Unknown, Field, text, optional, command, operator, node, optionalNode, container, optionalContainer, plain, atMost, children, named, payload, wrong, fields, kindOf, schema}
+use Rattle.records.specs.Fields.{Kind, Container, Choice, Command, Divert, Glue, Operator, Tag, BoolValue, IntValue, FloatValue, StringValue, ListValue, TargetValue, PointerValue, Assignment, Reference, Void, Unknown, Field, targetPlace, text, optional, command, operator, node, optionalNode, container, optionalContainer, plain, atMost, children, named, payload, wrong, fields, kindOf, schema}
 
 -- the fields of node i
 abbrev pub fieldsAt : Sections → ℕ → List Field
@@ -20,30 +20,23 @@ fieldsAt s i = fields (kindOf (tagOf s i))
 
 -- ---- the target of a node
 
--- the field of a record that names another node: f2 of tags 2, 4 and 13, f4 of 17; other kinds have none
+-- word k of a record's fields; past f6 there is none
+unfoldable pub fieldWord : NodeRecord → ℕ → ℕ
+fieldWord r k = getD (r .f0 ∷ r .f1 ∷ r .f2 ∷ r .f3 ∷ r .f4 ∷ r .f5 ∷ r .f6 ∷ []) k NONE
+
+-- the word of a record that names another node, NONE for a kind that has no target
 unfoldable pub targetIn : NodeRecord → Kind → ℕ
-targetIn r Choice = r .f2
-targetIn r Divert = r .f2
-targetIn r TargetValue = r .f2
-targetIn r Reference = r .f4
-targetIn r Container = NONE
-targetIn r Command = NONE
-targetIn r Glue = NONE
-targetIn r Operator = NONE
-targetIn r Tag = NONE
-targetIn r BoolValue = NONE
-targetIn r IntValue = NONE
-targetIn r FloatValue = NONE
-targetIn r StringValue = NONE
-targetIn r ListValue = NONE
-targetIn r PointerValue = NONE
-targetIn r Assignment = NONE
-targetIn r Void = NONE
-targetIn r Unknown = NONE
+targetIn r k = fieldWord r (targetPlace k)
 
 -- the target of node i, if it is of the kind
 abbrev pub targetOf : Sections → ℕ → Kind → ℕ
 targetOf s i k = targetIn (nodeIn s i) k
+
+-- a node that a field may name: whether it may be absent, and whether a container is due
+abbrev pub mayTarget : Bool → Bool → Sections → ℕ → Bool
+mayTarget absentToo containerDue s n =
+    let there = cond containerDue (insideContainer s n) (inside s n) in
+    cond absentToo (isNone n || there) there
 
 -- ---- counts of a node, and their sums over the nodes before
 
@@ -116,10 +109,10 @@ fieldRule s i (command k) =
     unless (goodText s (f s i k) (f s i (k + 1))) 10 ▸ unless (holds commands (textAt s (f s i k) (f s i (k + 1)))) 12
 fieldRule s i (operator k) =
     unless (goodText s (f s i k) (f s i (k + 1))) 10 ▸ unless (holds operators (textAt s (f s i k) (f s i (k + 1)))) 12
-fieldRule s i (node k) = unless (inside s (f s i k)) 9
-fieldRule s i (optionalNode k) = unless (isNone (f s i k) || inside s (f s i k)) 9
-fieldRule s i (container k) = unless (insideContainer s (f s i k)) 9
-fieldRule s i (optionalContainer k) = unless (isNone (f s i k) || insideContainer s (f s i k)) 9
+fieldRule s i (node k) = unless (mayTarget false false s (f s i k)) 9
+fieldRule s i (optionalNode k) = unless (mayTarget true false s (f s i k)) 9
+fieldRule s i (container k) = unless (mayTarget false true s (f s i k)) 9
+fieldRule s i (optionalContainer k) = unless (mayTarget true true s (f s i k)) 9
 fieldRule s i (plain k) = 0
 fieldRule s i (atMost k n) = unless (leb (f s i k) n) 12
 fieldRule s i children = unless (leb (f s i 3 + f s i 4) (childCount s) && eqb (f s i 3) (childrenBefore s i)) 11
@@ -154,5 +147,5 @@ usedUp s =
 
 -- names on an `unfolding` line what a computation with this module needs
 unfoldable pub records : Unit {0}
-unfolding targetIn numberOfChildren numberOfNamed payloadLengthOf containerOf listWord listItemRule listOriginRule payloadRule fieldRule firstField parentRule nodeRule rootRight usedUp schema sections names refusals counted words texts
+unfolding fieldWord targetIn numberOfChildren numberOfNamed payloadLengthOf containerOf listWord listItemRule listOriginRule payloadRule fieldRule firstField parentRule nodeRule rootRight usedUp schema sections names refusals counted words texts
 records = tt

@@ -4,7 +4,7 @@ use Prim.Native.Nat.{ℕ, _+_}
 use mathlib.Core.Path.{_≡_}
 use mathlib.Core.List.{List, []}
 use mathlib.Core.Bool.{Bool, cond, _&&_, _||_, not}
-use lib.Dec.{leb, ltb, eqb}
+use lib.Dec.{leb, eqb}
 use Rattle.laws.specs.Refusal.{unless, _▸_, refusals}
 use Rattle.words.specs.Words.{isNone}
 use Rattle.texts.specs.Text.{holds}
@@ -12,10 +12,10 @@ use Rattle.names.specs.Names.{commands, operators}
 use Rattle.image.specs.declared.NodeRecord.{NodeRecord}
 use Rattle.image.specs.Entries.{nodeIn}
 use Rattle.image.specs.Header.{version}
-use Rattle.image.specs.Sections.{Sections, nodeCount, childCount, namedCount, parentOf, tagOf, inside, partAt, goodIn, optionalIn}
+use Rattle.image.specs.Sections.{Sections, nodeCount, childCount, namedCount, parentOf, tagOf, inside, insideAmong, containerTag, partAt, goodIn, optionalIn}
 use Rattle.records.specs.declared.Counts.{Counts}
 use Rattle.records.specs.declared.Sums.{Sums}
-use Rattle.records.specs.Fields.{kindOf}
+use Rattle.records.specs.Fields.{Kind, Container, Choice, Command, Divert, Glue, Operator, Tag, BoolValue, IntValue, FloatValue, StringValue, ListValue, TargetValue, PointerValue, Assignment, Reference, Void, Unknown, kindOf}
 use Rattle.records.specs.Records.{targetOf, childrenBefore, namedBefore, payloadBefore, containersBefore, payloadRule, records}
 
 abbrev pub countsOf : Sections → Counts
@@ -47,13 +47,9 @@ pub record ShowsParent (s : Sections) (i : ℕ) (r : NodeRecord) (c : Counts) (t
 
 -- ---- tests of a field
 
--- among so many nodes
-abbrev pub insideAmong : ℕ → ℕ → Bool
-insideAmong nodes n = ltb n nodes && not (isNone n)
-
--- and of the tag of a container
+-- among so many nodes, and of the tag of a container
 abbrev pub containerAmong : ℕ → ℕ → ℕ → Bool
-containerAmong nodes n tag = insideAmong nodes n && eqb tag 1
+containerAmong nodes n tag = insideAmong nodes n && eqb tag containerTag
 
 -- a range begins where those before it end, and ends inside
 abbrev pub startsNext : ℕ → ℕ → ℕ → ℕ → Bool
@@ -103,7 +99,51 @@ referenceRule r nodes tag strings =
 unfoldable pub listRule : NodeRecord → Sums → List ℕ → List ℕ → ℕ
 listRule r u payload strings = unless (eqb (r .f0) (u .payload)) 11 ▸ payloadRule (bytesOnly payload strings) (r .f0) (r .f1)
 
+-- of a node of a kind: its record, the counts, the sums before it, the tag of its target, payload and strings
+unfoldable pub fieldsBy : Kind → NodeRecord → Counts → Sums → ℕ → List ℕ → List ℕ → ℕ
+fieldsBy Container r c u tag payload strings = containerRule r c u strings
+fieldsBy Choice r c u tag payload strings = choiceRule r (c .nodes) tag strings
+fieldsBy Command r c u tag payload strings = textRule 3 (r .f0) (r .f1) strings
+fieldsBy Divert r c u tag payload strings = divertRule r (c .nodes) strings
+fieldsBy Glue r c u tag payload strings = 0
+fieldsBy Operator r c u tag payload strings = textRule 6 (r .f0) (r .f1) strings
+fieldsBy Tag r c u tag payload strings = textRule 7 (r .f0) (r .f1) strings
+fieldsBy BoolValue r c u tag payload strings = unless (leb (r .f0) 1) 12
+fieldsBy IntValue r c u tag payload strings = 0
+fieldsBy FloatValue r c u tag payload strings = 0
+fieldsBy StringValue r c u tag payload strings = textRule 11 (r .f0) (r .f1) strings
+fieldsBy ListValue r c u tag payload strings = listRule r u payload strings
+fieldsBy TargetValue r c u tag payload strings = targetRule r (c .nodes) strings
+fieldsBy PointerValue r c u tag payload strings = textRule 14 (r .f0) (r .f1) strings
+fieldsBy Assignment r c u tag payload strings = assignmentRule r strings
+fieldsBy Reference r c u tag payload strings = referenceRule r (c .nodes) tag strings
+fieldsBy Void r c u tag payload strings = 0
+fieldsBy Unknown r c u tag payload strings = 12
+
+-- ---- the parent, the root, sums and what is left over
+
+-- of node i by its record, among so many nodes, with the tag of its parent
+unfoldable pub parentBy : ℕ → NodeRecord → ℕ → ℕ → ℕ
+parentBy i r nodes tag = cond (eqb i 0) 0 (unless (containerAmong nodes (r .parent) tag && not (eqb (r .parent) i)) 9)
+
+-- the root by its record
+unfoldable pub rootBy : NodeRecord → Bool
+rootBy r = isNone (r .parent) && isNone (r .place) && eqb (r .tag) containerTag
+
+-- the sums after a node, whose ranges begin where those before it end
+unfoldable pub sumsAfter : Sums → NodeRecord → Sums
+sumsAfter u r =
+    cond (eqb (r .tag) containerTag)
+    (record { children = r .f3 + r .f4; named = r .f5 + r .f6; payload = u .payload; containers = u .containers + 1 })
+    (cond (eqb (r .tag) 12)
+    (record { children = u .children; named = u .named; payload = r .f0 + r .f1; containers = u .containers })
+    u)
+
+-- the sums are the counts, and the payload's length
+unfoldable pub usedUpBy : Sums → Counts → ℕ → Bool
+usedUpBy u c payload = eqb (u .children) (c .children) && eqb (u .named) (c .named) && eqb (u .payload) payload
+
 -- names on an `unfolding` line what a computation with this module needs
 unfoldable pub shownRecords : Unit {0}
-unfolding tagIn containerRule choiceRule divertRule textRule targetRule assignmentRule referenceRule listRule records refusals
+unfolding tagIn containerRule choiceRule divertRule textRule targetRule assignmentRule referenceRule listRule fieldsBy parentBy rootBy sumsAfter usedUpBy records refusals
 shownRecords = tt

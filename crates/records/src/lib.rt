@@ -3,25 +3,27 @@ mod list; // list.rt: a list's payload
 
 use image::NONE;
 use image::NodeRecord;
+use image::is_inside;
 use image::refusal::BAD_NODE;
 use image::refusal::BAD_RANGE;
 use image::refusal::BAD_TAG;
 use image::refusal::BAD_TEXT;
+use image::tag;
 use names::Number;
 ghost use mathlib.Core.Path.{_≡_};
 ghost use mathlib.Core.Bool.{_||_};
-ghost use Prim.Native.Nat.{ℕ, suc, _<_};
+ghost use Prim.Native.Nat.{_<_};
 ghost use lib.Dec.{leb};
-ghost use lib.ListN.{length};
 ghost use Rattle.laws.specs.Refusal.{unless};
 ghost use Rattle.words.specs.Words.{isNone};
 ghost use Rattle.texts.specs.Text.{holds};
 ghost use Rattle.names.specs.Names.{commands, operators};
-ghost use Rattle.image.specs.Sections.{Sections, tagOf, nodeCount};
-ghost use Rattle.image.specs.Entries.{nodeIn};
+ghost use Rattle.image.specs.Sections.{insideAmong};
 ghost use Rattle.records.specs.Fields.{kindOf};
-ghost use Rattle.records.specs.Records.{targetIn, fieldsRule, parentRule, rootRight, usedUp};
-ghost use Rattle.records.specs.Shown.{Shows, ShowsParent, countsOf, sumsBefore, insideAmong, containerAmong, startsNext, containerRule, choiceRule, divertRule, textRule, targetRule, assignmentRule, referenceRule, listRule};
+ghost use Rattle.records.specs.Records.{targetIn};
+ghost use Rattle.records.specs.Shown.{containerAmong, startsNext};
+ghost use Rattle.records.specs.Shown.{containerRule, choiceRule, divertRule, textRule, targetRule, assignmentRule, referenceRule, listRule};
+ghost use Rattle.records.specs.Shown.{fieldsBy, parentBy, rootBy, sumsAfter, usedUpBy};
 
 // How many nodes, ordered children and named children the sections have.
 pub struct Counts {
@@ -42,52 +44,43 @@ pub struct Sums {
 pub fn target_of(node: NodeRecord) -> u32
     ensures { λ r. ⌜ r ≡ targetIn node (kindOf (node .tag)) ⌝ }
 {
-    let tag = node.tag;
-    match tag {
-        2 | 4 | 13 => node.f2,
-        17 => node.f4,
+    let node_tag = node.tag;
+    match node_tag {
+        tag::CHOICE | tag::DIVERT | tag::TARGET_VALUE => node.f2,
+        tag::REFERENCE => node.f4,
         _ => NONE,
     }
 }
 
-// Whether a node number is in the table; NONE never is.
-fn is_inside(nodes: usize, n: u32) -> bool
-    ensures { λ r. ⌜ r ≡ insideAmong nodes n ⌝ }
-{
-    if n == NONE {
-        false
-    } else {
-        (n as usize) < nodes
-    }
-}
-
+// Whether a word is absent or a node.
 fn is_optional_node(nodes: usize, word: u32) -> bool
     ensures { λ r. ⌜ r ≡ (isNone word || insideAmong nodes word) ⌝ }
 {
     if word == NONE {
         true
     } else {
-        (word as usize) < nodes
+        is_inside(nodes, word)
     }
 }
 
 // Whether a node number is in the table and the tag, which is that node's, is a container's.
-fn is_container(nodes: usize, n: u32, tag: u32) -> bool
-    ensures { λ r. ⌜ r ≡ containerAmong nodes n tag ⌝ }
+fn is_container(nodes: usize, n: u32, node_tag: u32) -> bool
+    ensures { λ r. ⌜ r ≡ containerAmong nodes n «node_tag» ⌝ }
 {
-    if tag != 1 {
+    if node_tag != tag::CONTAINER {
         return false;
     }
     is_inside(nodes, n)
 }
 
-fn is_optional_container(nodes: usize, word: u32, tag: u32) -> bool
-    ensures { λ r. ⌜ r ≡ (isNone word || containerAmong nodes word tag) ⌝ }
+// Whether a word is absent or a container.
+fn is_optional_container(nodes: usize, word: u32, node_tag: u32) -> bool
+    ensures { λ r. ⌜ r ≡ (isNone word || containerAmong nodes word «node_tag») ⌝ }
 {
     if word == NONE {
         return true;
     }
-    is_container(nodes, word, tag)
+    is_container(nodes, word, node_tag)
 }
 
 // Whether a range begins where those before it end, and ends inside its section.
@@ -169,20 +162,20 @@ fn is_operator(name: &[u8]) -> bool
 }
 
 // A kind that is a text alone: of a command or an operator, by the tag, its known name.
-fn text_only(tag: u32, offset: u32, len: u32, strings: &[u8]) -> u32
-    ensures { λ r. ⌜ r ≡ textRule tag offset len (now (strings .entry)) ⌝ }
+fn text_only(text_tag: u32, offset: u32, len: u32, strings: &[u8]) -> u32
+    ensures { λ r. ⌜ r ≡ textRule «text_tag» offset len (now (strings .entry)) ⌝ }
 {
     if !image::good_text(strings, offset, len) {
         return BAD_TEXT;
     }
     let name = image::text_part(strings, offset, len);
-    if tag == 3 {
+    if text_tag == tag::COMMAND {
         if is_command(name) {
             return 0;
         }
         return BAD_TAG;
     }
-    if tag == 6 {
+    if text_tag == tag::OPERATOR {
         if is_operator(name) {
             return 0;
         }
@@ -246,29 +239,31 @@ pub fn fields_rule(
     payload: &[u8],
     strings: &[u8],
 ) -> u32
-    ensures { λ r. ⌜ ((s : Sections) (i : ℕ) → Shows s i node counts sums «target_tag» (now (payload .entry)) (now (strings .entry)) → r ≡ fieldsRule s i) ⌝ }
+    ensures { λ r. ⌜ r ≡ fieldsBy (kindOf (node .tag)) node counts sums «target_tag» (now (payload .entry)) (now (strings .entry)) ⌝ }
 {
-    let tag = node.tag;
-    match tag {
-        1 => container(node, counts, sums, strings),
-        2 => choice(node, counts.nodes, target_tag, strings),
-        4 => divert(node, counts.nodes, strings),
-        5 | 18 => 0,
-        3 | 11 | 14 => text_only(tag, node.f0, node.f1, strings),
-        6..=7 => text_only(tag, node.f0, node.f1, strings),
-        8 => at_most(node.f0, 1),
-        9..=10 => 0,
-        12 => list_value(node, sums, payload, strings),
-        13 => target_value(node, counts.nodes, strings),
-        16 => assignment(node, strings),
-        17 => reference(node, counts.nodes, target_tag, strings),
+    let node_tag = node.tag;
+    match node_tag {
+        tag::CONTAINER => container(node, counts, sums, strings),
+        tag::CHOICE => choice(node, counts.nodes, target_tag, strings),
+        tag::DIVERT => divert(node, counts.nodes, strings),
+        tag::GLUE | tag::VOID => 0,
+        tag::COMMAND | tag::STRING_VALUE | tag::POINTER_VALUE => {
+            text_only(node_tag, node.f0, node.f1, strings)
+        }
+        tag::OPERATOR..=tag::TAG => text_only(node_tag, node.f0, node.f1, strings),
+        tag::BOOL_VALUE => at_most(node.f0, 1),
+        tag::INT_VALUE..=tag::FLOAT_VALUE => 0,
+        tag::LIST_VALUE => list_value(node, sums, payload, strings),
+        tag::TARGET_VALUE => target_value(node, counts.nodes, strings),
+        tag::ASSIGNMENT => assignment(node, strings),
+        tag::REFERENCE => reference(node, counts.nodes, target_tag, strings),
         _ => BAD_TAG,
     }
 }
 
 // The root is a container that has no parent and no place.
 pub fn root_right(root: NodeRecord) -> bool
-    ensures { λ r. ⌜ ((s : Sections) → root ≡ nodeIn s 0 → r ≡ rootRight s) ⌝ }
+    ensures { λ r. ⌜ r ≡ rootBy root ⌝ }
 {
     if root.parent != NONE {
         return false;
@@ -276,12 +271,12 @@ pub fn root_right(root: NodeRecord) -> bool
     if root.place != NONE {
         return false;
     }
-    root.tag == 1
+    root.tag == tag::CONTAINER
 }
 
 // The number of the parent's rule, which node `i` breaks, or 0. The tag is that of the node in the parent word, 0 where there is none.
 pub fn parent_rule(node: NodeRecord, i: usize, counts: Counts, parent_tag: u32) -> u32
-    ensures { λ r. ⌜ ((s : Sections) → ShowsParent s i node counts «parent_tag» → r ≡ parentRule s i) ⌝ }
+    ensures { λ r. ⌜ r ≡ parentBy i node (counts .nodes) «parent_tag» ⌝ }
 {
     if i == 0 {
         return 0;
@@ -298,17 +293,17 @@ pub fn parent_rule(node: NodeRecord, i: usize, counts: Counts, parent_tag: u32) 
 // The sums before the node after this one, whose field rules pass.
 pub fn add(sums: Sums, node: NodeRecord) -> Sums
     requires { ⌜ sums .containers < 18446744073709551615 ⌝ }
-    ensures { λ r. ⌜ ((s : Sections) (i : ℕ) → sums ≡ sumsBefore s i → node ≡ nodeIn s i → fieldsRule s i ≡ 0 → r ≡ sumsBefore s (suc i)) ⌝ }
+    ensures { λ r. ⌜ r ≡ sumsAfter sums node ⌝ }
 {
-    let tag = node.tag;
-    match tag {
-        1 => Sums {
+    let node_tag = node.tag;
+    match node_tag {
+        tag::CONTAINER => Sums {
             children: node.f3 as usize + node.f4 as usize,
             named: node.f5 as usize + node.f6 as usize,
             payload: sums.payload,
             containers: sums.containers + 1,
         },
-        12 => Sums {
+        tag::LIST_VALUE => Sums {
             children: sums.children,
             named: sums.named,
             payload: node.f0 as usize + node.f1 as usize,
@@ -320,7 +315,7 @@ pub fn add(sums: Sums, node: NodeRecord) -> Sums
 
 // Nothing is left over in children, named children and payload.
 pub fn used_up(sums: Sums, counts: Counts, payload: usize) -> bool
-    ensures { λ r. ⌜ ((s : Sections) → sums ≡ sumsBefore s (nodeCount s) → counts ≡ countsOf s → payload ≡ length (s .payload) → r ≡ usedUp s) ⌝ }
+    ensures { λ r. ⌜ r ≡ usedUpBy sums counts payload ⌝ }
 {
     if sums.children != counts.children {
         return false;

@@ -36,11 +36,6 @@ RisesFrom lt p n = (a : ℕ) → p ≤ a → suc a < n → lt a (suc a) ≡ true
 
 -- ---- the first use of each text
 
--- the numbers from k on, n of them
-unfoldable pub upFrom : ℕ → ℕ → List ℕ
-upFrom k zero = []
-upFrom k (suc n) = k ∷ upFrom (suc k) n
-
 -- r is the first use of k's text
 pub record First (key : ℕ → List ℕ) (k r : ℕ) : Type 0 where
   pub early : r ≤ k

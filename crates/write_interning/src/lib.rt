@@ -5,8 +5,8 @@ ghost use mathlib.Core.List.{_++_};
 ghost use Prim.Native.Nat.{ℕ, _+_, _-_, _^_, _≤_, _<_};
 ghost use lib.ListN.{length, take, drop};
 ghost use Rattle.write_text_keys.specs.Keys.{keyIn, Placed};
-ghost use Rattle.write_sorting.specs.Sorted.{byKey, isort, part};
-ghost use Rattle.write_interning.specs.Uses.{storedOf, joined, answerOf, Offsets, RisesFrom, upFrom, Firsts, headOf};
+ghost use Rattle.write_sorting.specs.Sorted.{byKey, isort, upFrom};
+ghost use Rattle.write_interning.specs.Uses.{storedOf, joined, answerOf, Offsets, RisesFrom, Firsts, headOf};
 use draft::source;
 use draft::source::Source;
 use write_text_keys::Tables;
@@ -15,19 +15,6 @@ use write_text_keys::Tables;
 pub enum Stored {
     Whole(usize),
     TooLong,
-}
-
-// Writes the numbers from `from` up to `to` into the words that they number.
-fn number(w: &mut [u32], from: usize, to: usize)
-    requires { ⌜ (from ≤ to) × (to ≤ length (now w)) × (to < 2 ^ 32) ⌝ }
-    ensures { λ _. ⌜ (take from (now (w .exit)) ≡ take from (now (w .entry))) × (part from to (now (w .exit)) ≡ upFrom from (to - from))
-        × (drop to (now (w .exit)) ≡ drop to (now (w .entry))) ⌝ }
-{
-    let mut i = from;
-    while i < to {
-        w[i] = i as u32;
-        i += 1;
-    }
 }
 
 // Puts the uses 0 to n - 1 in the order of their texts, those of one text in their own order. The paths, which come last, are in order.
@@ -39,9 +26,9 @@ fn arrange(nodes: &[u32], strings: &[u8], w: &mut [u32], t: Tables, n: usize, so
     ensures { λ _. ⌜ drop (t .at) (now (w .exit)) ≡ drop (t .at) (now (w .entry)) ⌝ }
 {
     let m = t.texts;
-    number(w, 0, m);
+    write_sorting::number(w, 0, m);
     write_sorting::sort(nodes, strings, w, t, m, source);
-    number(w, m, n);
+    write_sorting::number(w, m, n);
     write_sorting::merge(nodes, strings, w, t, m, n, source);
 }
 

@@ -4,6 +4,7 @@ use mathlib.Core.Path.{_≡_, refl, sym, ap, _∙_}
 use mathlib.Core.List.{List, [], _∷_, _++_, map}
 use mathlib.Core.Bool.{Bool, true, false, cond}
 use native.Mathlib.Omega.{arith}
+use native.Mathlib.Numerals.{add-one}
 use native.Mathlib.Decide.{decLt}
 use lib.ListN.{length, getD, List·getD-append}
 use lib.Seq.{getD-append-seam, ext-getD}
@@ -16,10 +17,10 @@ use Rattle.draft_image.specs.Strings.{pathOf, byPath, sortBy}
 use Rattle.draft_image.specs.Ready.{OldsAt}
 use Rattle.draft.specs.Draft.{placed, pathsRule}
 use Rattle.tree.proofs.Members.{All, all-join, length-join}
-use Rattle.write_sorting.specs.Sorted.{insert, isort, byKey, Rises, Unlike, Twice}
+use Rattle.write_sorting.specs.Sorted.{upFrom, insert, isort, byKey, Rises, Unlike, Twice}
+use Rattle.write_sorting.proofs.NumberedWords.{upFrom-length, upFrom-at, upFrom-append}
 use Rattle.write_sorting.proofs.KeyOrder.{rises-unlike, level-twice, isort-sortBy}
 use Rattle.write_paths.specs.Listed.{tagAt, containersIn, containers, Renumbers}
-use Rattle.write_paths.specs.Arranged.{names}
 use Rattle.write_paths.proofs.Rule.{twice, once}
 
 -- ---- the list in words
@@ -108,28 +109,32 @@ join-at (suc n) g i h = go (decLt i n) (join-at n g i)
         let e : i ≡ n = omega arith in
         ap (λ (k : ℕ). getD (before-last ++ (g n ∷ [])) k 0) (e ∙ sym (length-join n g)) ∙ getD-append-seam before-last (g n) [] 0 ∙ ap g (sym e)
 
-names-at : (n i : ℕ) → i < n → getD (names n) i 0 ≡ i
-unfolding names
-names-at n i h = join-at n (λ j. j) i h
+up-join : (n : ℕ) → joinOf n (λ i. i ∷ []) ≡ upFrom 0 n
+unfolding joinOf upFrom
+up-join zero = refl
+up-join (suc n) =
+    let z : 0 + n ≡ n = omega arith in
+    ap (λ (l : List ℕ). l ++ (n ∷ [])) (up-join n) ∙ sym (ap (upFrom 0) (sym (add-one n)) ∙ upFrom-append 0 n 1 ∙ ap (λ (k : ℕ). upFrom 0 n ++ (k ∷ [])) z)
 
-pub names-length : (n : ℕ) → length (names n) ≡ n
-unfolding names
-names-length n = length-join n (λ i. i)
+names-at : (n i : ℕ) → i < n → getD (upFrom 0 n) i 0 ≡ i
+names-at n i h = let z : 0 + i ≡ i = omega arith in upFrom-at 0 n i h ∙ z
 
-names-through : (n : ℕ) (g : ℕ → ℕ) → map g (names n) ≡ joinOf n (λ i. g i ∷ [])
-unfolding names joinOf
-names-through zero g = refl
-names-through (suc n) g = map-append g (names n) (n ∷ []) ∙ ap (λ (l : List ℕ). l ++ (g n ∷ [])) (names-through n g)
+pub names-length : (n : ℕ) → length (upFrom 0 n) ≡ n
+names-length n = upFrom-length 0 n
 
-names-map : (c : List ℕ) → map (λ a. getD c a 0) (names (length c)) ≡ c
+through : (n : ℕ) (g : ℕ → ℕ) → map g (joinOf n (λ i. i ∷ [])) ≡ joinOf n (λ i. g i ∷ [])
+unfolding joinOf
+through zero g = refl
+through (suc n) g = map-append g (joinOf n (λ i. i ∷ [])) (n ∷ []) ∙ ap (λ (l : List ℕ). l ++ (g n ∷ [])) (through n g)
+
+names-map : (c : List ℕ) → map (λ a. getD c a 0) (upFrom 0 (length c)) ≡ c
 names-map c =
-    names-through (length c) (λ a. getD c a 0)
+    ap (map (λ a. getD c a 0)) (sym (up-join (length c))) ∙ through (length c) (λ a. getD c a 0)
     ∙ ext-getD 0 (joinOf (length c) (λ a. getD c a 0 ∷ [])) c (length-join (length c) (λ a. getD c a 0))
     (λ i h. join-at (length c) (λ a. getD c a 0) i (omega (arith, length-join (length c) (λ a. getD c a 0))))
 
-all-below : (P : ℕ → Type 0) (n : ℕ) → ((i : ℕ) → i < n → P i) → All P (names n)
-unfolding names
-all-below P n h = all-join P n (λ i. i) h
+all-below : (P : ℕ → Type 0) (n : ℕ) → ((i : ℕ) → i < n → P i) → All P (upFrom 0 n)
+all-below P n h = rw (← up-join n) (all-join P n (λ i. i) h)
 
 -- ---- the containers of a draft
 
@@ -143,37 +148,37 @@ module _ (s : Sections) (order : List ℕ) where
 
   -- keys of places that are the paths
   module _ (key : ℕ → List ℕ) (agrees : (a : ℕ) → a < length boxes → key a ≡ placePath a) where
-    same-sort : isort (byKey key) (names (length boxes)) ≡ isort (byKey placePath) (names (length boxes))
-    same-sort = sort-agrees key placePath (names (length boxes)) (all-below (λ a. key a ≡ placePath a) (length boxes) agrees)
+    same-sort : isort (byKey key) (upFrom 0 (length boxes)) ≡ isort (byKey placePath) (upFrom 0 (length boxes))
+    same-sort = sort-agrees key placePath (upFrom 0 (length boxes)) (all-below (λ a. key a ≡ placePath a) (length boxes) agrees)
 
     -- the key of what the list of names has at a place
-    named : (a : ℕ) → a < length boxes → key (getD (names (length boxes)) a 0) ≡ placePath a
+    named : (a : ℕ) → a < length boxes → key (getD (upFrom 0 (length boxes)) a 0) ≡ placePath a
     named a h = ap key (names-at (length boxes) a h) ∙ agrees a h
 
-    pub sorted-below : All (λ a. a < length boxes) (isort (byKey key) (names (length boxes)))
-    sorted-below = all-sorted (λ a. a < length boxes) (byKey key) (names (length boxes)) (all-below (λ a. a < length boxes) (length boxes) (λ i h. h))
+    pub sorted-below : All (λ a. a < length boxes) (isort (byKey key) (upFrom 0 (length boxes)))
+    sorted-below = all-sorted (λ a. a < length boxes) (byKey key) (upFrom 0 (length boxes)) (all-below (λ a. a < length boxes) (length boxes) (λ i h. h))
 
     module _ (r : Renumbers (nodeCount s) order) (all : allOf (nodeCount s) (placed s) ≡ true) where
       -- neighbours rise: rule 22 passes, and the places are in the order of the index
-      module _ (rise : Rises (byKey key) (isort (byKey key) (names (length boxes)))) where
+      module _ (rise : Rises (byKey key) (isort (byKey key) (upFrom 0 (length boxes)))) where
         unlike : (a b : ℕ) → a < b → b < length boxes → placePath a ≡ placePath b → ⊥
         unlike a b l h e =
-            rises-unlike key (names (length boxes)) rise a b l (omega (arith, names-length (length boxes)))
+            rises-unlike key (upFrom 0 (length boxes)) rise a b l (omega (arith, names-length (length boxes)))
             (named a (omega arith) ∙ e ∙ sym (named b h))
 
         pub paths-pass : pathsRule s ≡ 0
         paths-pass = once s order r all unlike
 
-        pub paths-order : map (λ a. getD boxes a 0) (isort (byKey key) (names (length boxes))) ≡ byPath s order
+        pub paths-order : map (λ a. getD boxes a 0) (isort (byKey key) (upFrom 0 (length boxes))) ≡ byPath s order
         unfolding byPath
         paths-order =
-            ap (map (λ a. getD boxes a 0)) same-sort ∙ sort-map (pathOf s order) (λ a. getD boxes a 0) (names (length boxes))
+            ap (map (λ a. getD boxes a 0)) same-sort ∙ sort-map (pathOf s order) (λ a. getD boxes a 0) (upFrom 0 (length boxes))
             ∙ ap (isort (byKey (pathOf s order))) (names-map boxes) ∙ isort-sortBy (pathOf s order) boxes unlike
 
       -- two neighbours do not: it refuses
       pub paths-refuse : (i : ℕ) → suc i < length boxes
-          → byKey key (getD (isort (byKey key) (names (length boxes))) i 0) (getD (isort (byKey key) (names (length boxes))) (suc i) 0) ≡ false → pathsRule s ≡ 22
+          → byKey key (getD (isort (byKey key) (upFrom 0 (length boxes))) i 0) (getD (isort (byKey key) (upFrom 0 (length boxes))) (suc i) 0) ≡ false → pathsRule s ≡ 22
       paths-refuse i h e =
-          let t = level-twice key (names (length boxes)) i (omega (arith, names-length (length boxes))) e in
+          let t = level-twice key (upFrom 0 (length boxes)) i (omega (arith, names-length (length boxes))) e in
           let k : t .second < length boxes = omega (arith, t .within, names-length (length boxes)) in
           twice s order r (t .first) (t .second) (t .later) k (sym (named (t .first) (omega (arith, t .later))) ∙ t .alike ∙ named (t .second) k)

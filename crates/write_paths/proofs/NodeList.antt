@@ -5,14 +5,14 @@ use mathlib.Core.List.{List, [], _∷_}
 use mathlib.Core.Bool.{Bool, true, false, false≢true}
 use native.Mathlib.Omega.{arith}
 use lib.ListN.{length, getD, take, drop, length-take}
-use lib.Seq.{sets, sets-eq, getD-take, getD-drop, drop-drop, take-at, ext-getD, length-sets}
+use lib.Seq.{sets, getD-take, getD-drop, drop-drop, take-at, ext-getD, length-sets}
 use Rattle.laws.specs.Counted.{joinOf, allOf}
 use Rattle.texts.specs.Text.{before, rising}
 use Rattle.tree.proofs.Members.{length-join, all-of, all-so, all-ext}
-use Rattle.write_sorting.specs.Sorted.{isort, byKey}
+use Rattle.write_sorting.specs.Sorted.{upFrom, isort, byKey, part}
 use Rattle.write_text_keys.specs.declared.Tables.{Tables}
 use Rattle.write_text_keys.specs.Keys.{keyOf, keyIn}
-use Rattle.write_paths.specs.Arranged.{names, sortedNames, Arranged}
+use Rattle.write_paths.specs.Arranged.{sortedNames, Arranged}
 use Rattle.write_paths.proofs.WordLoop.{sets-past, sets-before, sets-at, sets-drop}
 use Rattle.write_paths.proofs.ContainerOrder.{join-at}
 
@@ -45,18 +45,12 @@ rises-at key w (suc i) x y b h p q e =
 
 module _ (w₀ : List ℕ) (found at list : ℕ) (room : found + found ≤ at) (after : at ≤ list) (fits : list + found ≤ length w₀) where
   -- the first words are numbered
-  module _ (w₁ : List ℕ) (numbered : w₁ ≡ sets w₀ 0 (joinOf found (λ i. i ∷ []))) where
-    pub numbered-front : take found w₁ ≡ names found
-    unfolding names
-    numbered-front =
-        ap (take found) numbered ∙ ap (take found) (sets-eq (joinOf found (λ i. i ∷ [])) w₀ 0 (omega (arith, length-join found (λ i. i))))
-        ∙ take-at (joinOf found (λ i. i ∷ [])) _ found (length-join found (λ i. i))
+  module _ (w₁ : List ℕ) (numbered : part 0 found w₁ ≡ upFrom 0 (found - 0)) (rest : drop found w₁ ≡ drop found w₀) where
+    pub numbered-front : take found w₁ ≡ upFrom 0 found
+    numbered-front = let e : found - 0 ≡ found = omega arith in ap (λ (k : ℕ). take k w₁) (sym e) ∙ numbered ∙ ap (upFrom 0) e
 
     pub numbered-behind : drop at w₁ ≡ drop at w₀
-    numbered-behind = ap (drop at) numbered ∙ sets-drop (joinOf found (λ i. i ∷ [])) w₀ 0 at (omega (arith, length-join found (λ i. i)))
-
-    pub numbered-long : length w₁ ≡ length w₀
-    numbered-long = ap {B = ℕ} length numbered ∙ length-sets w₀ 0 (joinOf found (λ i. i ∷ []))
+    numbered-behind = drop-later found at w₁ w₀ (omega arith) rest
 
   -- they are sorted, which leaves what is behind
   module _ (w₂ sorted : List ℕ) (front : take found w₂ ≡ sorted) (behind : drop at w₂ ≡ drop at w₀) (long : length w₂ ≡ length w₀) where
@@ -94,7 +88,7 @@ module _ (w₀ : List ℕ) (found at list : ℕ) (room : found + found ≤ at) (
 -- ---- the whole sort
 
 module _ (v : ℕ) (nodes strings : List ℕ) (t : Tables) (w₀ w₁ w₂ : List ℕ) (found : ℕ) (room : found + found ≤ t .at)
-    (fits : t .at + t .paths + found ≤ length w₀) (numbered : w₁ ≡ sets w₀ 0 (joinOf found (λ i. i ∷ [])))
+    (fits : t .at + t .paths + found ≤ length w₀) (numbered : part 0 found w₁ ≡ upFrom 0 (found - 0)) (rest : drop found w₁ ≡ drop found w₀)
     (front : take found w₂ ≡ isort (byKey (keyIn v nodes strings t w₁)) (take found w₁)) (behind : drop (t .at) w₂ ≡ drop (t .at) w₁)
     (long : length w₂ ≡ length w₀) where
   abbrev key : ℕ → List ℕ
@@ -104,12 +98,12 @@ module _ (v : ℕ) (nodes strings : List ℕ) (t : Tables) (w₀ w₁ w₂ : Lis
   list = t .at + t .paths
 
   behind₁ : drop (t .at) w₁ ≡ drop (t .at) w₀
-  behind₁ = numbered-behind w₀ found (t .at) list room (omega arith) fits w₁ numbered
+  behind₁ = numbered-behind w₀ found (t .at) list room (omega arith) fits w₁ numbered rest
 
   front₂ : take found w₂ ≡ sortedNames key found
   front₂ =
       front ∙ ap (λ (tab : List ℕ). isort (byKey (keyOf v nodes strings (t .texts) (t .paths) (t .lengths) tab)) (take found w₁)) behind₁
-      ∙ ap (isort (byKey key)) (numbered-front w₀ found (t .at) list room (omega arith) fits w₁ numbered)
+      ∙ ap (isort (byKey key)) (numbered-front w₀ found (t .at) list room (omega arith) fits w₁ numbered rest)
 
   rising₂ : (i : ℕ) → i < found → rising (λ j. keyIn v nodes strings t w₂ (getD w₂ j 0)) i ≡ rising (λ j. key (getD (sortedNames key found) j 0)) i
   rising₂ zero h = refl

@@ -16,7 +16,7 @@ use Rattle.draft.specs.Numbering.{oldOf}
 use Rattle.draft_image.specs.Strings.{pathOf, byPath}
 use Rattle.draft_image.specs.Ready.{OldsAt}
 use Rattle.tree.proofs.Members.{All, all-of, all-append, all-map}
-use Rattle.write_sorting.specs.Sorted.{isort, byKey, Rises}
+use Rattle.write_sorting.specs.Sorted.{upFrom, isort, byKey, Rises}
 use Rattle.write_sorting.proofs.ListProperties.{length-isort}
 use Rattle.write_text_keys.specs.declared.Tables.{Tables}
 use Rattle.write_text_keys.specs.Keys.{keyOf, keyIn, nodeOf, longOf, lengthFrom}
@@ -24,7 +24,7 @@ use Rattle.write_text_keys.proofs.CanonicalPaths.{path-long, key-path, every-co
 use Rattle.write_paths.specs.declared.Indexed.{Indexed}
 use Rattle.write_paths.specs.declared.Indexed.the-variants.{Paths, Refused}
 use Rattle.write_paths.specs.Listed.{tagAt, containersIn, containers, Renumbers}
-use Rattle.write_paths.specs.Arranged.{names, Measured, sortedNames, Arranged, Rooted, indexedOf, Indexes}
+use Rattle.write_paths.specs.Arranged.{Measured, sortedNames, Arranged, Rooted, indexedOf, Indexes}
 use Rattle.write_paths.proofs.Rule.{all-not, those-at, unplaced}
 use Rattle.write_paths.proofs.WordLoop.{sets-at, sets-drop}
 use Rattle.write_paths.proofs.ContainerOrder.{listed, names-length, sorted-below, paths-pass, paths-order, paths-refuse}
@@ -190,7 +190,7 @@ module _ (s : Sections) (olds : List ℕ) (v : ℕ) (nodes strings : List ℕ) (
         rise i h =
             all-of (length boxes) (rising (λ j. key (getD (sortedNames key (length boxes)) j 0)))
             (ap (λ (n : ℕ). allOf n (rising (λ j. key (getD (sortedNames key n) j 0)))) (sym found-all) ∙ sym tests ∙ yes′) (suc i)
-            (omega (arith, length-isort (byKey key) (names (length boxes)), names-length (length boxes)))
+            (omega (arith, length-isort (byKey key) (upFrom 0 (length boxes)), names-length (length boxes)))
 
         passes : pathsRule s ≡ 0
         passes = paths-pass s olds key key-at (rooted .numbers) all-placed rise
@@ -200,18 +200,18 @@ module _ (s : Sections) (olds : List ℕ) (v : ℕ) (nodes strings : List ℕ) (
 
         as-many : found ≡ length (byPath s olds)
         as-many =
-            found-all ∙ sym (names-length (length boxes)) ∙ sym (length-isort (byKey key) (names (length boxes)))
+            found-all ∙ sym (names-length (length boxes)) ∙ sym (length-isort (byKey key) (upFrom 0 (length boxes)))
             ∙ sym (length-map (sortedNames key (length boxes)) (λ a. getD boxes a 0)) ∙ ap {B = ℕ} length in-order
 
         place-below : (k : ℕ) → k < found → getD (sortedNames key (length boxes)) k 0 < length boxes
         place-below k h =
             all-place (λ a. a < length boxes) (sortedNames key (length boxes)) k (sorted-below s olds key key-at)
-            (omega (arith, found-all, length-isort (byKey key) (names (length boxes)), names-length (length boxes)))
+            (omega (arith, found-all, length-isort (byKey key) (upFrom 0 (length boxes)), names-length (length boxes)))
 
         box-order : (k : ℕ) → k < found → box (getD (sortedNames key (length boxes)) k 0) ≡ oldOf olds (getD (byPath s olds) k 0)
         box-order k h =
             ap (oldOf olds)
-            (sym (map-at (λ a. getD boxes a 0) (sortedNames key (length boxes)) k (omega (arith, found-all, length-isort (byKey key) (names (length boxes)), names-length (length boxes))))
+            (sym (map-at (λ a. getD boxes a 0) (sortedNames key (length boxes)) k (omega (arith, found-all, length-isort (byKey key) (upFrom 0 (length boxes)), names-length (length boxes))))
             ∙ ap (λ (l : List ℕ). getD l k 0) in-order)
 
         list-order : (k : ℕ) → k < found → getD w₃ (list + k) 0 ≡ oldOf olds (getD (byPath s olds) k 0)

@@ -1,11 +1,11 @@
 -- The list of containers measured and sorted by path, as the code leaves it in the work words; what the caller knows and learns.
 use Prim.Native.Nat.{ℕ, _+_, _*_, _^_, _%_, _≤_, _<_}
 use mathlib.Core.Path.{_≡_}
-use mathlib.Core.List.{List, [], _∷_}
+use mathlib.Core.List.{List}
 use mathlib.Core.Bool.{Bool, true, cond}
 use lib.ListN.{length, getD, take, drop}
 use lib.Dec.{eqb}
-use Rattle.laws.specs.Counted.{joinOf, allOf}
+use Rattle.laws.specs.Counted.{allOf}
 use Rattle.words.specs.Words.{NONE}
 use Rattle.texts.specs.Text.{rising}
 use Rattle.image.specs.Sections.{Sections, nodeWords, nodeCount, f, isContainer, goodOptional}
@@ -15,16 +15,12 @@ use Rattle.draft.specs.Draft.{pathsRule}
 use Rattle.draft.specs.Numbering.{oldOf}
 use Rattle.draft_image.specs.Strings.{byPath, pathOf}
 use Rattle.draft_image.specs.Ready.{OldsAt}
-use Rattle.write_sorting.specs.Sorted.{isort, byKey}
+use Rattle.write_sorting.specs.Sorted.{upFrom, isort, byKey}
 use Rattle.write_text_keys.specs.Keys.{longOf}
 use Rattle.write_text_keys.specs.declared.Tables.{Tables}
 use Rattle.write_paths.specs.declared.Indexed.{Indexed}
 use Rattle.write_paths.specs.declared.Indexed.the-variants.{Paths, Refused}
 use Rattle.write_paths.specs.Listed.{Renumbers}
-
--- the numbers below n: places of a list
-unfoldable pub names : ℕ → List ℕ
-names n = joinOf n (λ i. i ∷ [])
 
 -- ---- measuring
 
@@ -40,7 +36,7 @@ pub record Measured (w₀ : List ℕ) (list found table count : ℕ) (size : ℕ
 
 -- the places of a list in the order of their keys
 abbrev pub sortedNames : (ℕ → List ℕ) → ℕ → List ℕ
-sortedNames key n = isort (byKey key) (names n)
+sortedNames key n = isort (byKey key) (upFrom 0 n)
 
 -- the list is put in that order, if no two keys are one
 pub record Arranged (key : ℕ → List ℕ) (w₀ : List ℕ) (list found : ℕ) (w : List ℕ) (r : Bool) : Type 0 where

@@ -86,20 +86,6 @@ fn list_containers(
     found
 }
 
-// Writes the numbers below the count into the first words.
-fn count_up(w: &mut [u32], count: usize)
-    requires { ⌜ (count ≤ length (now w)) × (count ≤ 4294967295) ⌝ }
-    ensures { λ _. ⌜ now (w .exit) ≡ sets (now (w .entry)) 0 (joinOf count (λ i. i ∷ [])) ⌝ }
-{
-    let mut i = 0;
-    let mut number = 0u32;
-    while i < count {
-        w[i] = number;
-        number += 1;
-        i += 1;
-    }
-}
-
 // Puts behind the first `count` words, for each, the word of the list at `list` that it names.
 fn gather(w: &mut [u32], count: usize, list: usize)
     requires { ⌜ (count + count ≤ list) × (list ≤ length (now w)) ⌝ }
@@ -183,7 +169,7 @@ fn sort_list(
     ensures { λ r. ⌜ (let key = keyIn (source .version) (now (nodes .entry)) (now (strings .entry)) t (now (w .entry)) in
         Arranged key (now (w .entry)) (t .at + t .paths) found (now (w .exit)) r) ⌝ }
 {
-    count_up(w, found);
+    write_sorting::number(w, 0, found);
     write_sorting::sort(nodes, strings, w, t, found, source);
     if !rises(nodes, strings, w, t, found, source) {
         return false;

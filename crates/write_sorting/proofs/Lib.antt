@@ -3,3 +3,4 @@ pub mod ListProperties
 pub mod OrderedLists
 pub mod KeyOrder
 pub mod MergeInPlace
+pub mod NumberedWords

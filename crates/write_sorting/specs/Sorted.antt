@@ -1,11 +1,16 @@
 -- Sorting a list of numbers by a test `lt a b`, that a's key comes before b's. `isort` is the meaning of a sort: by insertion, and stable. `merge` is what a merge of two lists gives, the left first where keys are equal.
-use Prim.Native.Nat.{ℕ, suc, _+_, _-_, _<_}
+use Prim.Native.Nat.{ℕ, zero, suc, _+_, _-_, _<_}
 use mathlib.Core.Path.{_≡_}
 use mathlib.Core.List.{List, [], _∷_}
 use mathlib.Core.Bool.{Bool, true, false, cond}
 use lib.Dec.{ltb}
 use lib.ListN.{length, getD, take, drop}
 use Rattle.texts.specs.Text.{before}
+
+-- the numbers from k on, n of them
+unfoldable pub upFrom : ℕ → ℕ → List ℕ
+upFrom k zero = []
+upFrom k (suc n) = k ∷ upFrom (suc k) n
 
 -- numbers by their keys
 abbrev pub byKey : (ℕ → List ℕ) → ℕ → ℕ → Bool

@@ -1,13 +1,26 @@
 // A stable merge sort of uses by their texts, in one lent slice: the first words are sorted, those after them are worked in, and the tables
 // by which texts are compared lie behind both.
 ghost use mathlib.Core.Path.{_≡_};
-ghost use Prim.Native.Nat.{_≤_, _<_, _+_};
+ghost use Prim.Native.Nat.{_≤_, _<_, _+_, _-_, _^_};
 ghost use lib.ListN.{length, take, drop};
 ghost use lib.Seq.{paste};
 ghost use Rattle.write_text_keys.specs.Keys.{keyIn, Placed};
-ghost use Rattle.write_sorting.specs.Sorted.{byKey, isort, merge, takesRight, part, Ordered};
+ghost use Rattle.write_sorting.specs.Sorted.{byKey, isort, merge, takesRight, part, Ordered, upFrom};
 use draft::source::Source;
 use write_text_keys::Tables;
+
+// Writes the numbers from `from` up to `to` into the words that they number.
+pub fn number(w: &mut [u32], from: usize, to: usize)
+    requires { ⌜ (from ≤ to) × (to ≤ length (now w)) × (to < 2 ^ 32) ⌝ }
+    ensures { λ _. ⌜ (take from (now (w .exit)) ≡ take from (now (w .entry))) × (part from to (now (w .exit)) ≡ upFrom from (to - from))
+        × (drop to (now (w .exit)) ≡ drop to (now (w .entry))) ⌝ }
+{
+    let mut i = from;
+    while i < to {
+        w[i] = i as u32;
+        i += 1;
+    }
+}
 
 // Whether a merge of the words from n + i on and those from j up to n goes on with the latter.
 fn takes_right(

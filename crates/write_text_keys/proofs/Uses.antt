@@ -9,10 +9,11 @@ use lib.ListN.{length, getD, take, drop, length-take, length-drop}
 use lib.Seq.{take-all, getD-drop}
 use borrow.Author.Tests.{lt-ltb, le-ltb, le-leb, leb-true, eqb-true}
 use Rattle.texts.specs.Text.{before}
+use Rattle.texts.proofs.Text.{before-self}
 use Rattle.image.specs.Sections.{partAt, textOrEmpty}
 use Rattle.image.proofs.Tests.{both-true}
 use Rattle.write_text_keys.specs.declared.Cursor.{Cursor}
-use Rattle.write_text_keys.specs.Keys.{atEnd, lastByte, stepBack, readBack, back, decided, alike, nodeOf, longOf, keyOf, keyLength, endOf}
+use Rattle.write_text_keys.specs.Keys.{textIn, onePart, atEnd, lastByte, stepBack, readBack, back, decided, alike, nodeOf, longOf, keyOf, keyLength, endOf}
 use Rattle.write_text_keys.proofs.Comparison.{decided-last, decided-self, before-shorter, before-longer}
 use Rattle.write_text_keys.proofs.BackwardReads.{read-length, read-front, read-one, read-alike, piece-read}
 
@@ -21,6 +22,15 @@ pub tail-part : (at : ℕ) (w : List ℕ) → take (length w - at) (drop at w) �
 tail-part at w = take-all (length w - at) (drop at w) (omega (arith, length-drop at w))
 
 -- ---- texts
+
+-- one part is one text
+pub part-self : (strings tab : List ℕ) (a b : ℕ) → onePart tab a b ≡ true → false ≡ before (textIn strings tab a) (textIn strings tab b)
+part-self strings tab a b e =
+    let p = both-true (eqb (getD tab (a + a) 0) (getD tab (b + b) 0)) _ e in
+    let at : getD tab (a + a) 0 ≡ getD tab (b + b) 0 = eqb-true _ _ (p .0) in
+    let len : getD tab (a + a + 1) 0 ≡ getD tab (b + b + 1) 0 = eqb-true _ _ (p .1) in
+    let one : textIn strings tab a ≡ textIn strings tab b = λ t. textOrEmpty strings (at t) (len t) in
+    sym (ap (λ (x : List ℕ). before x (textIn strings tab b)) one ∙ before-self (textIn strings tab b))
 
 module _ (v : ℕ) (nodes strings : List ℕ) where
   -- a name, read from its end

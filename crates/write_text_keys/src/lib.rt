@@ -9,7 +9,7 @@ ghost use lib.ListN.{length, getD, drop};
 ghost use Rattle.texts.specs.Text.{before};
 ghost use Rattle.texts.specs.Decimal.{decimal};
 ghost use Rattle.write_text_keys.specs.Keys.{pieceLength, atEnd, lastByte, stepBack, readBack, back, decided, alike, nodeOf};
-ghost use Rattle.write_text_keys.specs.Keys.{longOf, keyOf, keyLength, endOf, keyIn, textIn, Placed, lengthFrom};
+ghost use Rattle.write_text_keys.specs.Keys.{longOf, keyOf, keyLength, endOf, keyIn, textIn, onePart, Placed, lengthFrom};
 use draft::source;
 use draft::source::Source;
 use image::order::comes_before;
@@ -254,10 +254,25 @@ fn end_of(nodes: &[u32], tab: &[u32], t: Tables, a: u32, source: Source) -> Curs
     at_end(nodes, node_of(tab, t, a), source)
 }
 
-// Whether the text of text use `a` comes before that of text use `b`.
+// Whether two text uses are one part of the strings.
+fn one_part(tab: &[u32], a: u32, b: u32) -> bool
+    ensures { λ r. ⌜ r ≡ onePart (now (tab .entry)) a b ⌝ }
+{
+    let i = a as usize + a as usize;
+    let j = b as usize + b as usize;
+    if source::word(tab, i) != source::word(tab, j) {
+        return false;
+    }
+    source::word(tab, i + 1) == source::word(tab, j + 1)
+}
+
+// Whether the text of text use `a` comes before that of text use `b`. One part of the strings is not read.
 fn texts_below(strings: &[u8], tab: &[u32], a: u32, b: u32) -> bool
     ensures { λ r. ⌜ (let text = textIn (now (strings .entry)) (now (tab .entry)) in r ≡ before (text a) (text b)) ⌝ }
 {
+    if one_part(tab, a, b) {
+        return false;
+    }
     comes_before(text_of(strings, tab, a), text_of(strings, tab, b))
 }
 

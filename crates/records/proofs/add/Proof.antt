@@ -1,6 +1,6 @@
 -- `records::add` meets its contract.
 use borrow.Author.Needs.{needs}
-use Rattle.records.proofs.PassedRules.{sums-container, sums-list, sums-other}
+use Rattle.records.proofs.ByKind.{after-container, after-list, after-other}
 use Rattle.records.proofs.add.Statement.{statement}
 use Rattle.records.proofs.add.Tie as tie
 
@@ -35,13 +35,13 @@ add-t14 : tie.Need-add-t14
 add-t14 c = search needs
 
 returns : tie.Need-returns
-returns c = λ s i q h p. sums-container s i _ _ q h (search needs) p
+returns c = after-container _ _ (search needs)
 
 returns-2 : tie.Need-returns-2
-returns-2 c = λ s i q h p. sums-list s i _ _ q h (search needs) p
+returns-2 c = after-list _ _ (search needs)
 
 returns-3 : tie.Need-returns-3
-returns-3 c = λ s i q h p. sums-other s i _ _ q h (c .match .rest .0 .1) (c .match .rest .1)
+returns-3 c = after-other _ _ (c .match .rest .0 .1) (c .match .rest .1)
 
 pub add-spec : {M : Type 1} → statement M
 add-spec =

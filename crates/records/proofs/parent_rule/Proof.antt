@@ -5,22 +5,22 @@ use Rattle.records.proofs.parent_rule.Statement.{statement}
 use Rattle.records.proofs.parent_rule.Tie as tie
 
 returns : tie.Need-returns
-returns c = λ s h. parent-of-root s _ _ _ _ h (search needs)
+returns c = parent-of-root _ _ _ _ (search needs)
 
 is-container-requires : tie.Need-is-container-requires
 is-container-requires c κs = search needs
 
 returns-2 : tie.Need-returns-2
-returns-2 c = λ s h. parent-missing s _ _ _ _ h (search needs) _ (c .before .is-container .ensures) (c .if2 .taken)
+returns-2 c = parent-missing _ _ _ _ (search needs) _ (c .before .is-container .ensures) (c .if2 .taken)
 
 cast-if3 : tie.Need-cast-if3
 cast-if3 c = search needs
 
 returns-3 : tie.Need-returns-3
-returns-3 c = λ s h. parent-self s _ _ _ _ h (search needs) _ (c .before .before .before .is-container .ensures) (c .before .before .if2 .left) (c .if3 .taken)
+returns-3 c = parent-self _ _ _ _ (search needs) _ (c .before .before .before .is-container .ensures) (c .before .before .if2 .left) (c .if3 .taken)
 
 returns-4 : tie.Need-returns-4
-returns-4 c = λ s h. parent-right s _ _ _ _ h (search needs) _ (c .before .before .before .is-container .ensures) (c .before .before .if2 .left) (c .if3 .left)
+returns-4 c = parent-right _ _ _ _ (search needs) _ (c .before .before .before .is-container .ensures) (c .before .before .if2 .left) (c .if3 .left)
 
 pub parent-rule-spec : {M : Type 1} → statement M
 parent-rule-spec =

@@ -5,13 +5,13 @@ use Rattle.records.proofs.root_right.Statement.{statement}
 use Rattle.records.proofs.root_right.Tie as tie
 
 returns : tie.Need-returns
-returns c = λ s h. root-parent s _ h (search needs)
+returns c = root-parent _ (search needs)
 
 returns-2 : tie.Need-returns-2
-returns-2 c = λ s h. root-place s _ h (search needs) (search needs)
+returns-2 c = root-place _ (search needs) (search needs)
 
 returns-3 : tie.Need-returns-3
-returns-3 c = λ s h. root-tag s _ h (search needs) (search needs)
+returns-3 c = root-tag _ (search needs) (search needs)
 
 pub root-right-spec : {M : Type 1} → statement M
 root-right-spec = tie.close (tie.spec returns returns-2 returns-3)

@@ -4,8 +4,8 @@ use mathlib.Core.List.{List}
 use native.Mathlib.Omega.{arith}
 use lib.ListN.{length}
 use Rattle.write_text_keys.specs.Keys.{keyOf}
-use Rattle.write_sorting.specs.Sorted.{byKey, isort}
-use Rattle.write_interning.specs.Uses.{storedOf, joined, answerOf, Offsets, Firsts, upFrom}
+use Rattle.write_sorting.specs.Sorted.{upFrom, byKey, isort}
+use Rattle.write_interning.specs.Uses.{storedOf, joined, answerOf, Offsets, Firsts}
 use borrow.Author.Needs.{needs}
 use Rattle.write_interning.proofs.intern.Statement.{statement}
 use Rattle.write_interning.proofs.intern.Tie as tie

@@ -5,8 +5,8 @@ use borrow.Author.Needs.{needs}
 use Rattle.write_paths.proofs.sort_list.Statement.{statement}
 use Rattle.write_paths.proofs.sort_list.Tie as tie
 
-count-up-requires : tie.Need-count-up-requires
-count-up-requires c κs = search needs
+number-requires : tie.Need-number-requires
+number-requires c κs = search needs
 
 sort-requires : tie.Need-sort-requires
 sort-requires c κs = search needs
@@ -20,9 +20,9 @@ same-length c = search needs
 returns : tie.Need-returns
 returns c =
     let to = c .before .before .before .before .before .before .before .before .before .before .before .before .before .before in
-    let counted = c .before .before .before .before .before .before .before .before .before .count-up .ensures in
+    let counted = c .before .before .before .before .before .before .before .before .before .number .ensures in
     let sorted = c .before .before .before .before .before .sort .ensures in
-    arranged-not _ _ _ _ _ _ _ _ (to .pre .0) (to .pre .1) counted (sorted .0) (sorted .1) (search needs) _ (c .before .rises .ensures) (not-true _ (c .if1 .taken))
+    arranged-not _ _ _ _ _ _ _ _ (to .pre .0) (to .pre .1) (counted .1) (counted .2) (sorted .0) (sorted .1) (search needs) _ (c .before .rises .ensures) (not-true _ (c .if1 .taken))
 
 add-list : tie.Need-add-list
 add-list c = search needs
@@ -39,18 +39,18 @@ same-length-2 c = search needs
 returns-2 : tie.Need-returns-2
 returns-2 c =
     let to = c .before .before .before .before .before .before .before .before .before .before .before .before .before .before .before .before .before .before .before .before .before .before .before in
-    let counted = c .before .before .before .before .before .before .before .before .before .before .before .before .before .before .before .before .before .before .count-up .ensures in
+    let counted = c .before .before .before .before .before .before .before .before .before .before .before .before .before .before .before .before .before .before .number .ensures in
     let sorted = c .before .before .before .before .before .before .before .before .before .before .before .before .before .before .sort .ensures in
     let rising = c .before .before .before .before .before .before .before .before .before .before .rises .ensures in
     let yes = not-false _ (c .before .before .before .before .before .before .before .before .before .if1 .left) in
-    arranged _ _ _ _ _ _ _ _ (to .pre .0) (to .pre .1) counted (sorted .0) (sorted .1) (search needs) _ rising yes _ _
+    arranged _ _ _ _ _ _ _ _ (to .pre .0) (to .pre .1) (counted .1) (counted .2) (sorted .0) (sorted .1) (search needs) _ rising yes _ _
     (c .before .before .before .before .before .before .gather .ensures) (c .before .before .settle .ensures)
 
 pub sort-list-spec : {M : Type 1} → statement M
 sort-list-spec =
     tie.close
     (tie.spec
-    count-up-requires
+    number-requires
     sort-requires
     rises-requires
     same-length

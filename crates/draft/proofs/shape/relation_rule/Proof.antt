@@ -1,6 +1,8 @@
 -- `draft::shape::relation_rule` meets its contract.
 use mathlib.Core.List.{[]}
+use mathlib.Core.Path.{_∙_}
 use borrow.Author.Needs.{needs}
+use Rattle.records.proofs.ByKind.{shown-parent}
 use Rattle.draft.proofs.NodeTable.{node-is}
 use Rattle.draft.proofs.Relations.{parent-told, wrong-parent, plain-node, children-range, named-range, wrong-children, right-node, wrong-named}
 use Rattle.draft.proofs.shape.relation_rule.Statement.{statement}
@@ -24,7 +26,7 @@ returns c =
     let to = parent .before .before .before .before .before .before .before .before in
     let node = node-is _ (to .args .nodes .now) (to .args .children .now) (to .args .named .now) [] [] [] (to .args .strings .now) _ _ (parent .before .before .node-at .ensures) in
     let shows = parent-told _ _ _ _ (to .pre .0) _ (to .pre .1) _ node _ _ (parent .before .before .before .node-count .ensures) (parent .before .tag-at .ensures) in
-    wrong-parent _ _ _ _ (to .pre .0) _ (to .pre .1) _ node _ (parent .parent-rule .ensures _ shows) (c .if1 .taken)
+    wrong-parent _ _ _ _ (to .pre .0) _ (to .pre .1) _ node _ (parent .parent-rule .ensures ∙ shown-parent _ _ _ _ _ shows) (c .if1 .taken)
 
 returns-2 : tie.Need-returns-2
 returns-2 c =
@@ -32,7 +34,7 @@ returns-2 c =
     let to = parent .before .before .before .before .before .before .before .before in
     let node = node-is _ (to .args .nodes .now) (to .args .children .now) (to .args .named .now) [] [] [] (to .args .strings .now) _ _ (parent .before .before .node-at .ensures) in
     let shows = parent-told _ _ _ _ (to .pre .0) _ (to .pre .1) _ node _ _ (parent .before .before .before .node-count .ensures) (parent .before .tag-at .ensures) in
-    plain-node _ _ _ _ (to .pre .0) _ (to .pre .1) _ node _ (parent .parent-rule .ensures _ shows) (c .before .before .if1 .left) (c .if2 .taken)
+    plain-node _ _ _ _ (to .pre .0) _ (to .pre .1) _ node _ (parent .parent-rule .ensures ∙ shown-parent _ _ _ _ _ shows) (c .before .before .if1 .left) (c .if2 .taken)
 
 cast-right-children : tie.Need-cast-right-children
 cast-right-children c = search needs
@@ -53,7 +55,7 @@ returns-3 c =
     let to = parent .before .before .before .before .before .before .before .before in
     let node = node-is _ (to .args .nodes .now) (to .args .children .now) (to .args .named .now) [] [] [] (to .args .strings .now) _ _ (parent .before .before .node-at .ensures) in
     let shows = parent-told _ _ _ _ (to .pre .0) _ (to .pre .1) _ node _ _ (parent .before .before .before .node-count .ensures) (parent .before .tag-at .ensures) in
-    wrong-children _ _ _ _ (to .pre .0) _ (to .pre .1) _ node _ (parent .parent-rule .ensures _ shows)
+    wrong-children _ _ _ _ (to .pre .0) _ (to .pre .1) _ node _ (parent .parent-rule .ensures ∙ shown-parent _ _ _ _ _ shows)
     (c .before .before .before .before .before .before .if1 .left) (c .before .before .before .before .if2 .left) _ (c .before .right-children .ensures) (c .if3 .taken)
 
 cast-right-entries : tie.Need-cast-right-entries
@@ -75,7 +77,7 @@ returns-4 c =
     let to = parent .before .before .before .before .before .before .before .before in
     let node = node-is _ (to .args .nodes .now) (to .args .children .now) (to .args .named .now) [] [] [] (to .args .strings .now) _ _ (parent .before .before .node-at .ensures) in
     let shows = parent-told _ _ _ _ (to .pre .0) _ (to .pre .1) _ node _ _ (parent .before .before .before .node-count .ensures) (parent .before .tag-at .ensures) in
-    right-node _ _ _ _ (to .pre .0) _ (to .pre .1) _ node _ (parent .parent-rule .ensures _ shows)
+    right-node _ _ _ _ (to .pre .0) _ (to .pre .1) _ node _ (parent .parent-rule .ensures ∙ shown-parent _ _ _ _ _ shows)
     (c .before .before .before .before .before .before .before .before .before .before .if1 .left) (c .before .before .before .before .before .before .before .before .if2 .left) _ (c .before .before .before .before .before .right-children .ensures) (c .before .before .before .before .if3 .left) _ (c .before .right-entries .ensures) (c .if4 .taken)
 
 returns-5 : tie.Need-returns-5
@@ -84,7 +86,7 @@ returns-5 c =
     let to = parent .before .before .before .before .before .before .before .before in
     let node = node-is _ (to .args .nodes .now) (to .args .children .now) (to .args .named .now) [] [] [] (to .args .strings .now) _ _ (parent .before .before .node-at .ensures) in
     let shows = parent-told _ _ _ _ (to .pre .0) _ (to .pre .1) _ node _ _ (parent .before .before .before .node-count .ensures) (parent .before .tag-at .ensures) in
-    wrong-named _ _ _ _ (to .pre .0) _ (to .pre .1) _ node _ (parent .parent-rule .ensures _ shows)
+    wrong-named _ _ _ _ (to .pre .0) _ (to .pre .1) _ node _ (parent .parent-rule .ensures ∙ shown-parent _ _ _ _ _ shows)
     (c .before .before .before .before .before .before .before .before .before .before .if1 .left) (c .before .before .before .before .before .before .before .before .if2 .left) _ (c .before .before .before .before .before .right-children .ensures) (c .before .before .before .before .if3 .left) _ (c .before .right-entries .ensures) (c .if4 .left)
 
 pub relation-rule-spec : {M : Type 1} → statement M

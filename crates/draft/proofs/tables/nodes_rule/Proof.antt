@@ -5,6 +5,8 @@ use mathlib.Core.Path.{refl, sym, _∙_}
 use mathlib.Core.List.{List, []}
 use native.Mathlib.Omega.{arith}
 use borrow.Author.Needs.{needs}
+use Rattle.records.proofs.ByKind.{shown-used}
+use Rattle.records.proofs.PassedRules.{shown-sums}
 use Rattle.draft.specs.Source.{draftOf}
 use Rattle.draft.proofs.NodeTable.{Passing, passing-start, passing-next, counts-are, given, few, fields-pass, node-is, refused-here, all-summed, all-used, left-over}
 use Rattle.draft.proofs.NodeCount.{below-count, upto-count, past-count}
@@ -56,7 +58,7 @@ loop-again c = (
       let p = loop .loop .inv .1 ds is in
       let node = node-is _ _ _ _ ds is _ _ _ _ (c .before .before .before .node-at .ensures) in
       let passes = sym (c .before .before .node-rule .ensures _ (given _ _ _ _ ds is _ _ _ (loop .before .node-count .ensures)) (p .summed) node) ∙ c .before .if2 .left in
-      passing-next _ _ _ p _ passes (c .add .ensures _ _ (p .summed) node (fields-pass _ _ passes)),
+      passing-next _ _ _ p _ passes (c .add .ensures ∙ shown-sums _ _ _ _ (p .summed) node (fields-pass _ _ passes)),
 )
 
 used-up-requires : tie.Need-used-up-requires Inv-loop μ-loop
@@ -72,7 +74,7 @@ returns-2 c =
     let k = past-count _ _ count _ (c .before .before .if1 .left) in
     let to = loop .before .before .before .before .before .before .before .args in
     let told = counts-are (to .source .version) (to .nodes .now) (to .children .now) (to .named .now) ds is (to .payload .now) (to .strings .now) _ count in
-    let used = c .before .used-up .ensures _ (all-summed _ _ _ p h k) told refl in
+    let used = c .before .used-up .ensures ∙ shown-used _ _ _ _ (all-summed _ _ _ p h k) told refl in
     all-used _ _ _ p h k _ used (c .if3 .taken)
 
 returns-3 : tie.Need-returns-3 Inv-loop μ-loop
@@ -85,7 +87,7 @@ returns-3 c =
     let k = past-count _ _ count _ (c .before .before .if1 .left) in
     let to = loop .before .before .before .before .before .before .before .args in
     let told = counts-are (to .source .version) (to .nodes .now) (to .children .now) (to .named .now) ds is (to .payload .now) (to .strings .now) _ count in
-    let used = c .before .used-up .ensures _ (all-summed _ _ _ p h k) told refl in
+    let used = c .before .used-up .ensures ∙ shown-used _ _ _ _ (all-summed _ _ _ p h k) told refl in
     left-over _ _ _ p h k _ used (c .if3 .left)
 
 pub nodes-rule-spec : {M : Type 1} → statement M

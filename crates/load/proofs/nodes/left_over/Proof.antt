@@ -8,6 +8,7 @@ use denote.Ref.{now}
 use Rattle.image.specs.Header.{sectionsBy}
 use Rattle.image.proofs.Views.{payload-by}
 use Rattle.records.specs.Records.{usedUp}
+use Rattle.records.proofs.ByKind.{shown-used}
 use Rattle.records.specs.declared.Sums.{Sums}
 use Rattle.load.proofs.SectionReads.{index-read}
 use Rattle.load.proofs.Rows.{left-over, none-over, index-over}
@@ -27,7 +28,8 @@ used-up-requires c κs = search needs
 used : (c : tie.After-used-up) → c .used-up .result ≡ usedUp (sectionsBy (now (c .before .before .before .before .args .bytes)) (c .before .before .before .before .args .view))
 used c =
     let at = c .before .before .before .before in
-    c .used-up .ensures _ (at .pre .1) (at .pre .0)
+    c .used-up .ensures
+    ∙ shown-used _ _ _ _ (at .pre .1) (at .pre .0)
     (ap length (c .before .before .section-part .ensures ∙ sym (payload-by (now (at .args .bytes)) (at .args .view))))
 
 returns : tie.Need-returns

@@ -5,33 +5,38 @@ use denote.Ref.{now}
 use Rattle.words.specs.Words.{wordsOf}
 use Rattle.image.specs.Header.{sectionsBy}
 use Rattle.image.proofs.Entries.{node-record}
-use Rattle.image.proofs.Views.{stride-by, nodes-by}
+use Rattle.image.proofs.Views.{version-by, nodes-by}
 use Rattle.records.specs.Records.{rootRight}
 use Rattle.load.proofs.Rows.{root-wrong, short-root, nodes-refused, nodes-passed, passed-sums}
+use native.Mathlib.Omega.{arith}
+use Rattle.records.proofs.ByKind.{shown-root}
 use borrow.Author.Needs.{needs}
 use Rattle.load.proofs.nodes.records_rule.Statement.{statement}
 use Rattle.load.proofs.nodes.records_rule.Tie as tie
 
-section-part-requires : tie.Need-section-part-requires
-section-part-requires c κs = search needs
+nodes-part-requires : tie.Need-nodes-part-requires
+nodes-part-requires c κs = search needs
+
+node-count-requires : tie.Need-node-count-requires
+node-count-requires c κs = search needs
 
 returns : tie.Need-returns
-returns c = root-wrong _ (short-root _ _ _ (c .before .section-part .ensures) (c .if1 .taken))
+returns c = root-wrong _ (short-root _ _ _ _ (c .before .before .nodes-part .ensures) (c .before .node-count .ensures) (c .if1 .taken))
 
 node-record-requires : tie.Need-node-record-requires
-node-record-requires c κs = search needs
+node-record-requires c κs = let some = c .before .node-count .ensures in omega arith
 
 root-right-requires : tie.Need-root-right-requires
 root-right-requires c κs = search needs
 
 -- the answer of `root_right`
 rooted : (c : tie.After-root-right)
-    → c .root-right .result ≡ rootRight (sectionsBy (now (c .before .before .before .before .before .args .bytes)) (c .before .before .before .before .before .args .view))
+    → c .root-right .result ≡ rootRight (sectionsBy (now (c .before .before .before .before .before .before .args .bytes)) (c .before .before .before .before .before .before .args .view))
 rooted c =
-    let at = c .before .before .before .before .before in
-    let ns = c .before .before .before .section-part .ensures in
-    c .root-right .ensures _
-    (c .before .node-record .ensures ∙ node-record _ _ 0 (stride-by (now (at .args .bytes)) (at .args .view))
+    let at = c .before .before .before .before .before .before in
+    let ns = c .before .before .before .before .nodes-part .ensures in
+    c .root-right .ensures
+    ∙ shown-root _ _ (c .before .node-record .ensures ∙ node-record _ _ _ 0 (version-by (now (at .args .bytes)) (at .args .view))
     (nodes-by (now (at .args .bytes)) (at .args .view) ∙ ap wordsOf (sym ns)))
 
 returns-2 : tie.Need-returns-2
@@ -69,7 +74,8 @@ pub records-rule-spec : {M : Type 1} → statement M
 records-rule-spec =
     tie.close
     (tie.spec
-    section-part-requires
+    nodes-part-requires
+    node-count-requires
     returns
     node-record-requires
     root-right-requires

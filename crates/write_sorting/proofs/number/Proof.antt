@@ -1,10 +1,9 @@
+-- `write_sorting::number` meets its contract.
 use Prim.Native.Nat.{_-_}
-use Rattle.write_interning.proofs.Numbers.{Numbering, number-none, number-step, number-done}
+use Rattle.write_sorting.proofs.NumberedWords.{Numbering, number-none, number-step, number-done}
 use borrow.Author.Needs.{needs}
-use Rattle.write_interning.proofs.number.Statement.{statement}
-use Rattle.write_interning.proofs.number.Tie as tie
-use Rattle.write_interning.proofs.number.Reads as reads
-use Rattle.write_interning.proofs.number.Lts as lts
+use Rattle.write_sorting.proofs.number.Statement.{statement}
+use Rattle.write_sorting.proofs.number.Tie as tie
 
 abbrev Inv-loop : tie.InvT-loop
 Inv-loop w₀ from to i₀ w i = Numbering from to w₀ w i
