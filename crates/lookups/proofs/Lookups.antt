@@ -22,9 +22,9 @@ use Rattle.image.specs.declared.NodeRecord.{NodeRecord}
 use Rattle.image.specs.declared.TextEntry.{TextEntry}
 use Rattle.image.specs.declared.Definition.{Definition}
 use Rattle.image.specs.declared.ImageView.{ImageView}
-use Rattle.image.specs.Sections.{Sections, definitionCount, itemCount, definitionWord, itemWord, textOrEmpty}
+use Rattle.image.specs.Sections.{Sections, textEntryWords, definitionWords, textEntrySize, definitionSize, definitionCount, itemCount, definitionWord, itemWord, textOrEmpty}
 use Rattle.image.specs.Entries.{textEntryOf, definitionOf, definitionIn}
-use Rattle.image.specs.Header.{sectionBytes, sectionsIn, sectionsBy}
+use Rattle.image.specs.Header.{sectionBytes, sectionsBy}
 use Rattle.image.proofs.Entries.{definition-entry}
 use Rattle.image.proofs.Views.{named-by, strings-by}
 use Rattle.index.specs.Definitions.{firstItem, numberOfItems}
@@ -38,7 +38,8 @@ use Rattle.views.specs.declared.entries.RecordFound.{RecordFound}
 use Rattle.views.specs.declared.entries.RecordFound.the-variants as node
 use Rattle.views.specs.View.{signed}
 use Rattle.views.specs.Found.{containerFound}
-use Rattle.lookups.specs.Lookup.{placed, entryText, searched, namedBy, findNamed, itemIn, definitionName, placeIn, answers, listItemAt, listItemIn, lastItem, listItem, listParts}
+use Rattle.lookups.specs.Lookup.{placed, entryText, searched, namedBy, findNamed, itemIn, definitionName, placeIn, answers, listItemAt, listItemIn, lastItem, listItem}
+use Rattle.index.specs.Parts.{definitionParts}
 use Rattle.views.proofs.Reading.{triple-count, definition-count, no-container, a-container}
 use Rattle.lookups.proofs.HalvingSearch.{Searching, search-start, search-above, search-below, search-here, search-end, found-there}
 
@@ -106,23 +107,23 @@ place-below words strings from count name j e = found-there (λ k. entryText wor
 -- ---- a named child
 
 module _ (named strings : List ℕ) (from count : ℕ) (name : List ℕ) where
-  pub named-outside : length named / 12 < from + count → found.NotFound ≡ namedBy (wordsOf named) strings from count name
+  pub named-outside : length named / textEntrySize < from + count → found.NotFound ≡ namedBy (wordsOf named) strings from count name
   unfolding namedBy
-  named-outside h = rw (triple-count named, lt-leb (from + count) (length named / 12) h)
+  named-outside h = rw (triple-count named, lt-leb (from + count) (length named / textEntrySize) h)
 
   module _ (p : Place) (e : placed p ≡ searched (wordsOf named) strings from count name) where
     pub named-place : (j : ℕ) → p ≡ place.At j → j < count
     named-place j h = place-below (wordsOf named) strings from count name j (sym e ∙ ap placed h)
 
-    module _ (l : from + count ≤ length named / 12) where
+    module _ (l : from + count ≤ length named / textEntrySize) where
       pub named-nowhere : p ≡ place.Nowhere → found.NotFound ≡ namedBy (wordsOf named) strings from count name
       unfolding namedBy
-      named-nowhere h = rw (triple-count named, le-leb (from + count) (length named / 12) l, ← e, h)
+      named-nowhere h = rw (triple-count named, le-leb (from + count) (length named / textEntrySize) l, ← e, h)
 
-      pub named-at : (j : ℕ) → p ≡ place.At j → (w : ℕ) → w ≡ getD (wordsOf named) ((from + j) * 3 + 2) 0
+      pub named-at : (j : ℕ) → p ≡ place.At j → (w : ℕ) → w ≡ getD (wordsOf named) ((from + j) * textEntryWords + 2) 0
           → found.Node w ≡ namedBy (wordsOf named) strings from count name
       unfolding namedBy
-      named-at j h w q = rw (triple-count named, le-leb (from + count) (length named / 12) l, ← e, h, q)
+      named-at j h w q = rw (triple-count named, le-leb (from + count) (length named / textEntrySize) l, ← e, h, q)
 
 module _ (bs : List ℕ) (v : ImageView) (i : ℕ) (name : List ℕ) (r : RecordFound) (e : r ≡ containerFound (sectionsBy bs v) i) where
   pub find-missing : r ≡ node.NotFound → found.NotFound ≡ findNamed (sectionsBy bs v) i name
@@ -144,33 +145,33 @@ chosen : (b : Bool) (x : Option ℕ) (j : ℕ) → cond b x none ≡ some j → 
 chosen true x j e = (refl, e)
 chosen false x j e = absurd (let z : _≡_ {A = ℕ} 0 1 = cc in omega arith)
 
-pub item-made : (ds is : List ℕ) (d j w v : ℕ) → w ≡ getD (wordsOf ds) (d * 4 + 2) 0 → v ≡ getD (wordsOf is) ((w + j) * 3 + 2) 0
-    → (z : ℤ) → z ≡ signed v → answer.Item (record { definition = d; item = w + j; value = z }) ≡ listItemAt (listParts ds is []) d (some j)
+pub item-made : (ds is : List ℕ) (d j w v : ℕ) → w ≡ getD (wordsOf ds) (d * definitionWords + 2) 0 → v ≡ getD (wordsOf is) ((w + j) * textEntryWords + 2) 0
+    → (z : ℤ) → z ≡ signed v → answer.Item (record { definition = d; item = w + j; value = z }) ≡ listItemAt (definitionParts ds is []) d (some j)
 unfolding definitionWord itemWord
 item-made ds is d j w v p q z r = rw (r, q, p)
 
 -- definitions, items and strings alone answer as a view's sections do
 module _ (bs : List ℕ) (v : ImageView) (given : Bool) (origin name : List ℕ) where
   abbrev lent : Sections
-  lent = listParts (sectionBytes bs (v .definitions) 16) (sectionBytes bs (v .items) 12) (sectionBytes bs (v .strings) 1)
+  lent = definitionParts (sectionBytes bs (v .definitions) definitionSize) (sectionBytes bs (v .items) textEntrySize) (sectionBytes bs (v .strings) 1)
 
   item-by : (d : ℕ) (x : Option ℕ) → listItemAt lent d x ≡ listItemAt (sectionsBy bs v) d x
-  unfolding definitionWord itemWord sectionsIn
+  unfolding definitionWord itemWord sectionsBy
   item-by d none = refl
   item-by d (some j) = refl
 
   definition-by : (x : Option ℕ) → listItemIn lent given origin name x ≡ listItemIn (sectionsBy bs v) given origin name x
-  unfolding placeIn itemIn definitionWord itemWord sectionsIn
+  unfolding placeIn itemIn definitionWord itemWord sectionsBy
   definition-by none = refl
   definition-by (some d) = item-by d (placeIn (sectionsBy bs v) given origin name d)
 
   pub lists-by : lastItem lent given origin name ≡ lastItem (sectionsBy bs v) given origin name
-  unfolding lastItem placeIn itemIn definitionWord itemWord sectionsIn
+  unfolding lastItem placeIn itemIn definitionWord itemWord sectionsBy
   lists-by = definition-by (lastOf (definitionCount (sectionsBy bs v)) (answers (sectionsBy bs v) given origin name))
 
 module _ (ds is ss : List ℕ) where
   abbrev parts : Sections
-  parts = listParts ds is ss
+  parts = definitionParts ds is ss
 
   module _ (given : Bool) (origin name : List ℕ) (d : ℕ) (x : Definition) (e : x ≡ definitionOf (wordsOf ds) d) where
     told : x ≡ definitionIn parts d
@@ -185,21 +186,21 @@ module _ (ds is ss : List ℕ) where
       other-origin n = rw (← origin-told, not-true b n)
 
       module _ (y : not b ≡ false) where
-        pub place-outside : length is / 12 < x .first + x .count → none ≡ placeIn parts given origin name d
+        pub place-outside : length is / textEntrySize < x .first + x .count → none ≡ placeIn parts given origin name d
         unfolding placeIn itemIn
         place-outside l =
-            rw (← origin-told, not-false b y, triple-count is, lt-leb (firstItem parts d + numberOfItems parts d) (length is / 12) (rw told at l))
+            rw (← origin-told, not-false b y, triple-count is, lt-leb (firstItem parts d + numberOfItems parts d) (length is / textEntrySize) (rw told at l))
 
-        pub place-there : x .first + x .count ≤ length is / 12 → (r : Place) → placed r ≡ searched (wordsOf is) ss (x .first) (x .count) name
+        pub place-there : x .first + x .count ≤ length is / textEntrySize → (r : Place) → placed r ≡ searched (wordsOf is) ss (x .first) (x .count) name
             → placed r ≡ placeIn parts given origin name d
         unfolding placeIn itemIn
         place-there l r q =
-            rw (← origin-told, not-false b y, triple-count is, le-leb (firstItem parts d + numberOfItems parts d) (length is / 12) (rw told at l))
+            rw (← origin-told, not-false b y, triple-count is, le-leb (firstItem parts d + numberOfItems parts d) (length is / textEntrySize) (rw told at l))
             (q ∙ λ j. searched (wordsOf is) ss (told j .first) (told j .count) name)
 
   -- an item that is found is one of the section
   item-bound : (given : Bool) (origin name : List ℕ) (d j : ℕ) → placeIn parts given origin name d ≡ some j
-      → firstItem (listParts ds is []) d + j < length is / 12
+      → firstItem (definitionParts ds is []) d + j < length is / textEntrySize
   unfolding placeIn itemIn definitionWord
   item-bound given origin name d j e =
       let mine = chosen (not given || same origin (definitionName parts d)) (itemIn parts d name) j e in
@@ -213,10 +214,10 @@ module _ (ds is ss : List ℕ) where
   module _ (given : Bool) (origin name : List ℕ) where
     -- what the loop keeps: the definitions before d are all that is left to ask
     pub record Left (d : ℕ) : Type 0 where
-      pub inside : d ≤ length ds / 16
+      pub inside : d ≤ length ds / definitionSize
       pub same-answer : lastItem parts given origin name ≡ listItemIn parts given origin name (lastOf d (answers parts given origin name))
 
-    pub left-start : Left (length ds / 16)
+    pub left-start : Left (length ds / definitionSize)
     unfolding lastItem
     left-start =
         record {
@@ -239,16 +240,16 @@ module _ (ds is ss : List ℕ) where
             same-answer = rw (← e, n) at turned;
           }
         where
-          smaller : d ≤ length ds / 16 → d - 1 ≤ length ds / 16
+          smaller : d ≤ length ds / definitionSize → d - 1 ≤ length ds / definitionSize
           smaller i = omega arith
 
-      pub left-found : (j : ℕ) → p ≡ place.At j → (a : ListItemAnswer) → a ≡ listItemAt (listParts ds is []) (d - 1) (some j)
+      pub left-found : (j : ℕ) → p ≡ place.At j → (a : ListItemAnswer) → a ≡ listItemAt (definitionParts ds is []) (d - 1) (some j)
           → a ≡ lastItem parts given origin name
       unfolding lastOf definitionWord itemWord
       left-found j n a q = q ∙ sym (rw (← e, n, ← e, n) at turned)
 
       -- the item that it answers is inside
-      pub item-inside : (j : ℕ) → p ≡ place.At j → firstItem (listParts ds is []) (d - 1) + j < length is / 12
+      pub item-inside : (j : ℕ) → p ≡ place.At j → firstItem (definitionParts ds is []) (d - 1) + j < length is / textEntrySize
       item-inside j n = item-bound given origin name (d - 1) j (sym e ∙ ap placed n)
 
     pub left-end : (d : ℕ) → d ≤ 0 → Left d → answer.NotFound ≡ lastItem parts given origin name
@@ -270,17 +271,17 @@ module _ (bs : List ℕ) (v : ImageView) (name : List ℕ) (b : Bool) (hb : b �
   unfolding listItem
   list-blank y = rw (← hb, y)
 
-  module _ (n : b ≡ false) (ds is ss : List ℕ) (p : ds ≡ sectionBytes bs (v .definitions) 16) (q : is ≡ sectionBytes bs (v .items) 12)
+  module _ (n : b ≡ false) (ds is ss : List ℕ) (p : ds ≡ sectionBytes bs (v .definitions) definitionSize) (q : is ≡ sectionBytes bs (v .items) textEntrySize)
       (r : ss ≡ sectionBytes bs (v .strings) 1) (dot : ℕ) (k : dot ≡ firstDot name) (a : ListItemAnswer) where
-    lent-by : (given : Bool) (origin item : List ℕ) → a ≡ lastItem (listParts ds is ss) given origin item → a ≡ lastItem (sectionsBy bs v) given origin item
-    lent-by given origin item g = g ∙ (λ j. lastItem (listParts (p j) (q j) (r j)) given origin item) ∙ lists-by bs v given origin item
+    lent-by : (given : Bool) (origin item : List ℕ) → a ≡ lastItem (definitionParts ds is ss) given origin item → a ≡ lastItem (sectionsBy bs v) given origin item
+    lent-by given origin item g = g ∙ (λ j. lastItem (definitionParts (p j) (q j) (r j)) given origin item) ∙ lists-by bs v given origin item
 
-    pub list-plain : length name ≤ dot → a ≡ lastItem (listParts ds is ss) false name name → a ≡ listItem (sectionsBy bs v) name
+    pub list-plain : length name ≤ dot → a ≡ lastItem (definitionParts ds is ss) false name name → a ≡ listItem (sectionsBy bs v) name
     unfolding listItem
     list-plain l g = rw (← hb, n, ← k, le-ltb dot (length name) l) (lent-by false name name g)
 
     pub list-dotted : dot < length name
-        → a ≡ lastItem (listParts ds is ss) true (take dot name) (take (length name - (dot + 1)) (drop (dot + 1) name))
+        → a ≡ lastItem (definitionParts ds is ss) true (take dot name) (take (length name - (dot + 1)) (drop (dot + 1) name))
         → a ≡ listItem (sectionsBy bs v) name
     unfolding listItem beforeDot afterDot
     list-dotted l g =

@@ -11,7 +11,7 @@ use borrow.Author.Tests.{le-leb}
 use Rattle.laws.specs.Counted.{lastOf}
 use Rattle.texts.specs.Text.{same, rising}
 use Rattle.texts.proofs.Text.{same-equal, equal-same}
-use Rattle.image.specs.Sections.{Sections, nodeCount, namedCount, definitionCount, itemCount, f, namedWord, definitionWord, itemWord, textOrEmpty, isContainer, inside, insideContainer}
+use Rattle.image.specs.Sections.{Sections, textEntryWords, nodeCount, namedCount, definitionCount, itemCount, f, namedWord, definitionWord, itemWord, textOrEmpty, isContainer, inside, insideContainer}
 use Rattle.image.proofs.Parts.{good-part}
 use Rattle.image.proofs.Tests.{both-true}
 use Rattle.records.specs.Records.{numberOfNamed}
@@ -20,7 +20,7 @@ use Rattle.tree.specs.Parts.{Fit}
 use Rattle.tree.proofs.Entries.{NamedRight, named-pass}
 use Rattle.tree.proofs.PlainTree.{tree-right}
 use Rattle.index.specs.Definitions.{definitionText, firstItem, numberOfItems, itemTextOf, definitionsRule}
-use Rattle.index.proofs.RisingTexts.{rising-before}
+use Rattle.image.proofs.RisingTexts.{rising-before}
 use Rattle.index.proofs.Definitions.{Definition, Definitions, definitions-passed}
 use Rattle.views.specs.declared.Found.the-variants as found
 use Rattle.lookups.specs.declared.ListItem.{ListItem}
@@ -54,7 +54,7 @@ module _ (words strings : List ℕ) (from count : ℕ) (u : ℕ → List ℕ) (l
 
 named-entry-text : (s : Sections) (k : ℕ) → entryText (s .named) (s .strings) k ≡ textOrEmpty (s .strings) (namedWord s k 0) (namedWord s k 1)
 unfolding namedWord
-named-entry-text s k = rw (add-zero (k * 3))
+named-entry-text s k = rw (add-zero (k * textEntryWords))
 
 node-apart : (n : ℕ) → found.Node n ≡ found.NotFound → ⊥
 node-apart n h = let z : _≡_ {A = ℕ} 0 1 = cc in omega arith
@@ -154,7 +154,7 @@ module _ (t : ℕ → Bool) where
 
 item-entry-text : (s : Sections) (k : ℕ) → entryText (s .items) (s .strings) k ≡ textOrEmpty (s .strings) (itemWord s k 0) (itemWord s k 1)
 unfolding itemWord
-item-entry-text s k = rw (add-zero (k * 3))
+item-entry-text s k = rw (add-zero (k * textEntryWords))
 
 item-apart : (a : ListItem) → answer.Item a ≡ answer.NotFound → ⊥
 item-apart a h = let z : _≡_ {A = ℕ} 0 1 = cc in omega arith

@@ -13,8 +13,7 @@ use Rattle.texts.specs.declared.Order.the-variants.{Less, Equal, Greater}
 use Rattle.texts.specs.Text.{orderOf, same, texts}
 use Rattle.texts.specs.Dots.{hasDot, beforeDot, afterDot, dots}
 use Rattle.utf8.specs.White.{blank, blanks}
-use Rattle.image.specs.Sections.{Sections, definitionCount, itemCount, f, definitionWord, itemWord, textOrEmpty, insideContainer, sections}
-use Rattle.image.specs.Header.{nodeWords}
+use Rattle.image.specs.Sections.{textEntryWords, Sections, definitionCount, itemCount, f, definitionWord, itemWord, textOrEmpty, insideContainer, sections}
 use Rattle.index.specs.Definitions.{firstItem, numberOfItems}
 use Rattle.lookups.specs.declared.Place.{Place}
 use Rattle.lookups.specs.declared.Place.the-variants as place
@@ -48,7 +47,7 @@ placed place.Nowhere = none
 
 -- the text of entry k of a section of texts, none where it is not inside the strings
 abbrev pub entryText : List ℕ → List ℕ → ℕ → List ℕ
-entryText words strings k = textOrEmpty strings (getD words (k * 3) 0) (getD words (k * 3 + 1) 0)
+entryText words strings k = textOrEmpty strings (getD words (k * textEntryWords) 0) (getD words (k * textEntryWords + 1) 0)
 
 -- the name's place among `count` entries, from entry `from` of a section of texts on
 unfoldable pub searched : List ℕ → List ℕ → ℕ → ℕ → List ℕ → Option ℕ
@@ -63,7 +62,7 @@ foundAt g (some j) = found.Node (g j)
 -- by the words of the named entries: the node of the one that bears the name. A range that is not inside has none
 unfoldable pub namedBy : List ℕ → List ℕ → ℕ → ℕ → List ℕ → Found
 namedBy words strings from count name =
-    cond (leb (from + count) (length words / 3)) (foundAt (λ j. getD words ((from + j) * 3 + 2) 0) (searched words strings from count name)) found.NotFound
+    cond (leb (from + count) (length words / textEntryWords)) (foundAt (λ j. getD words ((from + j) * textEntryWords + 2) 0) (searched words strings from count name)) found.NotFound
 
 -- the node of the container's named entry that bears the name
 unfoldable pub findNamed : Sections → ℕ → List ℕ → Found
@@ -110,21 +109,6 @@ unfoldable pub listItem : Sections → List ℕ → ListItemAnswer
 listItem s name =
     cond (blank name) answer.NotFound
     (cond (hasDot name) (lastItem s true (beforeDot name) (afterDot name)) (lastItem s false name name))
-
--- definitions, items and strings out of their bytes; the other sections do not matter here
-abbrev pub listParts : List ℕ → List ℕ → List ℕ → Sections
-listParts definitions items strings =
-    record {
-      stride = nodeWords;
-      nodes = [];
-      children = [];
-      named = [];
-      definitions = wordsOf definitions;
-      items = wordsOf items;
-      index = [];
-      payload = [];
-      strings = strings;
-    }
 
 -- document 01's number for an answer
 abbrev pub listItemNumber : ListItemAnswer → ℕ

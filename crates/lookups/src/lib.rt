@@ -8,8 +8,10 @@ ghost use mathlib.Core.Option.{some};
 ghost use Rattle.words.specs.Words.{wordsOf};
 ghost use Rattle.texts.specs.Text.{same};
 ghost use Rattle.image.specs.Header.{sectionsBy};
+ghost use Rattle.image.specs.Sections.{textEntrySize, definitionSize};
 ghost use Rattle.index.specs.Definitions.{firstItem};
-ghost use Rattle.lookups.specs.Lookup.{placed, searched, namedBy, findNamed, listParts, placeIn, listItemAt, lastItem, listItem};
+ghost use Rattle.index.specs.Parts.{definitionParts};
+ghost use Rattle.lookups.specs.Lookup.{placed, searched, namedBy, findNamed, placeIn, listItemAt, lastItem, listItem};
 use image::ImageView;
 use image::NodeRecord;
 use texts::Order;
@@ -38,7 +40,7 @@ pub enum Place {
 
 // The place of the name among `count` entries, from entry `from` of a section of texts on.
 fn find(part: &[u8], strings: &[u8], from: usize, count: usize, name: &[u8]) -> Place
-    requires { ⌜ from + count ≤ length (now part) / 12 ⌝ }
+    requires { ⌜ from + count ≤ length (now part) / textEntrySize ⌝ }
     ensures { λ r. ⌜ placed r ≡ searched (wordsOf (now (part .entry))) (now (strings .entry)) from count (now (name .entry)) ⌝ }
 {
     let mut lo = 0;
@@ -67,12 +69,15 @@ fn named_by(container: NodeRecord, named: &[u8], strings: &[u8], name: &[u8]) ->
 {
     let from = container.f5 as usize;
     let count = container.f6 as usize;
-    if named.len() / 12 < from + count {
+    if named.len() / ImageView::TEXT_ENTRY_BYTES < from + count {
         return Found::NotFound;
     }
     match find(named, strings, from, count, name) {
         Place::Nowhere => Found::NotFound,
-        Place::At(j) => Found::Node(image::part_word(named, (from + j) * 3 + 2)),
+        Place::At(j) => Found::Node(image::part_word(
+            named,
+            (from + j) * ImageView::TEXT_ENTRY_WORDS + 2,
+        )),
     }
 }
 
@@ -112,8 +117,8 @@ fn place_in(
     origin: &[u8],
     name: &[u8],
 ) -> Place
-    requires { ⌜ 16 * d + 16 ≤ length (now definitions) ⌝ }
-    ensures { λ r. ⌜ placed r ≡ placeIn (listParts (now (definitions .entry)) (now (items .entry)) (now (strings .entry))) given (now (origin .entry)) (now (name .entry)) d ⌝ }
+    requires { ⌜ definitionSize * d + definitionSize ≤ length (now definitions) ⌝ }
+    ensures { λ r. ⌜ placed r ≡ placeIn (definitionParts (now (definitions .entry)) (now (items .entry)) (now (strings .entry))) given (now (origin .entry)) (now (name .entry)) d ⌝ }
 {
     let definition = image::definition_at(definitions, d);
     let text = image::text_part(strings, definition.offset, definition.len);
@@ -122,7 +127,7 @@ fn place_in(
     }
     let from = definition.first as usize;
     let count = definition.count as usize;
-    if items.len() / 12 < from + count {
+    if items.len() / ImageView::TEXT_ENTRY_BYTES < from + count {
         return Place::Nowhere;
     }
     find(items, strings, from, count, name)
@@ -130,15 +135,15 @@ fn place_in(
 
 // The `j`-th item of definition `d`, found by its name.
 fn item_at(definitions: &[u8], items: &[u8], d: usize, j: usize) -> ListItemAnswer
-    requires { ⌜ 16 * d + 16 ≤ length (now definitions) ⌝ }
-    requires { ⌜ firstItem (listParts (now definitions) (now items) []) d + j < length (now items) / 12 ⌝ }
-    ensures { λ r. ⌜ r ≡ listItemAt (listParts (now (definitions .entry)) (now (items .entry)) []) d (some j) ⌝ }
+    requires { ⌜ definitionSize * d + definitionSize ≤ length (now definitions) ⌝ }
+    requires { ⌜ firstItem (definitionParts (now definitions) (now items) []) d + j < length (now items) / textEntrySize ⌝ }
+    ensures { λ r. ⌜ r ≡ listItemAt (definitionParts (now (definitions .entry)) (now (items .entry)) []) d (some j) ⌝ }
 {
-    let item = image::part_word(definitions, d * 4 + 2) as usize + j;
+    let item = image::part_word(definitions, d * ImageView::DEFINITION_WORDS + 2) as usize + j;
     ListItemAnswer::Item(ListItem {
         definition: d,
         item,
-        value: signed_of(image::part_word(items, item * 3 + 2)),
+        value: signed_of(image::part_word(items, item * ImageView::TEXT_ENTRY_WORDS + 2)),
     })
 }
 
@@ -151,9 +156,9 @@ fn last_item(
     origin: &[u8],
     name: &[u8],
 ) -> ListItemAnswer
-    ensures { λ r. ⌜ r ≡ lastItem (listParts (now (definitions .entry)) (now (items .entry)) (now (strings .entry))) given (now (origin .entry)) (now (name .entry)) ⌝ }
+    ensures { λ r. ⌜ r ≡ lastItem (definitionParts (now (definitions .entry)) (now (items .entry)) (now (strings .entry))) given (now (origin .entry)) (now (name .entry)) ⌝ }
 {
-    let mut d = definitions.len() / 16;
+    let mut d = definitions.len() / ImageView::DEFINITION_BYTES;
     while 0 < d {
         d -= 1;
         match place_in(definitions, items, strings, d, given, origin, name) {

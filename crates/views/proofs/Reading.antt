@@ -2,23 +2,23 @@
 use Prim.Native.Nat.{ℕ, _/_, _≤_, _<_}
 use mathlib.Core.Path.{_≡_, refl, sym, ap, _∙_}
 use mathlib.Core.List.{List}
-use mathlib.Core.Bool.{Bool, true, false, cond}
+use mathlib.Core.Bool.{Bool, true, false, not, cond}
 use native.Mathlib.Omega.{arith}
 use lib.ListN.{length, getD}
 use lib.Dec.{ltb}
-use borrow.Author.Tests.{lt-ltb, le-ltb, eq-eqb, ne-eqb}
-use Rattle.words.specs.Words.{wordsOf, NONE}
+use borrow.Author.Tests.{lt-ltb, le-ltb, eq-eqb, ne-eqb, not-true, not-false}
+use Rattle.words.specs.Words.{wordsOf}
 use Rattle.words.proofs.Words.{length-words}
 use Rattle.image.specs.declared.NodeRecord.{NodeRecord}
 use Rattle.image.specs.declared.TextEntry.{TextEntry}
 use Rattle.image.specs.declared.Definition.{Definition}
 use Rattle.image.specs.declared.ImageView.{ImageView}
-use Rattle.image.specs.Sections.{Sections, nodeCount, childCount, namedCount, definitionCount, itemCount, tagOf, childWord, inside, insideContainer}
-use Rattle.image.specs.Header.{sectionBytes, sectionsIn, sectionsBy}
+use Rattle.image.specs.Sections.{Sections, nodeWords, textEntryWords, definitionWords, nodeSize, childSize, textEntrySize, definitionSize, childCount, namedCount, definitionCount, itemCount, tagOf, childWord, inside, insideAmong, insideContainer}
+use Rattle.image.specs.Header.{sectionBytes, sectionsBy}
 use Rattle.image.specs.Entries.{recordOf, textEntryOf, definitionOf, nodeIn, namedIn, itemIn, definitionIn}
-use Rattle.image.proofs.Tests.{and-false}
+use Rattle.image.proofs.Tests.{and-false, inside-true}
 use Rattle.image.proofs.Entries.{node-record, named-entry, item-entry, definition-entry}
-use Rattle.image.proofs.Views.{stride-by, nodes-by, children-by, named-by, definitions-by, items-by}
+use Rattle.image.proofs.Views.{version-by, nodes-by, children-by, named-by, definitions-by, items-by}
 use Rattle.views.specs.declared.Found.the-variants as found
 use Rattle.views.specs.declared.entries.RecordFound.{RecordFound}
 use Rattle.views.specs.declared.entries.RecordFound.the-variants as node
@@ -30,87 +30,86 @@ use Rattle.views.specs.Found.{nodeFound, containerFound, childFound, nam
 
 -- ---- how many entries a section's bytes hold
 
-pub word-count : (part : List ℕ) → length (wordsOf part) ≡ length part / 4
+pub word-count : (part : List ℕ) → length (wordsOf part) ≡ length part / childSize
 word-count part = length-words part
 
-pub triple-count : (part : List ℕ) → length (wordsOf part) / 3 ≡ length part / 12
+pub triple-count : (part : List ℕ) → length (wordsOf part) / textEntryWords ≡ length part / textEntrySize
 triple-count part = rw (length-words part) (omega arith)
 
-pub definition-count : (part : List ℕ) → length (wordsOf part) / 4 ≡ length part / 16
+pub definition-count : (part : List ℕ) → length (wordsOf part) / definitionWords ≡ length part / definitionSize
 definition-count part = rw (length-words part) (omega arith)
 
 -- ---- out of the bytes of a view's section
 
 module _ (bs : List ℕ) (v : ImageView) (part : List ℕ) where
-  module _ (e : part ≡ sectionBytes bs (v .nodes) 40) (i : ℕ) where
-    node-count : nodeCount (sectionsBy bs v) ≡ length part / 40
-    unfolding sectionsIn
-    node-count = rw (← e, length-words part) (omega arith)
+  module _ (e : part ≡ sectionBytes bs (v .nodes) (nodeSize (v .version))) (i count : ℕ) (c : count ≡ length (wordsOf part) / nodeWords (v .version))
+      (b : Bool) (h : b ≡ insideAmong count i) where
+    inside-here : b ≡ inside (sectionsBy bs v) i
+    unfolding sectionsBy
+    inside-here = h ∙ ap (λ (n : ℕ). insideAmong n i) (c ∙ ap (λ (x : List ℕ). length (wordsOf x) / nodeWords (v .version)) e)
 
-    pub node-past : length part / 40 ≤ i → node.NotFound ≡ nodeFound (sectionsBy bs v) i
+    pub node-none : not b ≡ true → node.NotFound ≡ nodeFound (sectionsBy bs v) i
     unfolding nodeFound
-    node-past h = rw (node-count, le-ltb i (length part / 40) h)
+    node-none n = rw (← inside-here, not-true b n)
 
-    pub node-none : i ≡ NONE → node.NotFound ≡ nodeFound (sectionsBy bs v) i
+    pub node-read : not b ≡ false → (r : NodeRecord) → r ≡ recordOf (v .version) (wordsOf part) i → node.Record r ≡ nodeFound (sectionsBy bs v) i
     unfolding nodeFound
-    node-none h = rw (eq-eqb i NONE h, and-false (ltb i (nodeCount (sectionsBy bs v))))
+    node-read n r q =
+        rw (← inside-here, not-false b n)
+        (ap node.Record (q ∙ node-record (sectionsBy bs v) (v .version) (wordsOf part) i (version-by bs v) (nodes-by bs v ∙ ap wordsOf (sym e))))
 
-    pub node-read : i < length part / 40 → (i ≡ NONE → ⊥) → (r : NodeRecord) → r ≡ recordOf (wordsOf part) i
-        → node.Record r ≡ nodeFound (sectionsBy bs v) i
-    unfolding nodeFound
-    node-read h d r q =
-        rw (node-count, lt-ltb i (length part / 40) h, ne-eqb i NONE d)
-        (ap node.Record (q ∙ node-record (sectionsBy bs v) (wordsOf part) i (stride-by bs v) (nodes-by bs v ∙ ap wordsOf (sym e))))
+    pub node-below : not b ≡ false → i < length (wordsOf part) / nodeWords (v .version)
+    node-below n = inside-true (length (wordsOf part) / nodeWords (v .version)) i (ap (λ (x : ℕ). insideAmong x i) (sym c) ∙ sym h ∙ not-false b n) .0
 
-  module _ (e : part ≡ sectionBytes bs (v .children) 4) (k : ℕ) where
-    child-count : childCount (sectionsBy bs v) ≡ length part / 4
-    unfolding sectionsIn
+  module _ (e : part ≡ sectionBytes bs (v .children) childSize) (k : ℕ) where
+    child-count : childCount (sectionsBy bs v) ≡ length part / childSize
+    unfolding sectionsBy
     child-count = rw (← e) (length-words part)
 
-    pub child-past : length part / 4 ≤ k → found.NotFound ≡ childFound (sectionsBy bs v) k
+    pub child-past : length part / childSize ≤ k → found.NotFound ≡ childFound (sectionsBy bs v) k
     unfolding childFound
-    child-past h = rw (child-count, le-ltb k (length part / 4) h)
+    child-past h = rw (child-count, le-ltb k (length part / childSize) h)
 
-    pub child-read : k < length part / 4 → (w : ℕ) → w ≡ getD (wordsOf part) k 0 → found.Node w ≡ childFound (sectionsBy bs v) k
+    pub child-read : k < length part / childSize → (w : ℕ) → w ≡ getD (wordsOf part) k 0 → found.Node w ≡ childFound (sectionsBy bs v) k
     unfolding childFound childWord
-    child-read h w q = rw (child-count, lt-ltb k (length part / 4) h, children-by bs v, ← e, q)
+    child-read h w q = rw (child-count, lt-ltb k (length part / childSize) h, children-by bs v, ← e, q)
 
-  module _ (e : part ≡ sectionBytes bs (v .definitions) 16) (d : ℕ) where
-    pub definitions-count : definitionCount (sectionsBy bs v) ≡ length part / 16
-    unfolding sectionsIn
+  module _ (e : part ≡ sectionBytes bs (v .definitions) definitionSize) (d : ℕ) where
+    pub definitions-count : definitionCount (sectionsBy bs v) ≡ length part / definitionSize
+    unfolding sectionsBy
     definitions-count = rw (← e) (definition-count part)
 
-    pub definition-past : length part / 16 ≤ d → definition.NotFound ≡ definitionFound (sectionsBy bs v) d
+    pub definition-past : length part / definitionSize ≤ d → definition.NotFound ≡ definitionFound (sectionsBy bs v) d
     unfolding definitionFound
-    definition-past h = rw (definitions-count, le-ltb d (length part / 16) h)
+    definition-past h = rw (definitions-count, le-ltb d (length part / definitionSize) h)
 
-    pub definition-read : d < length part / 16 → (r : Definition) → r ≡ definitionOf (wordsOf part) d
+    pub definition-read : d < length part / definitionSize → (r : Definition) → r ≡ definitionOf (wordsOf part) d
         → definition.Definition r ≡ definitionFound (sectionsBy bs v) d
     unfolding definitionFound
     definition-read h r q =
-        rw (definitions-count, lt-ltb d (length part / 16) h)
+        rw (definitions-count, lt-ltb d (length part / definitionSize) h)
         (ap definition.Definition (q ∙ definition-entry (sectionsBy bs v) (wordsOf part) d (definitions-by bs v ∙ ap wordsOf (sym e))))
 
-pub entry-past : (part : List ℕ) (k : ℕ) → length part / 12 ≤ k → entry.NotFound ≡ entryFound part k
+pub entry-past : (part : List ℕ) (k : ℕ) → length part / textEntrySize ≤ k → entry.NotFound ≡ entryFound part k
 unfolding entryFound
-entry-past part k h = rw (triple-count part, le-ltb k (length part / 12) h)
+entry-past part k h = rw (triple-count part, le-ltb k (length part / textEntrySize) h)
 
-pub entry-read : (part : List ℕ) (k : ℕ) → k < length part / 12 → (r : TextEntry) → r ≡ textEntryOf (wordsOf part) k → entry.Entry r ≡ entryFound part k
+pub entry-read : (part : List ℕ) (k : ℕ) → k < length part / textEntrySize → (r : TextEntry) → r ≡ textEntryOf (wordsOf part) k → entry.Entry r ≡ entryFound part k
 unfolding entryFound
-entry-read part k h r q = rw (triple-count part, lt-ltb k (length part / 12) h, q)
+entry-read part k h r q = rw (triple-count part, lt-ltb k (length part / textEntrySize) h, q)
 
 module _ (bs : List ℕ) (v : ImageView) (k : ℕ) where
-  pub named-read : entryFound (sectionBytes bs (v .named) 12) k ≡ namedFound (sectionsBy bs v) k
+  pub named-read : entryFound (sectionBytes bs (v .named) textEntrySize) k ≡ namedFound (sectionsBy bs v) k
   unfolding entryFound namedFound
   named-read =
       λ j. cond (ltb k (length (sym (named-by bs v) j) / 3))
-      (entry.Entry (named-entry (sectionsBy bs v) (wordsOf (sectionBytes bs (v .named) 12)) k (named-by bs v) j)) entry.NotFound
+      (entry.Entry (named-entry (sectionsBy bs v) (wordsOf (sectionBytes bs (v .named) textEntrySize)) k (named-by bs v) j)) entry.NotFound
 
-  pub item-read : entryFound (sectionBytes bs (v .items) 12) k ≡ itemFound (sectionsBy bs v) k
+  pub item-read : entryFound (sectionBytes bs (v .items) textEntrySize) k ≡ itemFound (sectionsBy bs v) k
   unfolding entryFound itemFound
   item-read =
       λ j. cond (ltb k (length (sym (items-by bs v) j) / 3))
-      (entry.Entry (item-entry (sectionsBy bs v) (wordsOf (sectionBytes bs (v .items) 12)) k (items-by bs v) j)) entry.NotFound
+      (entry.Entry (item-entry (sectionsBy bs v) (wordsOf (sectionBytes bs (v .items) textEntrySize)) k (items-by bs v) j)) entry.NotFound
 
 -- ---- what an answer tells of the test that it was made by
 

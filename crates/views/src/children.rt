@@ -16,6 +16,7 @@ use crate::entries::named_of;
 use crate::view::is_shown;
 use image::ImageView;
 
+// How many ordered children a container has.
 pub fn child_count(bytes: &[u8], view: ImageView, id: u32) -> Count
     ensures { λ r. ⌜ r ≡ childCountOf (sectionsBy (now (bytes .entry)) view) id ⌝ }
 {
@@ -25,6 +26,7 @@ pub fn child_count(bytes: &[u8], view: ImageView, id: u32) -> Count
     }
 }
 
+// How many named children a container has.
 pub fn named_child_count(bytes: &[u8], view: ImageView, id: u32) -> Count
     ensures { λ r. ⌜ r ≡ namedCountOf (sectionsBy (now (bytes .entry)) view) id ⌝ }
 {

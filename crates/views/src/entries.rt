@@ -5,46 +5,47 @@ ghost use Rattle.views.specs.Found.{nodeFound, containerFound, childFoun
 use crate::Found;
 use image::Definition;
 use image::ImageView;
-use image::NONE;
 use image::NodeRecord;
 use image::TextEntry;
+use image::tag;
 
+// A node, if it was found.
 pub enum RecordFound {
     Record(NodeRecord),
     NotFound,
 }
 
+// A named entry or an item, if it was found.
 pub enum EntryFound {
     Entry(TextEntry),
     NotFound,
 }
 
+// A definition, if it was found.
 pub enum DefinitionFound {
     Definition(Definition),
     NotFound,
 }
 
+// Node `id`.
 pub fn node_of(bytes: &[u8], view: ImageView, id: u32) -> RecordFound
     ensures { λ r. ⌜ r ≡ nodeFound (sectionsBy (now (bytes .entry)) view) id ⌝ }
 {
-    let nodes = image::section_part(bytes, view.nodes, ImageView::NODE_SIZE);
-    let at = id as usize;
-    if nodes.len() / 40 <= at {
+    let nodes = image::nodes_part(bytes, view);
+    if !image::is_inside(image::node_count(nodes, view.version), id) {
         return RecordFound::NotFound;
     }
-    if id == NONE {
-        return RecordFound::NotFound;
-    }
-    RecordFound::Record(image::node_record(nodes, at))
+    RecordFound::Record(image::node_record(nodes, view.version, id as usize))
 }
 
+// Node `id`, if it is a container.
 pub fn container_of(bytes: &[u8], view: ImageView, id: u32) -> RecordFound
     ensures { λ r. ⌜ r ≡ containerFound (sectionsBy (now (bytes .entry)) view) id ⌝ }
 {
     match node_of(bytes, view, id) {
         RecordFound::NotFound => RecordFound::NotFound,
         RecordFound::Record(node) => {
-            if node.tag == 1 {
+            if node.tag == tag::CONTAINER {
                 RecordFound::Record(node)
             } else {
                 RecordFound::NotFound
@@ -58,7 +59,7 @@ pub fn child_of(bytes: &[u8], view: ImageView, k: usize) -> Found
     ensures { λ r. ⌜ r ≡ childFound (sectionsBy (now (bytes .entry)) view) k ⌝ }
 {
     let children = image::section_part(bytes, view.children, ImageView::CHILD_SIZE);
-    if children.len() / 4 <= k {
+    if children.len() / ImageView::WORD_BYTES <= k {
         return Found::NotFound;
     }
     Found::Node(image::part_word(children, k))
@@ -68,12 +69,13 @@ pub fn child_of(bytes: &[u8], view: ImageView, k: usize) -> Found
 pub fn entry_of(part: &[u8], k: usize) -> EntryFound
     ensures { λ r. ⌜ r ≡ entryFound (now (part .entry)) k ⌝ }
 {
-    if part.len() / 12 <= k {
+    if part.len() / ImageView::TEXT_ENTRY_BYTES <= k {
         return EntryFound::NotFound;
     }
     EntryFound::Entry(image::text_entry(part, k))
 }
 
+// Named entry `k`.
 pub fn named_of(bytes: &[u8], view: ImageView, k: usize) -> EntryFound
     ensures { λ r. ⌜ r ≡ namedFound (sectionsBy (now (bytes .entry)) view) k ⌝ }
 {
@@ -83,6 +85,7 @@ pub fn named_of(bytes: &[u8], view: ImageView, k: usize) -> EntryFound
     )
 }
 
+// Item `k`.
 pub fn item_of(bytes: &[u8], view: ImageView, k: usize) -> EntryFound
     ensures { λ r. ⌜ r ≡ itemFound (sectionsBy (now (bytes .entry)) view) k ⌝ }
 {
@@ -92,11 +95,12 @@ pub fn item_of(bytes: &[u8], view: ImageView, k: usize) -> EntryFound
     )
 }
 
+// Definition `d`.
 pub fn definition_of(bytes: &[u8], view: ImageView, d: usize) -> DefinitionFound
     ensures { λ r. ⌜ r ≡ definitionFound (sectionsBy (now (bytes .entry)) view) d ⌝ }
 {
     let definitions = image::section_part(bytes, view.definitions, ImageView::DEFINITION_SIZE);
-    if definitions.len() / 16 <= d {
+    if definitions.len() / ImageView::DEFINITION_BYTES <= d {
         return DefinitionFound::NotFound;
     }
     DefinitionFound::Definition(image::definition_at(definitions, d))

@@ -97,10 +97,12 @@ pub fn list_origin(payload: &[u8], strings: &[u8], j: u32) -> TextAnswer
     }
 }
 
+// How many definitions there are.
 pub fn definition_count(bytes: &[u8], view: ImageView) -> usize
     ensures { λ r. ⌜ r ≡ definitionCount (sectionsBy (now (bytes .entry)) view) ⌝ }
 {
-    image::section_part(bytes, view.definitions, ImageView::DEFINITION_SIZE).len() / 16
+    image::section_part(bytes, view.definitions, ImageView::DEFINITION_SIZE).len()
+        / ImageView::DEFINITION_BYTES
 }
 
 // Definition `d`: its name and how many items it has.

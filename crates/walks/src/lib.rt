@@ -8,6 +8,7 @@ ghost use Rattle.views.specs.declared.Found.the-variants.{Node};
 ghost use Rattle.walks.specs.Walk.{component, components, parentQuery, step, steps, resolve};
 use image::ImageView;
 use image::NONE;
+use image::tag;
 use views::Found;
 use views::entries::RecordFound;
 
@@ -102,7 +103,7 @@ pub fn resolve_path(
     match views::entries::node_of(bytes, view, origin) {
         RecordFound::NotFound => Found::NotFound,
         RecordFound::Record(node) => {
-            if node.tag == 1 {
+            if node.tag == tag::CONTAINER {
                 return walk(bytes, view, origin, path, 0, names);
             }
             if node.parent == NONE {
