@@ -285,7 +285,7 @@ module _ (version : ℕ) (nodes children named definitions items payload strings
 
     module _ (k : Tables) (q : Keyed s w n k) where
       abbrev key : ℕ → List ℕ
-      key = keyIn nodes strings k w
+      key = keyIn version nodes strings k w
 
       texts-are : textsOf key (n .offsets) ≡ uses s (numbering s)
       texts-are =
@@ -354,7 +354,7 @@ module _ (version : ℕ) (nodes children named definitions items payload strings
   unfolding sectionOut written writtenWith
   payload-put e = e d (numbering d) (storedTexts d (numbering d)) refl refl refl (t .tables) (t .olds) (node-offsets d w n t)
 
-  pub strings-put : (k : Tables) → Keyed d w n k → out ≡ over (joined (storedOf (keyIn nodes strings k w) (n .offsets))) out₀ → out ≡ over (sec 7) out₀
+  pub strings-put : (k : Tables) → Keyed d w n k → out ≡ over (joined (storedOf (keyIn version nodes strings k w) (n .offsets))) out₀ → out ≡ over (sec 7) out₀
   unfolding sectionOut written writtenWith
   strings-put k q e = e ∙ ap (λ (kept : List (List ℕ)). over (joined kept) out₀) (stored-are version nodes children named definitions items payload strings w n t k q)
 

@@ -91,7 +91,7 @@ textsOut s = sectionOut (written s) 6 ++ sectionOut (written s) 7
 -- the tables give the text of each use
 pub record Keyed (s : Sections) (w : List ℕ) (n : Numbers) (t : Tables) : Type 0 where
   pub all : n .offsets ≡ length (uses s (numbering s))
-  pub keys : (a : ℕ) → a < n .offsets → keyIn (s .nodes) (s .strings) t w a ≡ getD (uses s (numbering s)) a []
+  pub keys : (a : ℕ) → a < n .offsets → keyIn (s .version) (s .nodes) (s .strings) t w a ≡ getD (uses s (numbering s)) a []
   pub behind : n .offsets + n .offsets ≤ t .at
   pub placed : Placed t (length w)
 

@@ -101,7 +101,7 @@ indexed-refused (suc r) n k e =
 
 nodes-readable : (version : ℕ) (ns cs ms ds is ps ss order : List ℕ) → Readable (draftOf version ns cs ms ds is ps ss) order → Readable (nodesOnly version ns ps) order
 unfolding nodeWord listWord
-nodes-readable ns cs ms ds is ps ss order k = record { olds = k .olds; lists = k .lists }
+nodes-readable version ns cs ms ds is ps ss order k = record { olds = k .olds; lists = k .lists }
 
 module _ (version : ℕ) (ns cs ms ds is ps ss : List ℕ) (p : tablesRule (draftOf version ns cs ms ds is ps ss) ≡ 0) where
   abbrev s : Sections

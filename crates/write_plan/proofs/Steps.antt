@@ -76,7 +76,7 @@ module _ (version : ℕ) (ns cs ms ds is ps ss : List ℕ) (p : tablesRule (draf
 
 -- ---- rule 22, and the texts
 
-module _ (version ns cs ms ds is ps ss w₁ : List ℕ) (l : Layout) (known : Shaped (draftOf version ns cs ms ds is ps ss) w₁ l) where
+module _ (version : ℕ) (ns cs ms ds is ps ss w₁ : List ℕ) (l : Layout) (known : Shaped (draftOf version ns cs ms ds is ps ss) w₁ l) where
   abbrev t : Sections
   t = draftOf version ns cs ms ds is ps ss
 

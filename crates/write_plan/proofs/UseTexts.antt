@@ -48,7 +48,7 @@ module _ (s : Sections) (p : tablesRule s ≡ 0) (q : reachRule s ≡ 0) (free :
 
   unlike : (a b : ℕ) → a < b → b < length (containers s order)
       → pathOf s order (getD (containers s order) a 0) ≡ pathOf s order (getD (containers s order) b 0) → ⊥
-  unlike a b l h e = omega (arith, free, twice s order (renumbers s z p q) a b l h e)
+  unlike a b l h e = omega (arith, free, twice s order (renumbers s p q) a b l h e)
 
   sorted : isort (byKey (pathOf s order)) (containers s order) ≡ byPath s order
   unfolding byPath
@@ -70,7 +70,7 @@ module _ (s : Sections) (p : tablesRule s ≡ 0) (q : reachRule s ≡ 0) (free :
       each : (i : ℕ) → i < length (containers s order) → Box (getD (containers s order) i 0)
       each i l =
           let c = those-at (λ j. isContainer s (oldOf order j)) (nodeCount s) i l in
-          (renumbers s z p q .old-inside (getD (containers s order) i 0) (c .0), c .1)
+          (renumbers s p q .old-inside (getD (containers s order) i 0) (c .0), c .1)
 
   -- as many entries as containers
   pub boxes-long : length (byPath s order) ≡ sumOf (nodeCount s) (containerOf s)
@@ -169,7 +169,7 @@ module _ (s : Sections) (p : tablesRule s ≡ 0) (q : reachRule s ≡ 0) (r : sh
   tab′ = useWords s news ++ drop (length (useWords s news)) tab
 
   abbrev key : ℕ → List ℕ
-  key = keyOf (s .nodes) (s .strings) texts paths lengths tab′
+  key = keyOf (s .version) (s .nodes) (s .strings) texts paths lengths tab′
 
   behind : (k : ℕ) → paths ≤ k → getD tab′ k 0 ≡ getD tab k 0
   behind k h = put-behind (useWords s news) tab k (omega (arith, uses-length s news))
@@ -188,16 +188,16 @@ module _ (s : Sections) (p : tablesRule s ≡ 0) (q : reachRule s ≡ 0) (r : sh
       let u = use-at s news p (olds-below s news p (once s p q)) a h in
       let first : getD tab′ (a + a) 0 ≡ getD (useWords s news) (a + a) 0 = put-front (useWords s news) tab (a + a) (omega (arith, uses-length s news)) in
       let second : getD tab′ (a + a + 1) 0 ≡ getD (useWords s news) (a + a + 1) 0 = put-front (useWords s news) tab (a + a + 1) (omega (arith, uses-length s news)) in
-      key-text (s .nodes) (s .strings) texts paths lengths tab′ a h (rw (first, second) (u .inside)) ∙ rw (first, second) (u .says)
+      key-text (s .version) (s .nodes) (s .strings) texts paths lengths tab′ a h (rw (first, second) (u .inside)) ∙ rw (first, second) (u .says)
 
   key-of-path : (k : ℕ) → k < length (byPath s news) → key (texts + k) ≡ pathOf s news (getD (byPath s news) k 0)
   key-of-path k h =
       let x = oldOf news (getD (byPath s news) k 0) in
       let known = rooted s p q r in
-      let names = every-container s z (known .whole) (λ y. goodOptional s (f s y 0) (f s y 1) ≡ true) (λ y l c. known .named y l c) in
-      let box = path-box s z p q free k h in
+      let names = every-container s (known .whole) (λ y. goodOptional s (f s y 0) (f s y 1) ≡ true) (λ y l c. known .named y l c) in
+      let box = path-box s p q free k h in
       let e : paths + (texts + k - texts) ≡ paths + k = omega arith in
-      key-path s (s .nodes) (s .strings) refl refl z names x (known .climbs x (box .0)) (box .1) texts paths lengths tab′ (texts + k) (omega arith)
+      key-path s (s .version) (s .nodes) (s .strings) refl refl refl names x (known .climbs x (box .0)) (box .1) texts paths lengths tab′ (texts + k) (omega arith)
       (sym (ap (λ (m : ℕ). getD tab′ m 0) e ∙ boxes′ k h)) (longs′ k h)
 
   pub key-use : (a : ℕ) → a < texts + length (byPath s news) → key a ≡ getD (uses s news) a []
@@ -214,4 +214,4 @@ module _ (s : Sections) (p : tablesRule s ≡ 0) (q : reachRule s ≡ 0) (r : sh
       let k = a - texts in
       let e : a ≡ texts + k = omega arith in
       let e′ : suc a ≡ texts + suc k = omega arith in
-      rw (ap key e ∙ key-of-path k (omega arith), ap key e′ ∙ key-of-path (suc k) (omega arith)) (index-rises s z p q free k (omega arith))
+      rw (ap key e ∙ key-of-path k (omega arith), ap key e′ ∙ key-of-path (suc k) (omega arith)) (index-rises s p q free k (omega arith))

@@ -26,8 +26,8 @@ returns c =
 
 shape-rule-requires : tie.Need-shape-rule-requires
 shape-rule-requires c κs =
-    let to = c .before .args in
-    let asked = c .before .pre in
+    let to = c .before .before .before .before .before .before .before .before .before .before .before .before .before .args in
+    let asked = c .before .before .before .before .before .before .before .before .before .before .before .before .before .pre in
     shape-asks (to .source .version) (to .nodes .now) (to .children .now) (to .named .now) (to .definitions .now) (to .items .now) (to .payload .now)
     (to .strings .now) (asked .0) (to .l) (asked .2) (to .w .now) (asked .1)
 

@@ -20,8 +20,8 @@ add-requires-3 c κs = (capped-le _ _ (c .add2 .ensures), omega arith, omega ari
 add-requires-4 : tie.Need-add-requires-4
 add-requires-4 c κs = (capped-le _ _ (c .add3 .ensures), omega arith, omega arith)
 
-cast-t9 : tie.Need-cast-t9
-cast-t9 c = search needs
+cast-t10 : tie.Need-cast-t10
+cast-t10 c = search needs
 
 returns : tie.Need-returns
 returns c =
@@ -46,6 +46,6 @@ image-length-spec =
     add-requires-2
     add-requires-3
     add-requires-4
-    cast-t9
+    cast-t10
     returns
     returns-2)
