@@ -26,7 +26,7 @@ wordsFor c = 16 * c .nodes + 4 * (c .children + c .named + c .definitions + c .i
 unfoldable pub neededOf : ℕ → ℕ → Needed
 neededOf needed work = cond (leb needed work) (Words needed) TooMany
 
--- document 01's number for an answer
+-- FORMAT.md's number for an answer
 abbrev pub neededNumber : Needed → ℕ
 neededNumber (Words n) = 0
 neededNumber TooMany = 7

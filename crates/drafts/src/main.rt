@@ -1,4 +1,4 @@
-// Writes the small examples of document 01's rows 3, 7 and 19 to 23, and of the drafts at the edges. Standard input holds records of
+// Writes the small examples of FORMAT.md's rows 3, 7 and 19 to 23, and of the drafts at the edges. Standard input holds records of
 // words: ink version, output bytes and work words lent, the lengths of the draft's seven slices; then the slices. A line is printed for
 // each: its place, the number, the length that was written, the CRC-32 of the lent output and how many of the lent work words are 0.
 use draft_words::after;

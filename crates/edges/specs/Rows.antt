@@ -1,4 +1,4 @@
--- The small example of each row of document 01's table of numbers, as one theorem.
+-- The small example of each row of FORMAT.md's table of numbers, as one theorem.
 use Prim.Native.Nat.{ℕ, zero, suc, _+_}
 use mathlib.Core.Path.{_≡_, refl}
 use mathlib.Core.List.{List, [], _∷_, _++_}

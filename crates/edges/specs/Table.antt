@@ -1,4 +1,4 @@
--- The lines that document 01 marks P, as one theorem.
+-- The lines that FORMAT.md marks P, as one theorem.
 use Prim.Native.Nat.{ℕ, zero, suc}
 use mathlib.Core.Path.{_≡_, refl}
 use mathlib.Core.List.{List, [], _∷_}

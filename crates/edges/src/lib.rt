@@ -1,1 +1,1 @@
-// Document 01's worked examples, computed from the definitions. No code.
+// FORMAT.md's worked examples, computed from the definitions. No code.

@@ -1,4 +1,4 @@
-// The tags of document 01's kinds of nodes.
+// The tags of FORMAT.md's kinds of nodes.
 
 pub const CONTAINER: u32 = 1;
 

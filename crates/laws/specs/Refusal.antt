@@ -1,4 +1,4 @@
--- A refusal is its number in document 01's table; 0 says that nothing was refused.
+-- A refusal is its number in FORMAT.md's table; 0 says that nothing was refused.
 use Prim.Native.Nat.{ℕ, zero, suc}
 use mathlib.Core.Bool.{Bool, true, false}
 use lib.Dec.{eqb}

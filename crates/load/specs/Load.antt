@@ -51,11 +51,6 @@ loadedBy (suc r) v = Refused (suc r)
 unfoldable pub loadedOf : List ℕ → ℕ → Loaded
 loadedOf bs work = loadedBy (loadRule bs work) (viewOf bs)
 
--- document 01's number for an answer
-abbrev pub loadedNumber : Loaded → ℕ
-loadedNumber (View v) = 0
-loadedNumber (Refused r) = r
-
 -- the bytes break none of the rules
 abbrev pub Accepted : List ℕ → Type 0
 Accepted bs = (headerRule bs ▸ checksumRule bs ▸ sectionsRule (sectionsOf bs)) ≡ 0

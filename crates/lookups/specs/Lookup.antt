@@ -110,11 +110,6 @@ listItem s name =
     cond (blank name) answer.NotFound
     (cond (hasDot name) (lastItem s true (beforeDot name) (afterDot name)) (lastItem s false name name))
 
--- document 01's number for an answer
-abbrev pub listItemNumber : ListItemAnswer → ℕ
-listItemNumber (answer.Item i) = 0
-listItemNumber answer.NotFound = 18
-
 -- names on an `unfolding` line what a computation with this module needs
 unfoldable pub lookups : Unit {0}
 unfolding halving searched namedBy findNamed itemIn placeIn lastItem listItem views counted texts dots blanks sections

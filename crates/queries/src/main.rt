@@ -1,4 +1,4 @@
-// Runs document 01's examples of list items by name and of a relative walk through the code. Standard input holds three images,
+// Runs FORMAT.md's examples of list items by name and of a relative walk through the code. Standard input holds three images,
 // each behind its length: one with the definitions red and size, which both hold low; one whose root has a glue as its child; and that
 // one with a bit of its checksum turned, which is refused.
 ghost use Prim.Native.Nat.{_≤_};

@@ -3,7 +3,7 @@ use Prim.Native.Nat.{ℕ}
 use mathlib.Core.List.{List, [], _∷_}
 use lib.ListN.{getD}
 
--- document 01's kinds, in the order of their tags
+-- FORMAT.md's kinds, in the order of their tags
 pub data Kind : Type 0 where
   Container Choice Command Divert Glue Operator Tag BoolValue IntValue FloatValue StringValue ListValue TargetValue PointerValue Assignment Reference Void : Kind
   -- no tag of a node

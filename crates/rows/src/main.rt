@@ -1,4 +1,4 @@
-// Runs the load on the small example of each of document 01's rows 1 to 17, and on the examples at the edges. Standard input holds
+// Runs the load on the small example of each of FORMAT.md's rows 1 to 17, and on the examples at the edges. Standard input holds
 // records: words of work lent, length of the image, the image's bytes. A line is printed for each: its place, and the answer.
 use image::Section;
 use libc::STDIN_FILENO;

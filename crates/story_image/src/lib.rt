@@ -99,7 +99,7 @@ fn put_view(found: ImageView, view: &mut [u32])
     answers::put_words(&words, view);
 }
 
-// Document 01's number for an answer.
+// FORMAT.md's number for an answer.
 fn number_of(loaded: Loaded) -> u32
     ensures { λ r. ⌜ r ≡ ofLoaded loaded .number ⌝ }
 {

@@ -54,15 +54,7 @@ pub extern "C" fn story_image_write_words(
     let source = Source {
         version: ImageView::VERSION,
     };
-    let counts = draft::entry_counts(
-        nodes,
-        children,
-        named,
-        definitions,
-        items,
-        payload,
-        source,
-    );
+    let counts = draft::entry_counts(nodes, children, named, definitions, items, payload, source);
     match draft::work_words_fit(counts, LARGEST_SIZE) {
         Needed::TooMany => LARGEST_SIZE,
         Needed::Words(words) => words,

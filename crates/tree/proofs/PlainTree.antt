@@ -13,7 +13,8 @@ use Rattle.tree.specs.Tree.{entriesRule, entryNodes, turns, loadWalk, al
 use Rattle.tree.specs.Reach.{Reached, root, child, named}
 use Rattle.tree.specs.Parts.{EntriesOwned}
 use Rattle.laws.proofs.Members.{All, all-reverse, all-at, has-reverse, all-of, all-so, sum-ext}
-use Rattle.tree.proofs.Walks.{walk-keeps, walk-passes, walk-closed, Closed, pending, pushed}
+use Rattle.tree.proofs.Walks.{walk-keeps, walk-passes, walk-closed, Closed}
+use Rattle.tree.proofs.Walks.{pending, pushed}
 use Rattle.tree.proofs.Entries.{entry-each, child-entry, named-entry, entries-inside, entries-counted}
 
 -- what the loader's walk pushes

@@ -46,23 +46,6 @@ textQuery s t = cond (shown (length (s .strings)) (t .offset) (t .len)) (text.Te
 unfoldable pub shownText : List ℕ → ℕ → ℕ → List ℕ
 shownText strings at len = cond (shown (length strings) at len) (partAt strings at len) []
 
--- document 01's number for an answer
-abbrev pub foundNumber : Found → ℕ
-foundNumber (found.Node n) = 0
-foundNumber found.NotFound = 18
-
-abbrev pub countNumber : Count → ℕ
-countNumber (count.Of n) = 0
-countNumber count.NotFound = 18
-
-abbrev pub namedNumber : NamedAnswer → ℕ
-namedNumber (named.Named e) = 0
-namedNumber named.NotFound = 18
-
-abbrev pub textNumber : TextAnswer → ℕ
-textNumber (text.Text t) = 0
-textNumber text.NotFound = 18
-
 -- names on an `unfolding` line what a computation with this module needs
 unfoldable pub childrens : Unit {0}
 unfolding childCountOf namedCountOf childQuery namedEntry namedQuery textQuery shownText views sections

@@ -78,19 +78,6 @@ itemEntry s k =
 unfoldable pub itemQuery : Sections → ℕ → ℕ → ItemAnswer
 itemQuery s d j = cond (ltb d (definitionCount s) && ltb j (numberOfItems s d)) (itemEntry s (firstItem s d + j)) item.NotFound
 
--- document 01's number for an answer
-abbrev pub entryNumber : EntryAnswer → ℕ
-entryNumber (entry.Entry e) = 0
-entryNumber entry.NotFound = 18
-
-abbrev pub definitionNumber : DefinitionAnswer → ℕ
-definitionNumber (definition.Definition e) = 0
-definitionNumber definition.NotFound = 18
-
-abbrev pub itemNumber : ItemAnswer → ℕ
-itemNumber (item.Item e) = 0
-itemNumber item.NotFound = 18
-
 -- names on an `unfolding` line what a computation with this module needs
 unfoldable pub listings : Unit {0}
 unfolding listPart listEntry listEntryName listOrigin definitionQuery itemEntry itemQuery views words sections

@@ -117,11 +117,6 @@ module _ (strings : List ℕ) (payload : ℕ) (r : NodeRecord) where
 unfoldable pub nodeView : Sections → ℕ → NodeAnswer
 nodeView s i = cond (inside s i) (recordView (s .strings) (length (s .payload)) (nodeIn s i)) node.NotFound
 
--- document 01's number for an answer
-abbrev pub viewNumber : NodeAnswer → ℕ
-viewNumber (node.View v) = 0
-viewNumber node.NotFound = 18
-
 -- names on an `unfolding` line what a computation with this module needs
 unfoldable pub views : Unit {0}
 unfolding optionalText optionalWord pushType withText kindView recordView nodeView schema sections names

@@ -5,7 +5,7 @@ use mathlib.Core.Bool.{Bool, cond}
 use lib.ListN.{length, getD, take, drop}
 use lib.Dec.{eqb, leb}
 
--- document 01's NONE, the word with all bits set
+-- FORMAT.md's NONE, the word with all bits set
 abbrev pub NONE : ℕ
 NONE = 4294967295
 

@@ -29,7 +29,7 @@ use write_plan::Plan;
 use write_plan::Uses;
 use write_text_keys::Tables;
 
-// The length of the image that was written, or document 01's number.
+// The length of the image that was written, or FORMAT.md's number.
 pub enum Encoded {
     Written(u32),
     Refused(u32),
