@@ -92,13 +92,13 @@ module _ (bs : List ℕ) (v : ImageView) (k : ℕ) where
   pub named-read : entryFound (sectionBytes bs (v .named) textEntrySize) k ≡ namedFound (sectionsBy bs v) k
   unfolding entryFound namedFound
   named-read =
-      λ j. cond (ltb k (length (sym (named-by bs v) j) / 3))
+      λ j. cond (ltb k (length (sym (named-by bs v) j) / textEntryWords))
       (entry.Entry (named-entry (sectionsBy bs v) (wordsOf (sectionBytes bs (v .named) textEntrySize)) k (named-by bs v) j)) entry.NotFound
 
   pub item-read : entryFound (sectionBytes bs (v .items) textEntrySize) k ≡ itemFound (sectionsBy bs v) k
   unfolding entryFound itemFound
   item-read =
-      λ j. cond (ltb k (length (sym (items-by bs v) j) / 3))
+      λ j. cond (ltb k (length (sym (items-by bs v) j) / textEntryWords))
       (entry.Entry (item-entry (sectionsBy bs v) (wordsOf (sectionBytes bs (v .items) textEntrySize)) k (items-by bs v) j)) entry.NotFound
 
 -- ---- what an answer tells of the test that it was made by
