@@ -8,6 +8,8 @@ use lib.Dec.{eqb, leb}
 use borrow.Author.Tests.{eq-eqb, le-leb, eqb-true, leb-true}
 use Rattle.laws.specs.Refusal.{unless, firstOf}
 use Rattle.laws.proofs.First.{both, then, passed, pass, first-all, first-of}
+use Rattle.words.specs.Words.{wordAt}
+use Rattle.texts.proofs.Text.{same-equal, equal-same}
 use Rattle.image.specs.Sections.{Sections, nodeCount, indexCount, tagOf, inside}
 use Rattle.image.specs.Header.{headerRule, sectionsOf}
 use Rattle.image.proofs.Tests.{both-true}
@@ -22,17 +24,17 @@ use Rattle.index.specs.Definitions.{definitionsRule}
 use Rattle.index.proofs.Index.{index-passed, index-passes}
 use Rattle.index.proofs.Definitions.{definitions-passed, definitions-pass}
 use Rattle.load.specs.Load.{checksumRule, leftoverRule, recordsRule, sectionsRule, loadWords, loadRule, Accepted}
-use Rattle.promises.specs.Rules.{ChildRight, NamedRight, SectionsRight, BreaksNone, AcceptedExactly, LoadsExactly, LoadsEnough}
+use Rattle.promises.specs.Rules.{ChildRight, NamedRight, SectionsRight, HeaderRight, BreaksNone, DivertFlags, AcceptedExactly, LoadsExactly, LoadsEnough}
 use Rattle.promises.proofs.Fields.{text-right, right-text, node-right, right-node, container-right, right-container, fields-right, right-fields, parent-right, right-parent}
 
 -- ---- a container's entries
 
 module _ (s : Sections) (i j : ℕ) where
-  right-child : ChildRight s i j → childRule s i j ≡ 0
+  pub right-child : ChildRight s i j → childRule s i j ≡ 0
   unfolding childRule
   right-child r = pass _ 14 (rw (right-node s (childAt s i j) (r .node), eq-eqb _ _ (r .parent), eq-eqb _ _ (r .place)))
 
-  right-named : NamedRight s i j → namedRule s i j ≡ 0
+  pub right-named : NamedRight s i j → namedRule s i j ≡ 0
   unfolding namedRule
   right-named r =
       then _ _ (pass _ 14 (right-text s _ _ (r .text)))
@@ -150,6 +152,42 @@ module _ (s : Sections) where
         });
       }
 
+-- ---- the header
+
+module _ (bs : List ℕ) where
+  header-right : Opens bs → HeaderRight bs
+  header-right o =
+      let ink = both-true (leb 18 (wordAt bs 12)) _ (o .inked) in
+      record {
+        long = o .long;
+        magic-first = same-equal _ _ (o .marked);
+        versioned = eqb-true _ _ (o .versioned);
+        ink-least = leb-true _ _ (ink .0);
+        ink-most = leb-true _ _ (ink .1);
+        total = o .total;
+        begins = o .begins;
+        ends = o .ends;
+        whole = o .whole;
+        node = o .node;
+      }
+
+  pub right-header : HeaderRight bs → Opens bs
+  right-header r =
+      record {
+        long = r .long;
+        marked = equal-same _ _ (r .magic-first);
+        versioned = eq-eqb _ _ (r .versioned);
+        inked = rw (le-leb 18 (wordAt bs 12) (r .ink-least), le-leb (wordAt bs 12) 21 (r .ink-most));
+        total = r .total;
+        begins = r .begins;
+        ends = r .ends;
+        whole = r .whole;
+        node = r .node;
+      }
+
+pub divert-flags : DivertFlags
+divert-flags flags = (λ h. (omega arith, omega arith), λ h. omega (arith, h .0, h .1))
+
 -- ---- all bytes
 
 module _ (bs : List ℕ) where
@@ -163,16 +201,20 @@ module _ (bs : List ℕ) where
       let a = both (headerRule bs) _ p in
       let b = both (checksumRule bs) _ (a .1) in
       record {
-        header = opens bs (a .0);
+        header = header-right bs (opens bs (a .0));
         checksum = eqb-true _ _ (passed _ 5 (b .0));
         sections = sections-right (sectionsOf bs) (rows (sectionsOf bs) (b .1));
       }
 
+  -- the rules on its sections, one by one
+  pub accepted-passed : Accepted bs → Passed (sectionsOf bs)
+  accepted-passed p = rows (sectionsOf bs) (both (checksumRule bs) _ (both (headerRule bs) _ p .1) .1)
+
   pub right-accepted : BreaksNone bs → Accepted bs
   unfolding checksumRule
   right-accepted r =
-      then _ _ (opens-of bs (r .header))
-      (then _ _ (pass _ 6 (eq-eqb _ _ (r .checksum))) (all-rows (sectionsOf bs) (right-sections (sectionsOf bs) (some-node (r .header)) (r .sections))))
+      then _ _ (opens-of bs (right-header bs (r .header)))
+      (then _ _ (pass _ 6 (eq-eqb _ _ (r .checksum))) (all-rows (sectionsOf bs) (right-sections (sectionsOf bs) (some-node (right-header bs (r .header))) (r .sections))))
 
   -- whatever the work words
   pub load-accepted : (work : ℕ) → loadRule bs work ≡ 0 → Accepted bs

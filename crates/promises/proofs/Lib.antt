@@ -1,3 +1,4 @@
+pub mod Answers
 pub mod Fields
 pub mod Acceptance
 pub mod Premises
@@ -7,5 +8,8 @@ pub mod Nodes
 pub mod Entries
 pub mod Index
 pub mod Sound
+pub mod ViewParts
 pub mod Whole
 pub mod Readers
+pub mod Lookups
+pub mod PartsInside

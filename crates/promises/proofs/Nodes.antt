@@ -11,7 +11,8 @@ use lib.ListN.{length, List·getD-eq-default}
 use lib.Dec.{eqb}
 use borrow.Author.Tests.{eqb-true}
 use Rattle.words.specs.Words.{NONE}
-use Rattle.image.specs.Sections.{Sections, nodeCount, childCount, namedCount, nodeWord, parentOf, tagOf, f, isContainer}
+use Rattle.image.proofs.Widths.{words-some}
+use Rattle.image.specs.Sections.{Sections, nodeWords, nodeCount, childCount, namedCount, nodeWord, parentOf, tagOf, f, isContainer}
 use Rattle.records.specs.Fields.{kinds, kindOf, fields, Field, text, optional, command, operator, node, optionalNode, container, optionalContainer, plain, atMost, children, named, payload, wrong}
 use Rattle.records.specs.Records.{targetOf, fieldsAt, numberOfChildren, numberOfNamed, childrenBefore, namedBefore}
 use Rattle.records.proofs.PassedRules.{target}
@@ -56,11 +57,12 @@ field-texts s i wrong r = tt
 -- ---- parent steps
 
 -- no container lies past the nodes
-past : (s : Sections) (n : ℕ) → 0 < s .stride → nodeCount s < n → isContainer s n ≡ true → ⊥
+past : (s : Sections) (n : ℕ) → nodeCount s < n → isContainer s n ≡ true → ⊥
 unfolding nodeWord
-past s n w h c =
-    let long : length (s .nodes) < n * s .stride = div-lt-iff-lt-mul w .0 h in
-    false≢true (sym (ap (λ (t : ℕ). eqb t 1) (List·getD-eq-default (s .nodes) 0 {n = n * s .stride + 2} (omega arith))) ∙ c)
+past s n h c =
+    let some : 0 < nodeWords (s .version) = omega (arith, words-some (s .version)) in
+    let long : length (s .nodes) < n * nodeWords (s .version) = div-lt-iff-lt-mul some .0 h in
+    false≢true (sym (ap (λ (t : ℕ). eqb t 1) (List·getD-eq-default (s .nodes) 0 {n = n * nodeWords (s .version) + 2} (omega arith))) ∙ c)
 
 module _ (s : Sections) (g : Kept s) where
   -- ---- parents
@@ -69,7 +71,7 @@ module _ (s : Sections) (g : Kept s) where
   parent-inside : (i : ℕ) → i < nodeCount s → isContainer s (parentOf s i) ≡ true → parentOf s i < nodeCount s
   parent-inside i h c =
       elim (ℕ-discrete i 0) [
-        | yes e ↦ absurd (past s NONE (g .wide) (g .nodes) (sym (ap (isContainer s) (ap (parentOf s) e ∙ g .rules .root-parent)) ∙ c))
+        | yes e ↦ absurd (past s NONE (g .nodes) (sym (ap (isContainer s) (ap (parentOf s) e ∙ g .rules .root-parent)) ∙ c))
         | no d ↦ g .rules .parents i h (omega arith) .container .node .below
       ]
 

@@ -1,37 +1,40 @@
 -- What all proofs about accepted images start from: the rules in plain words, and that NONE is no number of a node or a child.
-use Prim.Native.Nat.{ℕ, _<_}
+use Prim.Native.Nat.{ℕ, _*_, _≤_, _<_}
 use mathlib.Core.Path.{_≡_}
 use mathlib.Core.List.{List}
 use native.Mathlib.Omega.{arith}
+use native.Mathlib.Nat.{mul-le-mul-left}
 use lib.ListN.{length}
 use Rattle.laws.specs.Lists.{Below}
 use Rattle.words.specs.Words.{NONE}
-use Rattle.image.specs.Sections.{Sections, nodeCount, childCount}
+use Rattle.image.specs.Sections.{Sections, nodeWords, nodeCount, childCount}
 use Rattle.image.specs.Header.{sectionsOf, viewOf}
-use Rattle.image.proofs.Views.{stride-by}
+use Rattle.image.proofs.Widths.{words-some}
 use Rattle.image.proofs.OpenedHeader.{view-inside, view-counts, length-word}
 use Rattle.load.specs.Load.{loadRule}
 use Rattle.promises.specs.Rules.{NodeRight, SectionsRight, BreaksNone}
-use Rattle.promises.proofs.Acceptance.{some-node, accepted-right, load-accepted}
+use Rattle.promises.proofs.Acceptance.{right-header, some-node, accepted-right, load-accepted}
 
 pub record Kept (s : Sections) : Type 0 where
   pub rules : SectionsRight s
   pub some : 0 < nodeCount s
-  pub wide : 0 < s .stride
   pub nodes : nodeCount s < NONE
   pub children : childCount s < NONE
+
+-- a node has ten words or more
+many : (n version : ℕ) → n * 40 ≤ n * (4 * nodeWords version)
+many n version = mul-le-mul-left n (omega (arith, words-some version))
 
 -- an image is shorter than a word can tell
 pub kept : (bs : List ℕ) → Below 256 bs → BreaksNone bs → Kept (sectionsOf bs)
 kept bs b r =
-    let i = view-inside bs (r .header) in
-    let c = view-counts bs (r .header) in
-    let l : length bs < 4294967296 = length-word bs b (r .header) in
+    let i = view-inside bs (right-header bs (r .header)) in
+    let c = view-counts bs (right-header bs (r .header)) in
+    let l : length bs < 4294967296 = length-word bs b (right-header bs (r .header)) in
     record {
       rules = r .sections;
-      some = some-node bs (r .header);
-      wide = omega (arith, stride-by bs (viewOf bs));
-      nodes = omega (arith, i .nodes, c .nodes);
+      some = some-node bs (right-header bs (r .header));
+      nodes = omega (arith, i .nodes, c .nodes, many (viewOf bs .nodes .count) (viewOf bs .version));
       children = omega (arith, i .children, c .children);
     }
 

@@ -7,25 +7,31 @@ use native.Mathlib.Omega.{arith}
 use native.Mathlib.Decide.{ℕ-discrete}
 use borrow.Author.Tests.{eq-eqb, ne-eqb, lt-ltb}
 use Rattle.words.specs.Words.{NONE}
-use Rattle.image.specs.Sections.{Sections, nodeCount, childCount, namedCount, parentOf, placeOf, tagOf, f, inside, isContainer, insideContainer}
+use Rattle.image.specs.Sections.{Sections, nodeCount, childCount, namedCount, definitionCount, itemCount, definitionWord, itemWord, parentOf, placeOf, tagOf, f, inside, isContainer, insideContainer}
 use Rattle.image.specs.declared.ImageView.{ImageView}
 use Rattle.image.specs.Header.{viewOf, sectionsBy}
 use Rattle.load.specs.declared.Loaded.the-variants.{View}
 use Rattle.load.specs.Load.{loadRule, loadedBy, loadedOf}
 use Rattle.image.proofs.Tests.{both-true}
 use Rattle.records.specs.Fields.{kindOf}
+use Rattle.index.specs.Definitions.{firstItem, numberOfItems}
 use Rattle.tree.specs.Tree.{childAt, namedAt}
 use Rattle.tree.specs.Reach.{climb}
 use Rattle.views.specs.declared.OptionalWord.the-variants as word
 use Rattle.views.specs.declared.NodeView.{NodeView}
 use Rattle.views.specs.declared.Count.the-variants as count
-use Rattle.views.specs.View.{span, optionalWord, nodeView}
+use Rattle.views.specs.View.{signed, span, optionalWord, nodeView}
 use Rattle.views.specs.Children.{childCountOf, namedCountOf, childQuery, namedEntry, namedQuery}
-use Rattle.promises.specs.Readers.{stepUp, ascend, ChildRead, NamedRead, Reads, AcceptedReads}
+use Rattle.views.specs.Lists.{definitionQuery, itemEntry, itemQuery}
+use Rattle.promises.specs.Readers.{stepUp, ascend, ChildRead, NamedRead, Reads, NumberedItemRead, DefinitionItemRead, DefinitionRead, ImageReads, AcceptedReads}
+use Rattle.promises.specs.Rules.{TextRight}
+use Rattle.promises.proofs.Answers.{given-equal, given-refused, loaded-given}
+use Rattle.promises.specs.Answers.{given, ofNode, ofCount, ofLoaded}
 use Rattle.promises.proofs.Fields.{right-node}
 use Rattle.promises.proofs.Views.{Seen, seen, shown-right}
 use Rattle.promises.proofs.Nodes.{reaches, child-range, named-range, child-right, named-right}
 use Rattle.promises.proofs.Premises.{Kept, load-kept, a-node}
+use Rattle.promises.proofs.Entries.{item-owner}
 use Rattle.promises.proofs.Whole.{right-whole, view-whole, view-read}
 
 -- ---- words that may be absent
@@ -43,9 +49,9 @@ apart n e = let z : _≡_ {A = ℕ} 0 1 = cc in omega arith
 
 -- ---- counts
 
-counted : (b : Bool) (m n : ℕ) → cond b (count.Of m) count.NotFound ≡ count.Of n → (b ≡ true) × (m ≡ n)
-counted true m n e = (refl, cc)
-counted false m n e = absurd (let z : _≡_ {A = ℕ} 0 1 = cc in omega arith)
+counted : (b : Bool) (m n : ℕ) → ofCount (cond b (count.Of m) count.NotFound) ≡ given n → (b ≡ true) × (m ≡ n)
+counted true m n e = (refl, given-equal m n e)
+counted false m n e = absurd (given-refused 17 n e)
 
 module _ (s : Sections) (g : Kept s) where
   -- the view of node i
@@ -96,7 +102,7 @@ module _ (s : Sections) (g : Kept s) where
           child = childAt s i j;
           found = rw (container-inside i h c, lt-ltb j (f s i 4) k, lt-ltb (f s i 3 + j) (childCount s) (omega arith));
           view = viewAt (childAt s i j) (q .node .below);
-          viewed = see (childAt s i j) (q .node .below) .view-is;
+          viewed = ap ofNode (see (childAt s i j) (q .node .below) .view-is);
           parent = parent-shown (childAt s i j) (q .parent);
           place = ap optionalWord (q .place) ∙ word-given j (λ e. omega (arith, g .children));
         }
@@ -117,7 +123,7 @@ module _ (s : Sections) (g : Kept s) where
               );
           name = right-whole s (namedAt s i j 0) (namedAt s i j 1) (q .text);
           view = viewAt (namedAt s i j 2) (q .container .node .below);
-          viewed = see (namedAt s i j 2) (q .container .node .below) .view-is;
+          viewed = ap ofNode (see (namedAt s i j 2) (q .container .node .below) .view-is);
           parent = parent-shown (namedAt s i j 2) (q .parent);
         }
 
@@ -130,8 +136,8 @@ module _ (s : Sections) (g : Kept s) where
         let up = reaches s g i h in
         record {
           view = viewAt i h;
-          viewed = v .view-is;
-          texts = view-whole s i (kindOf (tagOf s i)) (v .kind) (v .kind-is);
+          viewed = ap ofNode (v .view-is);
+          texts = view-whole s i (kindOf (tagOf s i)) (v .kind) (g .rules .fields i h) (v .kind-is);
           lists = view-read s i (kindOf (tagOf s i)) (v .kind) (g .rules .fields i h) (v .kind-is);
           ascends = λ k l. ascends-to (up .steps) i h (up .arrives) k (omega (arith, up .few));
           parentless = λ e. elim (ℕ-discrete i 0) [
@@ -148,16 +154,53 @@ module _ (s : Sections) (g : Kept s) where
               named-read (both-true (inside s i) (isContainer s i) (q .0) .1) j (omega (arith, q .1));
         }
 
+-- ---- definitions and items
+
+module _ (s : Sections) (g : Kept s) where
+  item-read : (k : ℕ) → k < itemCount s → TextRight s (itemWord s k 0) (itemWord s k 1) → NumberedItemRead s k
+  unfolding itemEntry
+  item-read k h t =
+      record {
+        item = record { name = span (itemWord s k 0) (itemWord s k 1); value = signed (itemWord s k 2) };
+        found = rw (lt-ltb k (itemCount s) h, shown-right s (itemWord s k 0) (itemWord s k 1) t);
+        name = right-whole s (itemWord s k 0) (itemWord s k 1) t;
+      }
+
+  each-item : (k : ℕ) → k < itemCount s → NumberedItemRead s k
+  each-item k h =
+      let o = item-owner s g k h in
+      item-read k h (subst (λ (x : ℕ). TextRight s (itemWord s x 0) (itemWord s x 1)) (sym (o .there)) (o .right .text))
+
+  definition-item : (d : ℕ) → d < definitionCount s → (j : ℕ) → j < numberOfItems s d → DefinitionItemRead s d j
+  unfolding itemQuery
+  definition-item d h j l =
+      let q = g .rules .definitions d h in
+      let r = item-read (firstItem s d + j) (omega (arith, q .inside)) (q .items j l .text) in
+      record { item = r .item; found = rw (lt-ltb d (definitionCount s) h, lt-ltb j (numberOfItems s d) l) (r .found); name = r .name }
+
+  definition-read : (d : ℕ) → d < definitionCount s → DefinitionRead s d
+  unfolding definitionQuery
+  definition-read d h =
+      let q = g .rules .definitions d h in
+      record {
+        definition = record { name = span (definitionWord s d 0) (definitionWord s d 1); items = numberOfItems s d };
+        found = rw (lt-ltb d (definitionCount s) h, shown-right s (definitionWord s d 0) (definitionWord s d 1) (q .text));
+        name = right-whole s (definitionWord s d 0) (definitionWord s d 1) (q .text);
+        items = definition-item d h;
+      }
+
+  pub image-reads : ImageReads s
+  image-reads = record { nodes = reads s g; definitions = definition-read; items = each-item }
+
 -- ---- after a load
 
 -- a view is answered where nothing was refused, and is the header's
-answered : (n : ℕ) (w v : ImageView) → loadedBy n w ≡ View v → (n ≡ 0) × (w ≡ v)
+pub answered : (n : ℕ) (w v : ImageView) → loadedBy n w ≡ View v → (n ≡ 0) × (w ≡ v)
 answered zero w v e = (refl, cc)
 answered (suc n) w v e = absurd (let z : _≡_ {A = ℕ} 0 1 = cc in omega arith)
 
 pub accepted-reads : AcceptedReads
 unfolding loadedOf
 accepted-reads bs work v b e =
-    let a = answered (loadRule bs work) (viewOf bs) v e in
-    subst (λ (x : ImageView). (i : ℕ) → i < nodeCount (sectionsBy bs x) → Reads (sectionsBy bs x) i) (a .1)
-    (reads (sectionsBy bs (viewOf bs)) (load-kept bs work b (a .0)))
+    let a = answered (loadRule bs work) (viewOf bs) v (loaded-given (loadedOf bs work) v e) in
+    subst (λ (x : ImageView). ImageReads (sectionsBy bs x)) (a .1) (image-reads (sectionsBy bs (viewOf bs)) (load-kept bs work b (a .0)))

@@ -28,7 +28,8 @@ use Rattle.views.specs.declared.NodeKindView.{NodeKindView}
 use Rattle.views.specs.declared.KindAnswer.{KindAnswer}
 use Rattle.views.specs.declared.KindAnswer.the-variants as kindly
 use Rattle.views.specs.declared.NodeAnswer.the-variants as node
-use Rattle.views.specs.View.{span, shown, optionalWord, ofCommand, ofOperator, withText, kindView, recordView, nodeView, viewNumber}
+use Rattle.views.specs.View.{span, shown, optionalWord, ofCommand, ofOperator, withText, kindView, recordView, nodeView}
+use Rattle.promises.specs.Answers.{ofNode}
 use Rattle.promises.specs.Rules.{TextRight, NodeRight, FieldRight}
 use Rattle.promises.proofs.Fields.{right-node}
 
@@ -116,5 +117,5 @@ module _ (s : Sections) (i : ℕ) where
       by (kindly.Kind k) e g = record { kind = k; kind-is = e; view-is = rw (right-node s i n, e) }
       by kindly.NotFound e g = absurd g
 
-  pub viewed : NodeRight s i → Right (kindOf (tagOf s i)) → viewNumber (nodeView s i) ≡ 0
-  viewed n r = ap viewNumber (seen n r .view-is)
+  pub viewed : NodeRight s i → Right (kindOf (tagOf s i)) → ofNode (nodeView s i) .number ≡ 0
+  viewed n r = ap (λ a. ofNode a .number) (seen n r .view-is)

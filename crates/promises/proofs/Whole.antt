@@ -1,129 +1,83 @@
--- Texts and list values of a view whose node keeps the rules are handed back whole.
-use Prim.Native.Nat.{ℕ, _+_, _*_, _/_, _≤_, _<_}
+-- Texts and list values of a view whose node keeps the rules are handed back whole, and the texts are UTF-8.
+use Prim.Native.Nat.{ℕ, _+_, _*_, _≤_, _<_}
 use mathlib.Core.Path.{_≡_, refl, sym, ap, _∙_, subst}
-use mathlib.Core.Logic.{⊎-elim}
-use mathlib.Core.List.{List, [], _∷_, _++_, List·Memᴰ, List·Memᴰ·head, List·Memᴰ·not-nil, List·Memᴰ·eq-of-singleton, List·Memᴰ·append-cases}
-use mathlib.Core.Bool.{Bool, true, false, cond}
-use mathlib.Core.Option.{Option, none, some}
+use mathlib.Core.Logic.{_⊎_, inl, inr}
+use mathlib.Core.List.{List, List·Memᴰ, List·Memᴰ·head}
+use mathlib.Core.Bool.{Bool, true, false, true≢false}
 use native.Mathlib.Omega.{arith}
 use lib.ListN.{length}
 use lib.Dec.{leb}
-use borrow.Author.Tests.{le-leb, lt-ltb, leb-true}
-use Rattle.words.specs.Words.{wordAt}
+use borrow.Author.Tests.{eq-eqb, le-leb, lt-ltb, leb-true}
+use Rattle.words.specs.Words.{NONE, wordAt}
 use Rattle.words.proofs.Words.{word-part}
-use Rattle.names.specs.declared.control_command.CommandType.{CommandType}
-use Rattle.names.specs.declared.native_function_call.Op.{Op}
-use Rattle.names.specs.ControlCommand.{commandNamed}
-use Rattle.names.specs.NativeFunctionCall.{operatorNamed}
-use Rattle.image.specs.Sections.{Sections, f, partAt, textOrEmpty, present}
-use Rattle.image.specs.Entries.{nodeIn}
+use Rattle.image.specs.Sections.{Sections, f, partAt, present}
 use Rattle.image.proofs.Tests.{both-true}
 use Rattle.image.proofs.Parts.{part-length, text-inside}
-use Rattle.records.specs.Fields.{Kind, Container, Choice, Command, Divert, Glue, Operator, Tag, BoolValue, IntValue, FloatValue, StringValue, ListValue, TargetValue, PointerValue, Assignment, Reference, Void, Unknown, fields}
+use Rattle.records.specs.Fields.{Kind, ListValue, fields, Field, text, optional, command, operator, node, optionalNode, container, optionalContainer, plain, atMost, children, named, payload, wrong}
 use Rattle.records.specs.Records.{listWord, listItems, listOrigins, listItemWord, listOriginWord}
 use Rattle.views.specs.declared.Span.{Span}
 use Rattle.views.specs.declared.NodeKindView.{NodeKindView}
-use Rattle.views.specs.declared.KindAnswer.{KindAnswer}
 use Rattle.views.specs.declared.KindAnswer.the-variants as kindly
-use Rattle.views.specs.View.{signed, span, shown, optionalText, ofCommand, ofOperator, withText, kindView}
+use Rattle.views.specs.View.{signed, span, shown, optionalText}
 use Rattle.views.specs.Children.{textQuery, shownText}
 use Rattle.views.specs.Lists.{listPart, itemEntryWord, originEntryWord, listEntry, listOrigin}
-use Rattle.promises.specs.Rules.{TextRight, PayloadRight}
+use Rattle.promises.specs.Rules.{TextRight, OptionalRight, FieldRight, PayloadRight}
 use Rattle.promises.specs.Readers.{Whole, textsIn, viewTexts, ItemRead, OriginRead, ListRead, viewLists}
 use Rattle.promises.proofs.Views.{Right, shown-right}
+use Rattle.promises.proofs.ViewParts.{All, kindAt, Shows, optional-all, FieldShows, view-texts, ListShows, view-lists}
 
 -- ---- texts
 
-pub shown-whole : (s : Sections) (at len : ℕ) → shown (length (s .strings)) at len ≡ true → Whole s (span at len)
-unfolding textQuery shownText
-shown-whole s at len h =
-    record {
-      found = rw h;
-      whole = rw h (part-length (s .strings) at len (leb-true (at + len) (length (s .strings)) (both-true (present at len) _ h .1)));
-    }
+-- the part that is handed back, where the text is shown
+pub shown-part : (s : Sections) (at len : ℕ) → shown (length (s .strings)) at len ≡ true → shownText (s .strings) at len ≡ partAt (s .strings) at len
+unfolding shownText
+shown-part s at len h = rw h
+
+pub shown-length : (s : Sections) (at len : ℕ) → shown (length (s .strings)) at len ≡ true → length (shownText (s .strings) at len) ≡ len
+shown-length s at len h =
+    ap length (shown-part s at len h)
+    ∙ part-length (s .strings) at len (leb-true (at + len) (length (s .strings)) (both-true (present at len) _ h .1))
 
 pub right-whole : (s : Sections) (at len : ℕ) → TextRight s at len → Whole s (span at len)
-right-whole s at len t = shown-whole s at len (shown-right s at len t)
+unfolding textQuery
+right-whole s at len t =
+    let h = shown-right s at len t in
+    record {
+      found = rw h;
+      whole = shown-length s at len h;
+      encoded = rw (shown-part s at len h) (t .encoded);
+    }
 
--- each text of a list is handed back whole
-abbrev AllWhole : Sections → List Span → Type 0
-AllWhole s ts = (t : Span) → List·Memᴰ t ts → Whole s t
+-- a text that may be absent and is shown is right
+none-shown : (n at len : ℕ) → at ≡ NONE → shown n at len ≡ true → ⊥
+none-shown n at len e h = true≢false (sym (rw (eq-eqb at NONE e) at h))
 
-none-whole : (s : Sections) → AllWhole s []
-none-whole s t m = absurd (List·Memᴰ·not-nil m)
+optional-shows : (s : Sections) (at len : ℕ) → OptionalRight s at len → Shows s (Whole s) at len
+optional-shows s at len (inl e) h = absurd (none-shown (length (s .strings)) at len (e .0) h)
+optional-shows s at len (inr t) h = right-whole s at len t
 
-one-whole : (s : Sections) (t : Span) → Whole s t → AllWhole s (t ∷ [])
-one-whole s t w u m = subst (λ (x : Span). Whole s x) (sym (List·Memᴰ·eq-of-singleton m)) w
-
-both-whole : (s : Sections) (ts us : List Span) → AllWhole s ts → AllWhole s us → AllWhole s (ts ++ us)
-both-whole s ts us a b t m = ⊎-elim (a t) (b t) (List·Memᴰ·append-cases ts m)
-
-pub optional-whole : (s : Sections) (at len : ℕ) → AllWhole s (textsIn (optionalText (length (s .strings)) at len))
-unfolding optionalText
-optional-whole s at len = by (shown (length (s .strings)) at len) refl
-  where
-    by : (b : Bool) → shown (length (s .strings)) at len ≡ b → AllWhole s (textsIn (optionalText (length (s .strings)) at len))
-    by true e = rw e (one-whole s (span at len) (shown-whole s at len e))
-    by false e = rw e (none-whole s)
-
--- ---- the texts of a kind
-
-abbrev KindWhole : Sections → KindAnswer → Type 0
-KindWhole s (kindly.Kind k) = AllWhole s (viewTexts k)
-KindWhole s kindly.NotFound = Unit {0}
-
-command-whole : (s : Sections) (o : Option CommandType) → KindWhole s (ofCommand o)
-command-whole s none = tt
-command-whole s (some c) = none-whole s
-
-operator-whole : (s : Sections) (o : Option Op) → KindWhole s (ofOperator o)
-operator-whole s none = tt
-operator-whole s (some c) = none-whole s
+pub optional-whole : (s : Sections) (at len : ℕ) → OptionalRight s at len → All (Whole s) (textsIn (optionalText (length (s .strings)) at len))
+optional-whole s at len r = optional-all s (Whole s) at len (optional-shows s at len r)
 
 module _ (s : Sections) (i : ℕ) where
-  abbrev kindAt : Kind → KindAnswer
-  kindAt k = kindView (s .strings) (length (s .payload)) (nodeIn s i) k
+  field-shows : (x : Field) → FieldRight s i x → FieldShows s (Whole s) i x
+  field-shows (text k) r = λ h. right-whole s (f s i k) (f s i (k + 1)) r
+  field-shows (optional k) r = optional-shows s (f s i k) (f s i (k + 1)) r
+  field-shows (command k) r = tt
+  field-shows (operator k) r = tt
+  field-shows (node k) r = tt
+  field-shows (optionalNode k) r = tt
+  field-shows (container k) r = tt
+  field-shows (optionalContainer k) r = tt
+  field-shows (plain k) r = tt
+  field-shows (atMost k n) r = tt
+  field-shows children r = tt
+  field-shows named r = tt
+  field-shows payload r = tt
+  field-shows wrong r = tt
 
-  with-whole : (g : Span → KindAnswer) → (shown (length (s .strings)) (f s i 0) (f s i 1) ≡ true → KindWhole s (g (span (f s i 0) (f s i 1))))
-      → KindWhole s (withText (s .strings) (nodeIn s i) g)
-  unfolding withText
-  with-whole g h = by (shown (length (s .strings)) (f s i 0) (f s i 1)) refl
-    where
-      by : (b : Bool) → shown (length (s .strings)) (f s i 0) (f s i 1) ≡ b → KindWhole s (withText (s .strings) (nodeIn s i) g)
-      by true e = rw e (h e)
-      by false e = rw e tt
-
-  first-whole : shown (length (s .strings)) (f s i 0) (f s i 1) ≡ true → AllWhole s (span (f s i 0) (f s i 1) ∷ [])
-  first-whole e = one-whole s _ (shown-whole s (f s i 0) (f s i 1) e)
-
-  -- where a test passes, or nothing
-  tested : (b : Bool) (k : NodeKindView) → AllWhole s (viewTexts k) → KindWhole s (cond b (kindly.Kind k) kindly.NotFound)
-  tested true k a = a
-  tested false k a = tt
-
-  pub kind-whole : (k : Kind) → KindWhole s (kindAt k)
-  unfolding kindView
-  kind-whole Container = optional-whole s (f s i 0) (f s i 1)
-  kind-whole Choice = none-whole s
-  kind-whole Command = with-whole _ (λ e. command-whole s (commandNamed (textOrEmpty (s .strings) (f s i 0) (f s i 1))))
-  kind-whole Divert = tested (leb (f s i 6 / 8) 2) _ (both-whole s _ _ (optional-whole s (f s i 0) (f s i 1)) (optional-whole s (f s i 3) (f s i 4)))
-  kind-whole Glue = none-whole s
-  kind-whole Operator = with-whole _ (λ e. operator-whole s (operatorNamed (textOrEmpty (s .strings) (f s i 0) (f s i 1))))
-  kind-whole Tag = with-whole _ first-whole
-  kind-whole BoolValue = none-whole s
-  kind-whole IntValue = none-whole s
-  kind-whole FloatValue = none-whole s
-  kind-whole StringValue = with-whole _ first-whole
-  kind-whole ListValue = tested (leb (f s i 0 + f s i 1) (length (s .payload))) _ (none-whole s)
-  kind-whole TargetValue = with-whole _ first-whole
-  kind-whole PointerValue = with-whole _ first-whole
-  kind-whole Assignment = with-whole _ first-whole
-  kind-whole Reference = with-whole _ first-whole
-  kind-whole Void = none-whole s
-  kind-whole Unknown = tt
-
-  pub view-whole : (k : Kind) (q : NodeKindView) → kindAt k ≡ kindly.Kind q → AllWhole s (viewTexts q)
-  view-whole k q e = subst (KindWhole s) e (kind-whole k)
+  pub view-whole : (k : Kind) (q : NodeKindView) → Right s i k → kindAt s i k ≡ kindly.Kind q → All (Whole s) (viewTexts q)
+  view-whole k q r = view-texts s (Whole s) i k q (λ x m. field-shows x (r x m))
 
 -- ---- a list's payload
 
@@ -170,7 +124,8 @@ module _ (s : Sections) (at len : ℕ) (r : PayloadRight s at len) where
             = rw (item-word j 2 h (omega arith), item-word j 3 h (omega arith)) (shown-right s _ _ name) in
             rw (le-leb (8 + j * 20 + 20) (length part) (omega (arith, part-long, r .exact)), lt-ltb j (wordAt part 0) (omega (arith, items-are)), shows);
         name = rw (item-word j 2 h (omega arith), item-word j 3 h (omega arith)) (right-whole s _ _ name);
-        origin = optional-whole s (itemEntryWord part j 0) (itemEntryWord part j 1);
+        origin = optional-whole s (itemEntryWord part j 0) (itemEntryWord part j 1)
+            (rw (item-word j 0 h (omega arith), item-word j 1 h (omega arith)) (r .item-origin j h));
       }
 
   origin-read : (j : ℕ) → j < listOrigins s at → OriginRead s (span at len) j
@@ -193,61 +148,12 @@ module _ (s : Sections) (at len : ℕ) (r : PayloadRight s at len) where
   pub list-read : ListRead s (span at len)
   list-read = record { items = λ j h. item-read j (omega (arith, items-are)); origins = λ j h. origin-read j (omega (arith, origins-are)) }
 
--- ---- the list values of a kind
-
-abbrev AllRead : Sections → List Span → Type 0
-AllRead s ps = (p : Span) → List·Memᴰ p ps → ListRead s p
-
-none-read : (s : Sections) → AllRead s []
-none-read s p m = absurd (List·Memᴰ·not-nil m)
-
-abbrev KindRead : Sections → KindAnswer → Type 0
-KindRead s (kindly.Kind k) = AllRead s (viewLists k)
-KindRead s kindly.NotFound = Unit {0}
-
-command-read : (s : Sections) (o : Option CommandType) → KindRead s (ofCommand o)
-command-read s none = tt
-command-read s (some c) = none-read s
-
-operator-read : (s : Sections) (o : Option Op) → KindRead s (ofOperator o)
-operator-read s none = tt
-operator-read s (some c) = none-read s
+-- ---- the list values of a view
 
 module _ (s : Sections) (i : ℕ) where
-  with-read : (g : Span → KindAnswer) → KindRead s (g (span (f s i 0) (f s i 1))) → KindRead s (withText (s .strings) (nodeIn s i) g)
-  unfolding withText
-  with-read g h = by (shown (length (s .strings)) (f s i 0) (f s i 1))
-    where
-      by : (b : Bool) → KindRead s (cond b (g (span (f s i 0) (f s i 1))) kindly.NotFound)
-      by true = h
-      by false = tt
+  list-shows : (k : Kind) → Right s i k → k ≡ ListValue → ListShows s (ListRead s) i
+  unfolding fields
+  list-shows k r e h = list-read s (f s i 0) (f s i 1) (subst (λ (x : Kind). Right s i x) e r payload (List·Memᴰ·head refl) .1)
 
-  tested-read : (b : Bool) (k : NodeKindView) → AllRead s (viewLists k) → KindRead s (cond b (kindly.Kind k) kindly.NotFound)
-  tested-read true k a = a
-  tested-read false k a = tt
-
-  kind-read : (k : Kind) → Right s i k → KindRead s (kindAt s i k)
-  unfolding fields kindView
-  kind-read ListValue r =
-      tested-read (leb (f s i 0 + f s i 1) (length (s .payload))) _
-      (λ p m. subst (λ (x : Span). ListRead s x) (sym (List·Memᴰ·eq-of-singleton m)) (list-read s (f s i 0) (f s i 1) (r _ (List·Memᴰ·head refl) .1)))
-  kind-read Container r = none-read s
-  kind-read Choice r = none-read s
-  kind-read Command r = with-read _ (command-read s (commandNamed (textOrEmpty (s .strings) (f s i 0) (f s i 1))))
-  kind-read Divert r = tested-read (leb (f s i 6 / 8) 2) _ (none-read s)
-  kind-read Glue r = none-read s
-  kind-read Operator r = with-read _ (operator-read s (operatorNamed (textOrEmpty (s .strings) (f s i 0) (f s i 1))))
-  kind-read Tag r = with-read _ (none-read s)
-  kind-read BoolValue r = none-read s
-  kind-read IntValue r = none-read s
-  kind-read FloatValue r = none-read s
-  kind-read StringValue r = with-read _ (none-read s)
-  kind-read TargetValue r = with-read _ (none-read s)
-  kind-read PointerValue r = with-read _ (none-read s)
-  kind-read Assignment r = with-read _ (none-read s)
-  kind-read Reference r = with-read _ (none-read s)
-  kind-read Void r = none-read s
-  kind-read Unknown r = tt
-
-  pub view-read : (k : Kind) (q : NodeKindView) → Right s i k → kindAt s i k ≡ kindly.Kind q → AllRead s (viewLists q)
-  view-read k q r e = subst (KindRead s) e (kind-read k r)
+  pub view-read : (k : Kind) (q : NodeKindView) → Right s i k → kindAt s i k ≡ kindly.Kind q → All (ListRead s) (viewLists q)
+  view-read k q r = view-lists s (ListRead s) i k q (list-shows k r)

@@ -17,7 +17,8 @@ use Rattle.texts.specs.Dots.{dot}
 use Rattle.index.specs.Paths.{canonicalPath}
 use Rattle.index.specs.Index.{indexText}
 use Rattle.load.specs.Load.{loadRule}
-use Rattle.views.specs.View.{nodeView, viewNumber}
+use Rattle.views.specs.View.{nodeView}
+use Rattle.promises.specs.Answers.{ofNode}
 
 -- ---- parent steps
 
@@ -81,7 +82,7 @@ pub record NamedChild (s : Sections) (i j : ℕ) : Type 0 where
 
 pub record NodeSound (s : Sections) (i : ℕ) : Type 0 where
   -- the query gives a view and not 18
-  pub viewed : viewNumber (nodeView s i) ≡ 0
+  pub viewed : ofNode (nodeView s i) .number ≡ 0
   pub root : ReachesRoot s i
   pub ordered : isContainer s i ≡ true → (j : ℕ) → j < f s i 4 → OrderedChild s i j
   pub named : isContainer s i ≡ true → (j : ℕ) → j < f s i 6 → NamedChild s i j

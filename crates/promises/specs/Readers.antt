@@ -6,10 +6,9 @@ use mathlib.Core.Bool.{true}
 use lib.ListN.{length}
 use Rattle.laws.specs.Lists.{Below}
 use Rattle.words.specs.Words.{wordAt}
-use Rattle.image.specs.Sections.{Sections, nodeCount, f, isContainer}
+use Rattle.image.specs.Sections.{Sections, goodBytes, nodeCount, definitionCount, itemCount, f, isContainer}
 use Rattle.image.specs.declared.ImageView.{ImageView}
 use Rattle.image.specs.Header.{sectionsBy}
-use Rattle.load.specs.declared.Loaded.the-variants.{View}
 use Rattle.load.specs.Load.{loadedOf}
 use Rattle.views.specs.declared.Span.{Span}
 use Rattle.views.specs.declared.OptionalText.{OptionalText}
@@ -23,23 +22,22 @@ use Rattle.views.specs.declared.NodeKindView.the-variants as kind
 use Rattle.views.specs.declared.NodeView.{NodeView}
 use Rattle.views.specs.declared.NodeAnswer.{NodeAnswer}
 use Rattle.views.specs.declared.NodeAnswer.the-variants as node
-use Rattle.views.specs.declared.Found.the-variants as found
-use Rattle.views.specs.declared.Count.the-variants as count
 use Rattle.views.specs.declared.NamedChildView.{NamedChildView}
-use Rattle.views.specs.declared.NamedAnswer.the-variants as named
-use Rattle.views.specs.declared.TextAnswer.the-variants as text
 use Rattle.views.specs.declared.ListEntry.{ListEntry}
-use Rattle.views.specs.declared.EntryAnswer.the-variants as entry
+use Rattle.views.specs.declared.DefinitionView.{DefinitionView}
+use Rattle.views.specs.declared.ItemView.{ItemView}
 use Rattle.views.specs.View.{nodeView}
 use Rattle.views.specs.Children.{childCountOf, namedCountOf, childQuery, namedQuery, textQuery, shownText}
-use Rattle.views.specs.Lists.{listPart, listEntry, listOrigin}
+use Rattle.views.specs.Lists.{listPart, listEntry, listOrigin, definitionQuery, itemEntry, itemQuery}
+use Rattle.promises.specs.Answers.{given, ofLoaded, ofNode, ofFound, ofCount, ofNamed, ofText, ofEntry, ofDefinition, ofItem}
 
 -- ---- texts
 
--- a text is handed back whole: it is found, and its part of the strings has its length
+-- a text is handed back whole: it is found, its part of the strings has its length, and its bytes are good
 pub record Whole (s : Sections) (t : Span) : Type 0 where
-  pub found : textQuery s t ≡ text.Text t
+  pub found : ofText (textQuery s t) ≡ given t
   pub whole : length (shownText (s .strings) (t .offset) (t .len)) ≡ t .len
+  pub encoded : goodBytes (shownText (s .strings) (t .offset) (t .len)) ≡ true
 
 -- the text, where there is one
 abbrev pub textsIn : OptionalText → List Span
@@ -74,14 +72,14 @@ viewTexts kind.Void = []
 -- item j is found, and its texts are handed back whole
 pub record ItemRead (s : Sections) (p : Span) (j : ℕ) : Type 0 where
   pub item : ListEntry
-  pub found : listEntry (listPart s p) (s .strings) j ≡ entry.Entry item
+  pub found : ofEntry (listEntry (listPart s p) (s .strings) j) ≡ given item
   pub name : Whole s (item .name)
   pub origin : (t : Span) → List·Memᴰ t (textsIn (item .origin)) → Whole s t
 
 -- so is origin j
 pub record OriginRead (s : Sections) (p : Span) (j : ℕ) : Type 0 where
   pub origin : Span
-  pub found : listOrigin (listPart s p) (s .strings) j ≡ text.Text origin
+  pub found : ofText (listOrigin (listPart s p) (s .strings) j) ≡ given origin
   pub whole : Whole s origin
 
 pub record ListRead (s : Sections) (p : Span) : Type 0 where
@@ -132,39 +130,65 @@ ascend s (suc k) i = ascend s k (stepUp i (nodeView s i))
 -- ordered child j is found, and its view names the node and the place
 pub record ChildRead (s : Sections) (i j : ℕ) : Type 0 where
   pub child : ℕ
-  pub found : childQuery s i j ≡ found.Node child
+  pub found : ofFound (childQuery s i j) ≡ given child
   pub view : NodeView
-  pub viewed : nodeView s child ≡ node.View view
+  pub viewed : ofNode (nodeView s child) ≡ given view
   pub parent : view .parent ≡ word.Present i
   pub place : view .«child_index» ≡ word.Present j
 
 -- named child j is found, its name is handed back whole, and its view names the node
 pub record NamedRead (s : Sections) (i j : ℕ) : Type 0 where
   pub child : NamedChildView
-  pub found : namedQuery s i j ≡ named.Named child
+  pub found : ofNamed (namedQuery s i j) ≡ given child
   pub name : Whole s (child .name)
   pub view : NodeView
-  pub viewed : nodeView s (child .node) ≡ node.View view
+  pub viewed : ofNode (nodeView s (child .node)) ≡ given view
   pub parent : view .parent ≡ word.Present i
 
 -- ---- a reader at node i
 
 pub record Reads (s : Sections) (i : ℕ) : Type 0 where
   pub view : NodeView
-  pub viewed : nodeView s i ≡ node.View view
+  pub viewed : ofNode (nodeView s i) ≡ given view
   pub texts : (t : Span) → List·Memᴰ t (viewTexts (view .kind)) → Whole s t
   pub lists : (p : Span) → List·Memᴰ p (viewLists (view .kind)) → ListRead s p
   -- fewer steps than nodes lead to node 0, which alone has no parent
   pub ascends : (k : ℕ) → nodeCount s ≤ suc k → ascend s k i ≡ 0
   pub parentless : view .parent ≡ word.Absent → i ≡ 0
   -- a container has both counts; below them no child is missing
-  pub child-count : isContainer s i ≡ true → childCountOf s i ≡ count.Of (f s i 4)
-  pub named-count : isContainer s i ≡ true → namedCountOf s i ≡ count.Of (f s i 6)
-  pub child : (n : ℕ) → childCountOf s i ≡ count.Of n → (j : ℕ) → j < n → ChildRead s i j
-  pub named : (n : ℕ) → namedCountOf s i ≡ count.Of n → (j : ℕ) → j < n → NamedRead s i j
+  pub child-count : isContainer s i ≡ true → ofCount (childCountOf s i) ≡ given (f s i 4)
+  pub named-count : isContainer s i ≡ true → ofCount (namedCountOf s i) ≡ given (f s i 6)
+  pub child : (n : ℕ) → ofCount (childCountOf s i) ≡ given n → (j : ℕ) → j < n → ChildRead s i j
+  pub named : (n : ℕ) → ofCount (namedCountOf s i) ≡ given n → (j : ℕ) → j < n → NamedRead s i j
+
+-- ---- definitions and items
+
+-- item k of all is found, and its name is handed back whole
+pub record NumberedItemRead (s : Sections) (k : ℕ) : Type 0 where
+  pub item : ItemView
+  pub found : ofItem (itemEntry s k) ≡ given item
+  pub name : Whole s (item .name)
+
+-- so is the j-th item of definition d
+pub record DefinitionItemRead (s : Sections) (d j : ℕ) : Type 0 where
+  pub item : ItemView
+  pub found : ofItem (itemQuery s d j) ≡ given item
+  pub name : Whole s (item .name)
+
+-- definition d is found, its name is handed back whole, and no item below its count is missing
+pub record DefinitionRead (s : Sections) (d : ℕ) : Type 0 where
+  pub definition : DefinitionView
+  pub found : ofDefinition (definitionQuery s d) ≡ given definition
+  pub name : Whole s (definition .name)
+  pub items : (j : ℕ) → j < definition .items → DefinitionItemRead s d j
+
+-- ---- all of it
+
+pub record ImageReads (s : Sections) : Type 0 where
+  pub nodes : (i : ℕ) → i < nodeCount s → Reads s i
+  pub definitions : (d : ℕ) → d < definitionCount s → DefinitionRead s d
+  pub items : (k : ℕ) → k < itemCount s → NumberedItemRead s k
 
 -- of bytes that a load accepts, with the view that it answers
 abbrev pub AcceptedReads : Type 0
-AcceptedReads =
-    (bs : List ℕ) (work : ℕ) (v : ImageView) → Below 256 bs → loadedOf bs work ≡ View v
-    → (i : ℕ) → i < nodeCount (sectionsBy bs v) → Reads (sectionsBy bs v) i
+AcceptedReads = (bs : List ℕ) (work : ℕ) (v : ImageView) → Below 256 bs → ofLoaded (loadedOf bs work) ≡ given v → ImageReads (sectionsBy bs v)

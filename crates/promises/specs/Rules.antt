@@ -1,18 +1,16 @@
 -- What a load asks of its bytes, rule by rule in plain words. Acceptance is exactly this (proofs/Acceptance).
-use Prim.Native.Nat.{ℕ, _+_, _*_, _≤_, _<_}
+use Prim.Native.Nat.{ℕ, suc, _+_, _*_, _/_, _≤_, _<_}
 use mathlib.Core.Path.{_≡_}
 use mathlib.Core.Logic.{_≢_, _⊎_}
 use mathlib.Core.List.{List, List·Memᴰ}
 use mathlib.Core.Bool.{true}
-use lib.ListN.{length}
+use lib.ListN.{length, take}
 use Rattle.words.specs.Words.{NONE, wordAt}
-use Rattle.utf8.specs.Utf8.{utf8}
 use Rattle.texts.specs.Text.{holds, rising}
 use Rattle.names.specs.Names.{commands, operators}
 use Rattle.checksum.specs.Crc.{checksumOf}
-use Rattle.image.specs.Sections.{Sections, nodeCount, childCount, namedCount, definitionCount, itemCount, indexCount, parentOf, placeOf, tagOf, f, definitionWord, itemWord, indexWord, textAt}
-use Rattle.image.specs.Header.{sectionsOf}
-use Rattle.image.proofs.OpenedHeader.{Opens}
+use Rattle.image.specs.Sections.{Sections, goodBytes, nodeCount, childCount, namedCount, definitionCount, itemCount, indexCount, parentOf, placeOf, tagOf, f, definitionWord, itemWord, indexWord, textAt}
+use Rattle.image.specs.Header.{magic, headerLength, version, sectionAt, startBy, sectionsOf}
 use Rattle.records.specs.Fields.{Field, text, optional, command, operator, node, optionalNode, container, optionalContainer, plain, atMost, children, named, payload, wrong}
 use Rattle.records.specs.Records.{fieldsAt, numberOfChildren, numberOfNamed, childrenBefore, namedBefore, payloadBefore, containersBefore, listItems, listOrigins, listItemWord, listOriginWord}
 use Rattle.tree.specs.Tree.{childAt, namedAt, namedText}
@@ -24,12 +22,12 @@ use Rattle.load.specs.Load.{loadWords, loadRule, Accepted}
 
 -- ---- texts and nodes
 
--- present, inside and UTF-8
+-- present, inside and of good bytes
 pub record TextRight (s : Sections) (at len : ℕ) : Type 0 where
   pub offset-given : at ≢ NONE
   pub length-given : len ≢ NONE
   pub inside : at + len ≤ length (s .strings)
-  pub encoded : utf8 (textAt s at len) ≡ true
+  pub encoded : goodBytes (textAt s at len) ≡ true
 
 -- absent only if both words are NONE
 abbrev pub OptionalRight : Sections → ℕ → ℕ → Type 0
@@ -128,9 +126,23 @@ pub record SectionsRight (s : Sections) : Type 0 where
   pub definitions : (d : ℕ) → d < definitionCount s → DefinitionRight s d
   pub items-used : itemsBefore s (definitionCount s) ≡ itemCount s
 
+-- rows 1 to 5
+pub record HeaderRight (bs : List ℕ) : Type 0 where
+  pub long : headerLength ≤ length bs
+  pub magic-first : take 8 bs ≡ magic
+  pub versioned : wordAt bs 8 ≡ version
+  pub ink-least : 18 ≤ wordAt bs 12
+  pub ink-most : wordAt bs 12 ≤ 21
+  pub total : wordAt bs 16 ≡ length bs
+  -- each section begins where the one before it ends, and ends in the bytes; the last ends with them
+  pub begins : (k : ℕ) → k < 8 → sectionAt bs k .offset ≡ startBy bs k
+  pub ends : (k : ℕ) → k < 8 → startBy bs (suc k) ≤ length bs
+  pub whole : startBy bs 8 ≡ length bs
+  pub node : 0 < sectionAt bs 0 .count
+
 -- rows 1 to 6, and the rest
 pub record BreaksNone (bs : List ℕ) : Type 0 where
-  pub header : Opens bs
+  pub header : HeaderRight bs
   pub checksum : wordAt bs 84 ≡ checksumOf bs
   pub sections : SectionsRight (sectionsOf bs)
 
@@ -138,6 +150,10 @@ pub record BreaksNone (bs : List ℕ) : Type 0 where
 
 abbrev pub Iff : Type 0 → Type 0 → Type 0
 Iff A B = (A → B) × (B → A)
+
+-- divert flags at most 23 are those below 32 of which an eighth is at most 2
+abbrev pub DivertFlags : Type 0
+DivertFlags = (flags : ℕ) → Iff (flags ≤ 23) ((flags < 32) × (flags / 8 ≤ 2))
 
 -- the first rule broken is none exactly if each rule is kept
 abbrev pub AcceptedExactly : Type 0

@@ -51,7 +51,8 @@ fn store(
 ) -> Plan
     requires { ⌜ (t .texts + paths + (t .texts + paths) ≤ t .at) × Placed t (length (now w)) ⌝ }
     requires { ⌜ RisesFrom (byKey (keyIn (source .version) (now nodes) (now strings) t (now w))) (t .texts) (t .texts + paths) ⌝ }
-    ensures answer { λ r. ⌜ StoredPlan (keyIn (source .version) (now (nodes .entry)) (now (strings .entry)) t (now (w .entry))) (t .texts) paths (now (w .exit)) r ⌝ }
+    ensures answer { λ r. ⌜ (let key = keyIn (source .version) (now (nodes .entry)) (now (strings .entry)) t (now (w .entry)) in
+        StoredPlan key (t .texts) paths (now (w .exit)) r) ⌝ }
     ensures tables { λ r. ⌜ drop (t .at) (now (w .exit)) ≡ drop (t .at) (now (w .entry)) ⌝ }
 {
     let texts = t.texts;
