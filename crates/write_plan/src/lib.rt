@@ -35,6 +35,7 @@ pub struct Uses {
     pub strings: usize,
 }
 
+// What a plan comes to: what is stored, or the number of the first rule that the draft breaks.
 pub enum Plan {
     Ready(Uses),
     Refused(u32),
