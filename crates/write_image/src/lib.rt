@@ -53,6 +53,7 @@ struct Places {
     end: usize,
 }
 
+// The same by the entries.
 fn places_of(entries: Entries, source: Source) -> Places
     requires { ⌜ lengthBy (source .version) entries ≤ NONE ⌝ }
     ensures { λ r. ⌜ r ≡ placesBy (source .version) entries ⌝ }

@@ -6,7 +6,8 @@ ghost use Rattle.laws.specs.Counted.{joinOf};
 ghost use Rattle.words.specs.Output.{putAt};
 ghost use Rattle.write_tree_sections.specs.Encoded.{listTextsIn, textsBy};
 ghost use Rattle.records.specs.Fields.{kindOf};
-ghost use Rattle.write_list_sections.specs.Entered.{itemTexts, listItemWords, listOriginWords, listWords, nodeListWords, payloadWords, PayloadFits, PutWords};
+ghost use Rattle.write_list_sections.specs.Entered.{itemTexts, listItemWords, listOriginWords, listWords, nodeListWords, payloadWords};
+ghost use Rattle.write_list_sections.specs.Entered.{PayloadFits, PutWords};
 ghost use Rattle.write_list_sections.specs.Put.{PayloadPut};
 ghost use Rattle.image.specs.Sections.{nodeWords};
 use draft::source::Source;
@@ -15,6 +16,7 @@ use draft::source::node_count;
 use draft::source::payload_get;
 use draft::source::word;
 use image::NodeRecord;
+use image::tag;
 use words::output::put_words;
 use write_tree_sections::kinds::optional_offset;
 use write_tree_sections::kinds::text_count;
@@ -119,7 +121,7 @@ fn put_node(
     requires { ⌜ at + 4 * length (nodeListWords (now payload) (now w) text node) ≤ length (now out) ⌝ }
     ensures { λ r. ⌜ PutWords (nodeListWords (now (payload .entry)) (now (w .entry)) text node) (now (out .entry)) (now (out .exit)) at r ⌝ }
 {
-    if node.tag != 12 {
+    if node.tag != tag::LIST_VALUE {
         return at;
     }
     put_list(payload, node.f0, w, text, out, at)
@@ -139,7 +141,8 @@ pub fn put_payload(
     requires { ⌜ PayloadFits (source .version) (now nodes) (now payload) (now w) order offsets ⌝ }
     requires { ⌜ (let words = payloadWords (source .version) (now nodes) (now payload) (now w) order offsets in
         4 * length (joinOf (length (now nodes) / nodeWords (source .version)) words) ≤ length (now out)) ⌝ }
-    ensures { λ r. ⌜ PayloadPut (source .version) (now (nodes .entry)) (now (payload .entry)) (now (w .entry)) order offsets (now (out .entry)) (now (out .exit)) ⌝ }
+    ensures { λ r. ⌜ (PayloadPut (source .version) (now (nodes .entry)) (now (payload .entry)) (now (w .entry)) order offsets
+        (now (out .entry)) (now (out .exit))) ⌝ }
 {
     let count = node_count(nodes, source);
     let mut text = offsets;

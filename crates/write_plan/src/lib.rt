@@ -35,6 +35,7 @@ pub struct Uses {
     pub strings: usize,
 }
 
+// What a plan comes to: what is stored, or the number of the first rule that the draft breaks.
 pub enum Plan {
     Ready(Uses),
     Refused(u32),
@@ -51,7 +52,8 @@ fn store(
 ) -> Plan
     requires { ⌜ (t .texts + paths + (t .texts + paths) ≤ t .at) × Placed t (length (now w)) ⌝ }
     requires { ⌜ RisesFrom (byKey (keyIn (source .version) (now nodes) (now strings) t (now w))) (t .texts) (t .texts + paths) ⌝ }
-    ensures answer { λ r. ⌜ StoredPlan (keyIn (source .version) (now (nodes .entry)) (now (strings .entry)) t (now (w .entry))) (t .texts) paths (now (w .exit)) r ⌝ }
+    ensures answer { λ r. ⌜ (let key = keyIn (source .version) (now (nodes .entry)) (now (strings .entry)) t (now (w .entry)) in
+        StoredPlan key (t .texts) paths (now (w .exit)) r) ⌝ }
     ensures tables { λ r. ⌜ drop (t .at) (now (w .exit)) ≡ drop (t .at) (now (w .entry)) ⌝ }
 {
     let texts = t.texts;

@@ -6,7 +6,9 @@ ghost use lib.ListN.{length};
 ghost use Rattle.laws.specs.Counted.{joinOf};
 ghost use Rattle.image.specs.Sections.{nodeWords, definitionWords, nodeCount, absent, tagOf, f};
 ghost use Rattle.draft.specs.Source.{draftOf, nodesOnly};
-ghost use Rattle.write_text_uses.specs.Uses.{useIf, listItemPairs, listPairs, nodePairs, namedPairs, definitionPairs, allNodePairs, allNamedPairs, allDefinitionPairs, originPairs, entryPairs, wordsFrom, Room, Put, payloadOnly, namedOnly, definitionsOnly, ListInside, Olds, Readable, Collectable, Collected};
+ghost use Rattle.write_text_uses.specs.Uses.{useIf, listItemPairs, listPairs, nodePairs, namedPairs, definitionPairs, allNodePairs};
+ghost use Rattle.write_text_uses.specs.Uses.{allNamedPairs, allDefinitionPairs, originPairs, entryPairs, wordsFrom, Room, Put, payloadOnly};
+ghost use Rattle.write_text_uses.specs.Uses.{namedOnly, definitionsOnly, ListInside, Olds, Readable, Collectable, Collected};
 use draft::source::Source;
 use draft::source::definition_at;
 use draft::source::node_at;
@@ -15,6 +17,7 @@ use draft::source::payload_word;
 use draft::source::word;
 use image::ImageView;
 use image::NONE;
+use image::tag;
 
 // Whether both words of a text say that it is absent.
 fn is_absent(offset: u32, len: u32) -> bool
@@ -148,15 +151,16 @@ fn put_node(
         Put (nodePairs s i) (now (w .entry)) at (now (w .exit)) r) ⌝ }
 {
     let node = node_at(nodes, i, source);
-    let tag = node.tag;
-    match tag {
-        1 => put_optional(w, at, node.f0, node.f1),
-        2 => put_optional(w, at, node.f0, node.f1),
-        3 | 6 | 11 | 13 | 16 => put_use(w, at, node.f0, node.f1),
-        7 | 14 => put_use(w, at, node.f0, node.f1),
-        4 => put_divert(w, at, node.f0, node.f1, node.f3, node.f4),
-        12 => put_list(payload, node.f0 as usize, w, at),
-        17 => put_reference(w, at, node.f0, node.f1, node.f2, node.f3),
+    let kind = node.tag;
+    match kind {
+        tag::CONTAINER => put_optional(w, at, node.f0, node.f1),
+        tag::CHOICE => put_optional(w, at, node.f0, node.f1),
+        tag::COMMAND | tag::OPERATOR | tag::STRING_VALUE | tag::TARGET_VALUE | tag::ASSIGNMENT =>
+            put_use(w, at, node.f0, node.f1),
+        tag::TAG | tag::POINTER_VALUE => put_use(w, at, node.f0, node.f1),
+        tag::DIVERT => put_divert(w, at, node.f0, node.f1, node.f3, node.f4),
+        tag::LIST_VALUE => put_list(payload, node.f0 as usize, w, at),
+        tag::REFERENCE => put_reference(w, at, node.f0, node.f1, node.f2, node.f3),
         _ => at,
     }
 }
@@ -221,7 +225,7 @@ fn put_container(
         Put (namedPairs s i) (now (w .entry)) at (now (w .exit)) r) ⌝ }
 {
     let node = node_at(nodes, i, source);
-    if node.tag != 1 {
+    if node.tag != tag::CONTAINER {
         return at;
     }
     put_entries(named, node.f5, node.f6, w, at)

@@ -14,6 +14,7 @@ use draft::source::node_count;
 use draft::source::word;
 use image::ImageView;
 use image::NodeRecord;
+use image::tag;
 use words::put_word;
 use write_numbering::numbers::Numbers;
 use write_numbering::numbers::new_number;
@@ -22,7 +23,11 @@ use write_numbering::numbers::new_number;
 fn child_count(node: NodeRecord) -> u32
     ensures { λ r. ⌜ r ≡ cond (eqb (node .tag) 1) (node .f4) 0 ⌝ }
 {
-    if node.tag == 1 { node.f4 } else { 0 }
+    if node.tag == tag::CONTAINER {
+        node.f4
+    } else {
+        0
+    }
 }
 
 // Writes at `at` the children of one node: `count` entries of the draft from `first` on.
@@ -63,7 +68,8 @@ pub fn put_children(
     requires { ⌜ OrderFits (source .version) (now nodes) (now work) numbers ⌝ }
     requires { ⌜ (let count = length (now nodes) / nodeWords (source .version) in
         childSize * childrenBy (source .version) (now nodes) (now work) (numbers .order) count ≤ length (now out)) ⌝ }
-    ensures { λ r. ⌜ ChildrenPut (source .version) (now (nodes .entry)) (now (children .entry)) (now (work .entry)) numbers (now (out .entry)) (now (out .exit)) ⌝ }
+    ensures { λ r. ⌜ (ChildrenPut (source .version) (now (nodes .entry)) (now (children .entry)) (now (work .entry)) numbers
+        (now (out .entry)) (now (out .exit))) ⌝ }
 {
     let order = numbers.order;
     let count = node_count(nodes, source);

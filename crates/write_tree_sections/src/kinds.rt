@@ -9,6 +9,7 @@ ghost use Rattle.write_tree_sections.specs.Encoded.{fielded, blankOf, op
 use draft::source::word;
 use image::NONE;
 use image::NodeRecord;
+use image::tag;
 use write_numbering::numbers::new_number;
 
 // Where a node's ordered children, named children and payload start: the sums over the image's nodes before it.
@@ -143,18 +144,18 @@ pub fn encode_kind(
     requires { ⌜ (new ≤ length (now work)) × (at ≤ length (now work)) ⌝ }
     ensures { λ r. ⌜ r ≡ encodedBy (now (work .entry)) new at starts node (kindOf (node .tag)) ⌝ }
 {
-    let tag = node.tag;
-    match tag {
-        1 => container(node, work, new, at, starts),
-        2 => choice(node, work, new, at, starts),
-        4 => divert(node, work, new, at, starts),
-        3 | 11 => text_and(node, work, new, at, NONE),
-        6..=7 => text_and(node, work, new, at, NONE),
-        8..=10 => two(node, work, new, node.f0, NONE),
-        12 => two(node, work, new, starts.payload, node.f1),
-        13 => text_and(node, work, new, at, new_number(work, new, node.f2)),
-        14 | 16 => text_and(node, work, new, at, node.f2),
-        17 => reference(node, work, new, at, starts),
+    let kind = node.tag;
+    match kind {
+        tag::CONTAINER => container(node, work, new, at, starts),
+        tag::CHOICE => choice(node, work, new, at, starts),
+        tag::DIVERT => divert(node, work, new, at, starts),
+        tag::COMMAND | tag::STRING_VALUE => text_and(node, work, new, at, NONE),
+        tag::OPERATOR..=tag::TAG => text_and(node, work, new, at, NONE),
+        tag::BOOL_VALUE..=tag::FLOAT_VALUE => two(node, work, new, node.f0, NONE),
+        tag::LIST_VALUE => two(node, work, new, starts.payload, node.f1),
+        tag::TARGET_VALUE => text_and(node, work, new, at, new_number(work, new, node.f2)),
+        tag::POINTER_VALUE | tag::ASSIGNMENT => text_and(node, work, new, at, node.f2),
+        tag::REFERENCE => reference(node, work, new, at, starts),
         _ => blank(node, work, new),
     }
 }

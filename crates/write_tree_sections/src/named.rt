@@ -14,6 +14,7 @@ use draft::source::node_count;
 use draft::source::word;
 use image::ImageView;
 use image::NodeRecord;
+use image::tag;
 use words::output::put_words;
 use write_numbering::numbers::Numbers;
 use write_numbering::numbers::new_number;
@@ -22,7 +23,11 @@ use write_numbering::numbers::new_number;
 fn named_count(node: NodeRecord) -> u32
     ensures { λ r. ⌜ r ≡ cond (eqb (node .tag) 1) (node .f6) 0 ⌝ }
 {
-    if node.tag == 1 { node.f6 } else { 0 }
+    if node.tag == tag::CONTAINER {
+        node.f6
+    } else {
+        0
+    }
 }
 
 // Writes at `at` the named children of one node: `count` entries of the draft from `first` on. The offsets of their texts are the

@@ -17,6 +17,7 @@ use draft::source::node_words;
 use draft::source::word;
 use image::ImageView;
 use image::NodeRecord;
+use image::tag;
 use words::output::put_words;
 use write_numbering::numbers::Numbers;
 
@@ -45,14 +46,14 @@ fn after(starts: Starts, node: NodeRecord) -> Starts
     requires { ⌜ StartsFit starts node ⌝ }
     ensures { λ r. ⌜ r ≡ startsAfter starts node ⌝ }
 {
-    let tag = node.tag;
-    match tag {
-        1 => Starts {
+    let kind = node.tag;
+    match kind {
+        tag::CONTAINER => Starts {
             children: starts.children + node.f4,
             named: starts.named + node.f6,
             payload: starts.payload,
         },
-        12 => Starts {
+        tag::LIST_VALUE => Starts {
             children: starts.children,
             named: starts.named,
             payload: starts.payload + node.f1,
@@ -72,7 +73,8 @@ pub fn put_nodes(
 ) -> usize
     requires { ⌜ NodesFit (source .version) (now nodes) (now payload) (now work) numbers ⌝ }
     requires { ⌜ length (now nodes) / nodeWords (source .version) * nodeSize (source .version) ≤ length (now out) ⌝ }
-    ensures { λ r. ⌜ NodesPut (source .version) (now (nodes .entry)) (now (payload .entry)) (now (work .entry)) numbers (now (out .entry)) (now (out .exit)) r ⌝ }
+    ensures { λ r. ⌜ (NodesPut (source .version) (now (nodes .entry)) (now (payload .entry)) (now (work .entry)) numbers
+        (now (out .entry)) (now (out .exit)) r) ⌝ }
 {
     let order = numbers.order;
     let count = node_count(nodes, source);

@@ -5,6 +5,7 @@ ghost use Rattle.write_tree_sections.specs.Encoded.{textsBy, listTextsIn
 use crate::kinds::text_count;
 use draft::source::payload_get;
 use image::NodeRecord;
+use image::tag;
 
 // How many texts the list has whose payload starts at `start`: a name an item, a text an origin, and the origins that items have.
 fn list_texts(payload: &[u8], start: u32) -> usize
@@ -26,15 +27,15 @@ fn list_texts(payload: &[u8], start: u32) -> usize
 pub fn texts_of(node: NodeRecord, payload: &[u8]) -> usize
     ensures { λ r. ⌜ r ≡ textsBy (now (payload .entry)) node (kindOf (node .tag)) ⌝ }
 {
-    let tag = node.tag;
-    match tag {
-        1 => text_count(node.f0),
-        2 => text_count(node.f0),
-        4 => text_count(node.f0) + text_count(node.f3),
-        12 => list_texts(payload, node.f0),
-        17 => 1 + text_count(node.f2),
-        3 | 6 | 11 | 13 | 16 => 1,
-        7 | 14 => 1,
+    let kind = node.tag;
+    match kind {
+        tag::CONTAINER => text_count(node.f0),
+        tag::CHOICE => text_count(node.f0),
+        tag::DIVERT => text_count(node.f0) + text_count(node.f3),
+        tag::LIST_VALUE => list_texts(payload, node.f0),
+        tag::REFERENCE => 1 + text_count(node.f2),
+        tag::COMMAND | tag::OPERATOR | tag::STRING_VALUE | tag::TARGET_VALUE | tag::ASSIGNMENT => 1,
+        tag::TAG | tag::POINTER_VALUE => 1,
         _ => 0,
     }
 }

@@ -14,7 +14,7 @@ use Rattle.tree.proofs.Members.{both-true, and-true, sum-ext}
 use Rattle.index.specs.Definitions.{definitionText, firstItem, numberOfItems, itemText, itemTextOf, goodItem, itemsBefore, itemRule, itemRuleFrom, definitionRule, itemsUsedUp, definitionsRule}
 use Rattle.draft_image.specs.Strings.{offsetOf}
 use Rattle.draft_image.specs.Written.{definitionOut, itemOut}
-use Rattle.written.proofs.Texts.{good-utf8}
+use Rattle.written.proofs.Texts.{good-text}
 use Rattle.draft_image.proofs.Blocks.{w, definition-count, definition-word, item-count, item-word}
 use Rattle.written.proofs.Fields.{Given}
 use Rattle.written.proofs.Rules.{good-at, text-at}
@@ -82,7 +82,7 @@ module _ {s : Sections} {order : List ℕ} {kept : List (List ℕ)} (g : Given s
       item-good : goodItem v (firstItem v d + j) ≡ true
       item-good =
           ap (goodItem v) item-at
-          ∙ good-at g (itemTextOf s d j) (itemWord v at 0) (itemWord v at 1) (g .stored .item d h j q) (good-utf8 s _ _ (g .taken .tables .items at item-inside)) item-at-word item-len-word
+          ∙ good-at g (itemTextOf s d j) (itemWord v at 0) (itemWord v at 1) (g .stored .item d h j q) (good-text s _ _ (g .taken .tables .items at item-inside)) item-at-word item-len-word
 
     item-kept : (j : ℕ) → j < numberOfItems s d → itemRule v d j ≡ 0
     unfolding itemRuleFrom
@@ -95,7 +95,7 @@ module _ {s : Sections} {order : List ℕ} {kept : List (List ℕ)} (g : Given s
     definition-kept =
         then _ _
         (pass _ 10 (good-at g (definitionText s d) (definitionWord v d 0) (definitionWord v d 1) (g .stored .definition d h)
-        (good-utf8 s _ _ (g .taken .tables .definitions d h .0)) (at-word d h) (len-word d h)))
+        (good-text s _ _ (g .taken .tables .definitions d h .0)) (at-word d h) (len-word d h)))
         (then _ _ (pass _ 17 (rising-same d (definitionText v) (definitionText s) (λ k l. definition-text k (omega arith)) (g .taken .shape .rising-definitions d h)))
         (then _ _
         (pass _ 11 (and-true _ _

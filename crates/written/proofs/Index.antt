@@ -29,7 +29,7 @@ use Rattle.draft_image.proofs.Blocks.{w, index-count, index-word}
 use Rattle.written.proofs.Fields.{Given, counted, old-in, new-old, inside-written, container-same}
 use Rattle.written.proofs.Rules.{good-at, text-at}
 use Rattle.written.proofs.Tree.{rising-same}
-use Rattle.written.proofs.Paths.{path-utf8, path-same}
+use Rattle.written.proofs.Paths.{path-good, path-same}
 
 -- ---- sorting
 
@@ -189,7 +189,7 @@ module _ {s : Sections} {order : List ℕ} {kept : List (List ℕ)} (g : Given s
       let b = index-node k h in
       then _ _
       (pass _ 10 (good-at g (pathOf s order (target k)) (indexWord v k 0) (indexWord v k 1) (g .stored .index k h)
-      (path-utf8 g (oldOf order (target k)) (old-in g (target k) (b .0)) (b .1)) (text-word k h) (length-word k h)))
+      (path-good g (oldOf order (target k)) (old-in g (target k) (b .0)) (b .1)) (text-word k h) (length-word k h)))
       (then _ _
       (pass _ 9 (rw (index-target k h) (and-true _ _ (inside-written g (target k) (b .0)) (container-same g (target k) (b .0) ∙ b .1))))
       (then _ _

@@ -15,9 +15,8 @@ use Rattle.texts.specs.Text.{holds}
 use Rattle.texts.specs.Decimal.{decimal}
 use Rattle.texts.specs.Dots.{dot}
 use Rattle.texts.proofs.Decimal.{decimal-digits}
-use Rattle.utf8.specs.Utf8.{utf8}
-use Rattle.utf8.proofs.Laws.{utf8-nil, utf8-append, utf8-ascii}
-use Rattle.image.specs.Sections.{Sections, nodeCount, parentOf, placeOf, tagOf, f, textAt, goodText, absent, inside, isContainer}
+use Rattle.image.proofs.GoodBytes.{good-empty, good-append, good-ascii}
+use Rattle.image.specs.Sections.{Sections, nodeCount, parentOf, placeOf, tagOf, f, textAt, goodText, absent, inside, isContainer, goodBytes}
 use Rattle.records.specs.Fields.{kinds, kindOf, fields}
 use Rattle.records.specs.Records.{fieldRule, firstField}
 use Rattle.tree.proofs.Members.{both-true}
@@ -26,19 +25,19 @@ use Rattle.draft.specs.Numbering.{oldOf}
 use Rattle.draft_image.specs.Strings.{textIf, fieldTexts, offsetOf}
 use Rattle.draft_image.specs.Written.{fieldWords}
 use Rattle.written.proofs.Lists.{or-else}
-use Rattle.written.proofs.Texts.{in-left, in-one, offset-inside, good-utf8, good-length}
+use Rattle.written.proofs.Texts.{in-left, in-one, offset-inside, good-text, good-length}
 use Rattle.draft_image.proofs.Blocks.{w}
 use Rattle.written.proofs.Fields.{Given, counted, old-in, old-new, new-in, old-zero, new-zero, zero-old, place-word, container-reads}
 use Rattle.written.proofs.Payload.{strings-small}
 use Rattle.written.proofs.Rules.{text-at, parent-draft, parent-lt, parent-new}
 
-decimal-utf8 : (n : ℕ) → utf8 (decimal n) ≡ true
-decimal-utf8 n = utf8-ascii (decimal n) (λ x m. omega (arith, decimal-digits n x m .1))
+decimal-good : (n : ℕ) → goodBytes (decimal n) ≡ true
+decimal-good n = good-ascii (decimal n) (λ x m. omega (arith, decimal-digits n x m .1))
 
-joined-utf8 : (p : ℕ) (a b : List ℕ) → utf8 a ≡ true → utf8 b ≡ true → utf8 (joined p a b) ≡ true
-joined-utf8 zero a b x y = y
-joined-utf8 (suc p) a b x y =
-    utf8-append a (dot ∷ b) x (utf8-append (dot ∷ []) b (utf8-ascii (dot ∷ []) (below-cons 128 dot [] (omega arith) (below-none 128))) y)
+joined-good : (p : ℕ) (a b : List ℕ) → goodBytes a ≡ true → goodBytes b ≡ true → goodBytes (joined p a b) ≡ true
+joined-good zero a b x y = y
+joined-good (suc p) a b x y =
+    good-append a (dot ∷ b) x (good-append (dot ∷ []) b (good-ascii (dot ∷ []) (below-cons 128 dot [] (omega arith) (below-none 128))) y)
 
 joined-same : (p q : ℕ) (a b : List ℕ) → (p ≡ 0 → q ≡ 0) → (q ≡ 0 → p ≡ 0) → joined p a b ≡ joined q a b
 joined-same zero zero a b x y = refl
@@ -61,14 +60,14 @@ module _ {s : Sections} {order : List ℕ} {kept : List (List ℕ)} (g : Given s
       or-else (absent (f s i 0) (f s i 1)) (goodText s (f s i 0) (f s i 1))
       (passed _ 9 (both _ _ (subst (λ (tag : ℕ). firstField s i (fields (kindOf tag)) ≡ 0) (eqb-true (tagOf s i) 1 c) (g .taken .tables .fields i h)) .0)) e
 
-  piece-utf8 : (i : ℕ) → i < nodeCount s → isContainer s i ≡ true → utf8 (piece s i) ≡ true
+  piece-good : (i : ℕ) → i < nodeCount s → isContainer s i ≡ true → goodBytes (piece s i) ≡ true
   unfolding piece pieceOf nameless
-  piece-utf8 i h c = go (absent (f s i 0) (f s i 1)) refl (eqb (f s i 1) 0)
+  piece-good i h c = go (absent (f s i 0) (f s i 1)) refl (eqb (f s i 1) 0)
     where
-      go : (a : Bool) → absent (f s i 0) (f s i 1) ≡ a → (b : Bool) → utf8 (cond (a || b) (decimal (placeOf s i)) (textAt s (f s i 0) (f s i 1))) ≡ true
-      go true e b = decimal-utf8 (placeOf s i)
-      go false e true = decimal-utf8 (placeOf s i)
-      go false e false = good-utf8 s (f s i 0) (f s i 1) (name-good i h c e)
+      go : (a : Bool) → absent (f s i 0) (f s i 1) ≡ a → (b : Bool) → goodBytes (cond (a || b) (decimal (placeOf s i)) (textAt s (f s i 0) (f s i 1))) ≡ true
+      go true e b = decimal-good (placeOf s i)
+      go false e true = decimal-good (placeOf s i)
+      go false e false = good-text s (f s i 0) (f s i 1) (name-good i h c e)
 
   module _ (j : ℕ) (h : j < nodeCount s) (c : isContainer s (oldOf order j) ≡ true) where
     abbrev i : ℕ
@@ -105,21 +104,21 @@ module _ {s : Sections} {order : List ℕ} {kept : List (List ℕ)} (g : Given s
 
   -- ---- paths
 
-  path-utf8-from : (n i : ℕ) → i < nodeCount s → isContainer s i ≡ true → utf8 (pathFrom n s i) ≡ true
+  path-good-from : (n i : ℕ) → i < nodeCount s → isContainer s i ≡ true → goodBytes (pathFrom n s i) ≡ true
   unfolding pathFrom
-  path-utf8-from zero i h c = utf8-nil
-  path-utf8-from (suc n) i h c = go (eqb i 0) refl (path-utf8-from n (parentOf s i))
+  path-good-from zero i h c = good-empty
+  path-good-from (suc n) i h c = go (eqb i 0) refl (path-good-from n (parentOf s i))
     where
-      go : (b : Bool) → eqb i 0 ≡ b → (parentOf s i < nodeCount s → isContainer s (parentOf s i) ≡ true → utf8 (pathFrom n s (parentOf s i)) ≡ true)
-          → utf8 (cond b [] (joined (parentOf s i) (pathFrom n s (parentOf s i)) (piece s i))) ≡ true
-      go true e r = utf8-nil
+      go : (b : Bool) → eqb i 0 ≡ b → (parentOf s i < nodeCount s → isContainer s (parentOf s i) ≡ true → goodBytes (pathFrom n s (parentOf s i)) ≡ true)
+          → goodBytes (cond b [] (joined (parentOf s i) (pathFrom n s (parentOf s i)) (piece s i))) ≡ true
+      go true e r = good-empty
       go false e r =
           let d = eqb-false i 0 e in
-          joined-utf8 (parentOf s i) (pathFrom n s (parentOf s i)) (piece s i)
-          (r (parent-lt g i h d) (both-true (inside s (parentOf s i)) _ (parent-draft g i h d .0) .1)) (piece-utf8 i h c)
+          joined-good (parentOf s i) (pathFrom n s (parentOf s i)) (piece s i)
+          (r (parent-lt g i h d) (both-true (inside s (parentOf s i)) _ (parent-draft g i h d .0) .1)) (piece-good i h c)
 
-  pub path-utf8 : (i : ℕ) → i < nodeCount s → isContainer s i ≡ true → utf8 (canonicalPath s i) ≡ true
-  path-utf8 i h c = path-utf8-from (nodeCount s) i h c
+  pub path-good : (i : ℕ) → i < nodeCount s → isContainer s i ≡ true → goodBytes (canonicalPath s i) ≡ true
+  path-good i h c = path-good-from (nodeCount s) i h c
 
   path-from : (n j : ℕ) → j < nodeCount s → isContainer s (oldOf order j) ≡ true → pathFrom n v j ≡ pathFrom n s (oldOf order j)
   unfolding pathFrom

@@ -14,8 +14,7 @@ use Rattle.laws.proofs.First.{both, then, pass, passed, first-all, first-of}
 use Rattle.words.specs.Words.{NONE, isNone}
 use Rattle.texts.specs.Text.{holds}
 use Rattle.names.specs.Names.{commands, operators}
-use Rattle.utf8.specs.Utf8.{utf8}
-use Rattle.image.specs.Sections.{Sections, nodeCount, childCount, namedCount, parentOf, placeOf, tagOf, f, textAt, goodText, absent, goodOptional, inside, isContainer, insideContainer}
+use Rattle.image.specs.Sections.{Sections, nodeCount, childCount, namedCount, parentOf, placeOf, tagOf, f, textAt, goodText, absent, goodOptional, inside, isContainer, insideContainer, goodBytes}
 use Rattle.records.specs.Fields.{Field, text, optional, command, operator, node, optionalNode, container, optionalContainer, plain, atMost, children, named, payload, wrong, Unknown, kinds, kindOf, fields}
 use Rattle.records.specs.Records.{fieldsAt, numberOfChildren, numberOfNamed, payloadLengthOf, listWord, listItems, listOrigins, listItemWord, listOriginWord, listItemRule, listOriginRule, payloadRule, fieldRule, firstField, fieldsRule, parentRule, nodeRule, rootRight, usedUp}
 use Rattle.draft.specs.Numbering.{oldOf, newOf}
@@ -24,7 +23,7 @@ use Rattle.draft_image.specs.Written.{fieldStart, fieldWords, listItemOut, list
 use Rattle.tree.proofs.Members.{both-true, and-true, or-left, or-right, all-of, sum-ext}
 use Rattle.draft_image.proofs.Joins.{sum-below}
 use Rattle.written.proofs.Lists.{or-else, not-of}
-use Rattle.written.proofs.Texts.{in-left, in-right, in-one, in-join, good-utf8, text-back, text-good}
+use Rattle.written.proofs.Texts.{in-left, in-right, in-one, in-join, good-text, text-back, text-good}
 use Rattle.draft_image.proofs.Blocks.{w, child-count, named-count}
 use Rattle.written.proofs.Fields.{Given, counted, old-in, old-new, new-in, old-zero, zero-old, inside-lt, new-is, inside-new, parent-word, place-word, tag-word, Reads, ReadsAll, reads, container-same, children-of, named-of, payload-of, start-is, sum-written}
 use Rattle.written.proofs.Payload.{strings-small, list-length, list-item, list-origin, list-right, list-size, payload-count, payload-word}
@@ -72,7 +71,7 @@ module _ {s : Sections} {order : List ℕ} {kept : List (List ℕ)} (g : Given s
   strings-few : length (v .strings) < NONE
   strings-few = omega (arith, ap length strings-are, strings-small g)
 
-  pub good-at : (t : List ℕ) (a b : ℕ) → holds kept t ≡ true → utf8 t ≡ true → a ≡ offsetOf kept t → b ≡ length t → goodText v a b ≡ true
+  pub good-at : (t : List ℕ) (a b : ℕ) → holds kept t ≡ true → goodBytes t ≡ true → a ≡ offsetOf kept t → b ≡ length t → goodText v a b ≡ true
   good-at t a b h u p q =
       ap (λ (x : ℕ). goodText v x b) p ∙ ap (goodText v (offsetOf kept t)) q ∙ text-good v kept strings-are strings-few t h u
 
@@ -88,7 +87,7 @@ module _ {s : Sections} {order : List ℕ} {kept : List (List ℕ)} (g : Given s
       go true e l x y = or-left (absent a b) (goodText v a b) (and-true (isNone a) (isNone b) (eq-eqb a NONE x) (eq-eqb b NONE y))
       go false e l x y =
           or-right (absent a b) (goodText v a b)
-          (good-at (textAt s at len) a b (l (textAt s at len) (in-one (textAt s at len))) (good-utf8 s at len (or-else (absent at len) (goodText s at len) h e)) x y)
+          (good-at (textAt s at len) a b (l (textAt s at len) (in-one (textAt s at len))) (good-text s at len (or-else (absent at len) (goodText s at len) h e)) x y)
 
   -- ---- numbers by their written words
 
@@ -178,12 +177,12 @@ module _ {s : Sections} {order : List ℕ} {kept : List (List ℕ)} (g : Given s
           (λ t z. item-text m q t (in-left (origin m) (name m ∷ []) t z)) (item-words m 0 q (omega arith)) (item-words m 1 q (omega arith))))
           (pass _ 10 (good-at (name m) (listItemWord v to m 2) (listItemWord v to m 3)
           (item-text m q (name m) (in-right (origin m) (name m ∷ []) (name m) (in-one (name m))))
-          (good-utf8 s _ _ (passed _ 9 (both _ _ p .1))) (item-words m 2 q (omega arith)) (item-words m 3 q (omega arith))))
+          (good-text s _ _ (passed _ 9 (both _ _ p .1))) (item-words m 2 q (omega arith)) (item-words m 3 q (omega arith))))
 
       origin-kept : (m : ℕ) → m < listOrigins s from → listOriginRule s from m ≡ 0 → listOriginRule v to m ≡ 0
       unfolding listOriginRule listOriginOut
       origin-kept m q p =
-          pass _ 10 (good-at (other m) (listOriginWord v to m 0) (listOriginWord v to m 1) (origin-text m q) (good-utf8 s _ _ (passed _ 9 p))
+          pass _ 10 (good-at (other m) (listOriginWord v to m 0) (listOriginWord v to m 1) (origin-text m q) (good-text s _ _ (passed _ 9 p))
           (origin-words m 0 q (omega arith)) (origin-words m 1 q (omega arith)))
 
       pub list-kept : payloadRule v to (f s (oldOf order j) 1) ≡ 0
@@ -261,13 +260,13 @@ module _ {s : Sections} {order : List ℕ} {kept : List (List ℕ)} (g : Given s
         → ((t : List ℕ) → holds (fieldTexts s i x) t ≡ true → holds kept t ≡ true) → fieldRule s i x ≡ 0 → fieldRule v j x ≡ 0
     unfolding fieldWords fieldTexts fieldRule suits
     field-kept (text k) z r l p =
-        pass _ 10 (good-at _ (f v j k) (f v j (k + 1)) (l _ (in-one _)) (good-utf8 s _ _ (passed _ 9 p)) (r .0) (r .1 .0))
+        pass _ 10 (good-at _ (f v j k) (f v j (k + 1)) (l _ (in-one _)) (good-text s _ _ (passed _ 9 p)) (r .0) (r .1 .0))
     field-kept (optional k) z r l p = pass _ 10 (optional-at (f s i k) (f s i (k + 1)) (f v j k) (f v j (k + 1)) (passed _ 9 p) l (r .0) (r .1 .0))
     field-kept (command k) z r l p =
-        then _ _ (pass _ 10 (good-at _ (f v j k) (f v j (k + 1)) (l _ (in-one _)) (good-utf8 s _ _ (passed _ 9 (both _ _ p .0))) (r .0) (r .1 .0)))
+        then _ _ (pass _ 10 (good-at _ (f v j k) (f v j (k + 1)) (l _ (in-one _)) (good-text s _ _ (passed _ 9 (both _ _ p .0))) (r .0) (r .1 .0)))
         (pass _ 12 (name-kept commands k (l _ (in-one _)) (r .0) (r .1 .0) (passed _ 11 (both _ _ p .1))))
     field-kept (operator k) z r l p =
-        then _ _ (pass _ 10 (good-at _ (f v j k) (f v j (k + 1)) (l _ (in-one _)) (good-utf8 s _ _ (passed _ 9 (both _ _ p .0))) (r .0) (r .1 .0)))
+        then _ _ (pass _ 10 (good-at _ (f v j k) (f v j (k + 1)) (l _ (in-one _)) (good-text s _ _ (passed _ 9 (both _ _ p .0))) (r .0) (r .1 .0)))
         (pass _ 12 (name-kept operators k (l _ (in-one _)) (r .0) (r .1 .0) (passed _ 11 (both _ _ p .1))))
     field-kept (node k) z r l p = pass _ 9 (node-at (f s i k) (f v j k) (passed _ 8 p) (r .0))
     field-kept (optionalNode k) z r l p =

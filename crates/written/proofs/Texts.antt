@@ -15,8 +15,7 @@ use Rattle.laws.specs.Lists.{flatMap}
 use Rattle.words.specs.Words.{NONE}
 use Rattle.texts.specs.Text.{same, holds}
 use Rattle.texts.proofs.Text.{same-self, same-equal}
-use Rattle.utf8.specs.Utf8.{utf8}
-use Rattle.image.specs.Sections.{Sections, nodeCount, definitionCount, partAt, textAt, present, goodIn, goodText}
+use Rattle.image.specs.Sections.{Sections, nodeCount, definitionCount, partAt, textAt, present, goodIn, goodText, goodBytes}
 use Rattle.records.specs.Records.{numberOfNamed}
 use Rattle.tree.specs.Tree.{namedText}
 use Rattle.index.specs.Definitions.{definitionText, numberOfItems, itemTextOf}
@@ -124,9 +123,9 @@ offset-inside kept t h =
 
 -- ---- good texts
 
-pub good-utf8 : (s : Sections) (at len : ℕ) → goodText s at len ≡ true → utf8 (textAt s at len) ≡ true
+pub good-text : (s : Sections) (at len : ℕ) → goodText s at len ≡ true → goodBytes (textAt s at len) ≡ true
 unfolding goodIn
-good-utf8 s at len h = both-true (present at len && leb (at + len) (length (s .strings))) _ h .1
+good-text s at len h = both-true (present at len && leb (at + len) (length (s .strings))) _ h .1
 
 pub text-short : (s : Sections) (at len : ℕ) → length (textAt s at len) ≤ len
 unfolding partAt
@@ -148,7 +147,7 @@ module _ (w : Sections) (kept : List (List ℕ)) (e : w .strings ≡ flatMap (λ
   pub text-back : (t : List ℕ) → holds kept t ≡ true → textAt w (offsetOf kept t) (length t) ≡ t
   text-back t h = rw e (stored-text kept t h)
 
-  pub text-good : (t : List ℕ) → holds kept t ≡ true → utf8 t ≡ true → goodText w (offsetOf kept t) (length t) ≡ true
+  pub text-good : (t : List ℕ) → holds kept t ≡ true → goodBytes t ≡ true → goodText w (offsetOf kept t) (length t) ≡ true
   unfolding goodIn
   text-good t h u =
       let fit = offset-inside kept t h in
@@ -157,7 +156,7 @@ module _ (w : Sections) (kept : List (List ℕ)) (e : w .strings ≡ flatMap (λ
       (and-true _ _
       (two-present (offsetOf kept t) (length t) (omega arith) (omega arith))
       (le-leb (offsetOf kept t + length t) (length (w .strings)) (omega arith)))
-      (ap utf8 (text-back t h) ∙ u)
+      (ap goodBytes (text-back t h) ∙ u)
 
 -- ---- the texts in use
 

@@ -22,7 +22,7 @@ use Rattle.tree.proofs.PlainTree.{right-tree}
 use Rattle.draft.specs.Numbering.{oldOf, newOf}
 use Rattle.draft_image.specs.Strings.{textWords}
 use Rattle.draft_image.specs.Written.{fieldWords}
-use Rattle.written.proofs.Texts.{good-utf8}
+use Rattle.written.proofs.Texts.{good-text}
 use Rattle.draft_image.proofs.Blocks.{w, child-word, named-word}
 use Rattle.written.proofs.Fields.{Given, counted, old-in, old-new, new-in, new-old, new-zero, new-is, parent-word, place-word, container-reads, children-of, named-of, start-is}
 use Rattle.written.proofs.Rules.{good-at, text-at, node-at, container-at, children-used, named-used}
@@ -84,7 +84,7 @@ module _ {s : Sections} {order : List ℕ} {kept : List (List ℕ)} (g : Given s
         let r = named-pass s i (g .taken .shape .entries i (old-in g j h)) m q in
         let target = named-at m 2 q (omega arith) in
         then _ _
-        (pass _ 14 (good-at g (namedText s i m) (namedAt v j m 0) (namedAt v j m 1) (g .stored .named j h m q) (good-utf8 s _ _ (r .text))
+        (pass _ 14 (good-at g (namedText s i m) (namedAt v j m 0) (namedAt v j m 1) (g .stored .named j h m q) (good-text s _ _ (r .text))
         (named-at m 0 q (omega arith)) (named-at m 1 q (omega arith))))
         (then _ _ (pass _ 14 (rising-same m (namedText v j) (namedText s i) (λ k l. named-text k (omega arith)) (r .order)))
         (then _ _ (pass _ 9 (container-at g x (namedAt v j m 2) (and-true _ _ (r .within) (r .container)) target))

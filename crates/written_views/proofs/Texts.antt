@@ -10,8 +10,7 @@ use borrow.Author.Tests.{eqb-true, eq-eqb, ne-eqb}
 use Rattle.laws.specs.Lists.{placeIn}
 use Rattle.words.specs.Words.{NONE, isNone}
 use Rattle.texts.specs.Text.{holds}
-use Rattle.utf8.specs.Utf8.{utf8}
-use Rattle.image.specs.Sections.{Sections, textAt, partAt, present, absent, goodIn, goodText, goodOptional}
+use Rattle.image.specs.Sections.{Sections, textAt, partAt, present, absent, goodIn, goodText, goodOptional, goodBytes}
 use Rattle.tree.proofs.Members.{both-true}
 use Rattle.draft.specs.Numbering.{oldOf, newOf}
 use Rattle.draft_image.specs.Strings.{textIf, offsetOf}
@@ -19,7 +18,7 @@ use Rattle.views.specs.declared.OptionalWord.the-variants as word
 use Rattle.views.specs.View.{span, shown, optionalText, optionalWord}
 use Rattle.written.proofs.Lists.{or-else}
 use Rattle.tree.proofs.Places.{place-le}
-use Rattle.written.proofs.Texts.{in-one, good-utf8, good-length}
+use Rattle.written.proofs.Texts.{in-one, good-text, good-length}
 use Rattle.draft_image.proofs.Blocks.{w}
 use Rattle.written.proofs.Fields.{Given, few, new-is, new-in, old-in, old-new, new-old, new-zero}
 use Rattle.written.proofs.Rules.{good-at, text-at}
@@ -28,7 +27,7 @@ use Rattle.written_views.specs.Views.{renumbered, Renumbers, SameText, S
 -- a good text is present and inside
 pub good-shown : (s : Sections) (at len : ℕ) → goodText s at len ≡ true → shown (length (s .strings)) at len ≡ true
 unfolding goodIn
-good-shown s at len h = both-true (present at len && leb (at + len) (length (s .strings))) (utf8 (partAt (s .strings) at len)) h .0
+good-shown s at len h = both-true (present at len && leb (at + len) (length (s .strings))) (goodBytes (partAt (s .strings) at len)) h .0
 
 -- a text that is absent is not shown
 none-shown : (strings at len : ℕ) → at ≡ NONE → shown strings at len ≡ false
@@ -46,7 +45,7 @@ module _ {s : Sections} {order : List ℕ} {kept : List (List ℕ)} (g : Given s
   text-same a n b m h k p q =
       record {
         drafted = good-shown s a n h;
-        written = good-shown t b m (good-at g (textAt s a n) b m k (good-utf8 s a n h) p q);
+        written = good-shown t b m (good-at g (textAt s a n) b m k (good-text s a n h) p q);
         len = q ∙ good-length s a n h;
         bytes = text-at g (textAt s a n) b m k p q;
       }
