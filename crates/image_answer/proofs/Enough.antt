@@ -8,12 +8,11 @@ use lib.ListN.{length}
 use lib.Dec.{leb}
 use borrow.Author.Tests.{le-leb, lt-leb}
 use Rattle.laws.specs.Refusal.{unless, _▸_}
-use Rattle.laws.specs.Counted.{sumOf}
 use Rattle.laws.proofs.First.{first, second, pass}
 use Rattle.image.specs.declared.ImageView.{ImageView}
-use Rattle.image.specs.Header.{headerRule, headerLength, startBy, sectionAt, sizes, viewOf, sectionsOf}
+use Rattle.image.specs.Header.{headerRule, startBy, viewOf, sectionsOf}
 use Rattle.image.proofs.OpenedHeader.{Opens, opens}
-use Rattle.image.proofs.Rows.{start-next}
+use Rattle.promises.proofs.FirstSections.{first-sections}
 use Rattle.load.specs.Load.{checksumRule, sectionsRule, loadRule, loadWords, loadedBy, loadedOf}
 use Rattle.load.specs.declared.Loaded.{Loaded}
 use Rattle.load.specs.declared.Loaded.the-variants as Loaded
@@ -21,20 +20,6 @@ use Rattle.load.proofs.Answers.{needed-is}
 use Rattle.image_answer.specs.declared.Answer.{Answer}
 use Rattle.image_answer.specs.declared.Answer.the-variants.{Accepted, Refused, Long}
 use Rattle.image_answer.specs.Answer.{limit, mostWords, imageRule, answerBy, answerOf}
-
--- nodes take 40 bytes, children 4 and named entries 12 after the header
-start-first : (bs : List ℕ) → startBy bs 0 ≡ headerLength
-unfolding startBy sumOf
-start-first bs = refl
-
-first-sections : (bs : List ℕ) → viewOf bs .nodes .count * 40 + viewOf bs .children .count * 4 + viewOf bs .named .count * 12 + 88 ≡ startBy bs 3
-unfolding viewOf sizes
-first-sections bs =
-    let z : startBy bs 0 ≡ 88 = start-first bs in
-    let a : startBy bs 1 ≡ startBy bs 0 + viewOf bs .nodes .count * 40 = start-next bs 0 in
-    let b : startBy bs 2 ≡ startBy bs 1 + viewOf bs .children .count * 4 = start-next bs 1 in
-    let d : startBy bs 3 ≡ startBy bs 2 + viewOf bs .named .count * 12 = start-next bs 2 in
-    omega arith
 
 -- there is a node
 node-due : (bs : List ℕ) → headerRule bs ≡ 0 → 0 < viewOf bs .nodes .count

@@ -2,6 +2,7 @@ pub mod Answers
 pub mod Fields
 pub mod Acceptance
 pub mod Premises
+pub mod FirstSections
 pub mod Views
 pub mod Counts
 pub mod Nodes

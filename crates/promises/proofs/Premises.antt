@@ -22,7 +22,7 @@ pub record Kept (s : Sections) : Type 0 where
   pub children : childCount s < NONE
 
 -- a node has ten words or more
-many : (n version : ℕ) → n * 40 ≤ n * (4 * nodeWords version)
+pub many : (n version : ℕ) → n * 40 ≤ n * (4 * nodeWords version)
 many n version = mul-le-mul-left n (omega (arith, words-some version))
 
 -- an image is shorter than a word can tell

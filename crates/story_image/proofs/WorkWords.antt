@@ -9,13 +9,12 @@ use lib.ListN.{length}
 use lib.Dec.{leb, eqb}
 use borrow.Author.Tests.{le-leb, lt-leb, leb-true, leb-false, eq-eqb, ne-eqb}
 use Rattle.laws.specs.Refusal.{unless, countsAs, _▸_, firstOf}
-use Rattle.laws.specs.Counted.{sumOf}
 use Rattle.image.specs.declared.ImageView.{ImageView}
 use Rattle.image.specs.declared.Opened.{Opened}
 use Rattle.image.specs.declared.Opened.the-variants as opened
-use Rattle.image.specs.Header.{headerLength, inkRight, headerRule, startBy, sizes, viewOf, sectionsOf, openedOf}
+use Rattle.image.specs.Header.{inkRight, headerRule, startBy, viewOf, sectionsOf, openedOf}
 use Rattle.image.proofs.OpenedHeader.{opens}
-use Rattle.image.proofs.Rows.{start-next}
+use Rattle.promises.proofs.FirstSections.{first-sections}
 use Rattle.load.specs.Load.{checksumRule, sectionsRule, loadRule, loadWords, early}
 use Rattle.load.proofs.NumbersFrom8.{late-sections, late-not-early}
 use Rattle.load.proofs.Answers.{header-broken, header-kept, needed-is}
@@ -121,20 +120,6 @@ tables-other s =
     test t = other-test 19 no t
 
 -- ---- a load's words suffice
-
-start-first : (bs : List ℕ) → startBy bs 0 ≡ headerLength
-unfolding startBy sumOf
-start-first bs = refl
-
--- nodes, children and named entries take at least four bytes each after the header
-first-sections : (bs : List ℕ) → viewOf bs .nodes .count * 40 + viewOf bs .children .count * 4 + viewOf bs .named .count * 12 + 88 ≡ startBy bs 3
-unfolding viewOf sizes
-first-sections bs =
-    let z : startBy bs 0 ≡ 88 = start-first bs in
-    let a : startBy bs 1 ≡ startBy bs 0 + viewOf bs .nodes .count * 40 = start-next bs 0 in
-    let b : startBy bs 2 ≡ startBy bs 1 + viewOf bs .children .count * 4 = start-next bs 1 in
-    let d : startBy bs 3 ≡ startBy bs 2 + viewOf bs .named .count * 12 = start-next bs 2 in
-    omega arith
 
 quarter : (bs : List ℕ) → headerRule bs ≡ 0 → loadWords (sectionsOf bs) ≤ length bs / 4
 quarter bs h =
