@@ -7,11 +7,6 @@ use Rattle.write_interning.proofs.Numbers.{Parts, parts, parts-ordered,
 use borrow.Author.Needs.{needs}
 use Rattle.write_interning.proofs.arrange.Statement.{statement}
 use Rattle.write_interning.proofs.arrange.Tie as tie
-use Rattle.write_interning.proofs.arrange.Reads as reads
-use Rattle.write_interning.proofs.arrange.Lts as lts
-use Rattle.write_interning.proofs.number.Reads as number-reads
-use Rattle.write_sorting.proofs.merge.Reads as merge-reads
-use Rattle.write_sorting.proofs.sort.Reads as sort-reads
 
 -- the texts by some tables
 abbrev by : tie.After-number2 → List ℕ → ℕ → List ℕ

@@ -11,11 +11,6 @@ use Rattle.write_interning.proofs.OutputLoop.{Emitting, emit-none, emit
 use borrow.Author.Needs.{needs}
 use Rattle.write_interning.proofs.emit.Statement.{statement}
 use Rattle.write_interning.proofs.emit.Tie as tie
-use Rattle.write_interning.proofs.emit.Reads as reads
-use Rattle.write_interning.proofs.emit.Lts as lts
-use Rattle.draft.proofs.source.word.Reads as word-reads
-use Rattle.write_text_keys.proofs.key_length.Reads as key-length-reads
-use Rattle.write_text_keys.proofs.put_key.Reads as put-key-reads
 
 abbrev Inv-loop : tie.InvT-loop
 Inv-loop nodes strings w t n out₀ source end₀ k₀ out end k = Emitting (keyIn (source .version) nodes strings t w) n out₀ out k end

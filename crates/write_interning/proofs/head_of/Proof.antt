@@ -4,10 +4,6 @@ use Rattle.write_interning.specs.Uses.{headOf}
 use borrow.Author.Needs.{needs}
 use Rattle.write_interning.proofs.head_of.Statement.{statement}
 use Rattle.write_interning.proofs.head_of.Tie as tie
-use Rattle.write_interning.proofs.head_of.Reads as reads
-use Rattle.write_interning.proofs.head_of.Lts as lts
-use Rattle.draft.proofs.source.word.Reads as word-reads
-use Rattle.write_text_keys.proofs.below.Reads as below-reads
 
 word-requires : tie.Need-word-requires
 word-requires c κs = search needs

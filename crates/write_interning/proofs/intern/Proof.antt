@@ -9,11 +9,6 @@ use Rattle.write_interning.specs.Uses.{storedOf, joined, answerOf, Offse
 use borrow.Author.Needs.{needs}
 use Rattle.write_interning.proofs.intern.Statement.{statement}
 use Rattle.write_interning.proofs.intern.Tie as tie
-use Rattle.write_interning.proofs.intern.Reads as reads
-use Rattle.write_interning.proofs.intern.Lts as lts
-use Rattle.write_interning.proofs.arrange.Reads as arrange-reads
-use Rattle.write_interning.proofs.assign.Reads as assign-reads
-use Rattle.write_interning.proofs.mark.Reads as mark-reads
 
 -- the texts by some tables
 abbrev by : tie.After-arrange → List ℕ → ℕ → List ℕ

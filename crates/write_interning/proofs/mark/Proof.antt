@@ -12,10 +12,6 @@ use Rattle.write_interning.proofs.FirstUses.{Marking, mark-none, mark-a
 use borrow.Author.Needs.{needs}
 use Rattle.write_interning.proofs.mark.Statement.{statement}
 use Rattle.write_interning.proofs.mark.Tie as tie
-use Rattle.write_interning.proofs.mark.Reads as reads
-use Rattle.write_interning.proofs.mark.Lts as lts
-use Rattle.draft.proofs.source.word.Reads as word-reads
-use Rattle.write_interning.proofs.head_of.Reads as head-of-reads
 
 abbrev Inv-loop : tie.InvT-loop
 Inv-loop nodes strings w₀ t n source i₀ w i = Marking (keyIn (source .version) nodes strings t w₀) n w₀ w i
