@@ -51,10 +51,10 @@ module _ (n k : ℕ) (b : Bool) (f : ℕ → ℕ) (p : firstOf n f ≡ 0) (e : u
 
 -- ---- ordered children, items
 
-pub child-told : (v : ℕ) (ns cs : List ℕ) (count : ℕ) → count ≡ length ns / nodeWords v → (j : ℕ) (b : Bool) → b ≡ insideAmong count (getD cs j 0)
+pub child-told : (v : ℕ) (ns cs : List ℕ) (count : ℕ) → count ≡ length ns / nodeWords v → (j x : ℕ) (b : Bool) → x ≡ getD cs j 0 → b ≡ insideAmong count x
     → unless b 19 ≡ draftChildRule (draftOf v ns cs [] [] [] [] []) j
 unfolding draftChildRule childWord
-child-told v ns cs count k j b e = ap (λ (x : Bool). unless x 19) (e ∙ ap (λ (n : ℕ). insideAmong n (getD cs j 0)) k)
+child-told v ns cs count k j x b r e = ap (λ (t : Bool). unless t 19) (e ∙ ap (insideAmong count) r ∙ ap (λ (n : ℕ). insideAmong n (getD cs j 0)) k)
 
 pub item-told : (is ts : List ℕ) (j : ℕ) (entry : TextEntry) (b : Bool) → entry ≡ textEntryOf is j → b ≡ goodIn ts (entry .offset) (entry .len)
     → unless b 19 ≡ draftItemRule (draftOf 0 [] [] [] [] is [] ts) j

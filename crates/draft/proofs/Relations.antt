@@ -10,41 +10,24 @@ use borrow.Author.Tests.{not-true, not-false, eq-eqb, ne-eqb}
 use Rattle.laws.specs.Refusal.{unless, passes, _▸_, firstOf}
 use Rattle.laws.specs.Counted.{allOf}
 use Rattle.laws.proofs.First.{pass, fail}
-use Rattle.texts.specs.Text.{before, rising}
+use Rattle.texts.specs.Text.{rising}
 use Rattle.image.specs.declared.NodeRecord.{NodeRecord}
 use Rattle.image.specs.declared.TextEntry.{TextEntry}
 use Rattle.image.specs.declared.Definition.{Definition}
-use Rattle.image.specs.Sections.{Sections, nodeWords, textEntryWords, definitionWords, insideAmong, nodeWord, childWord, parentOf, placeOf, tagOf, f, inside, isContainer, insideContainer, goodText, textOrEmpty}
+use Rattle.image.specs.Sections.{Sections, nodeWords, textEntryWords, definitionWords, insideAmong, nodeWord, childWord, parentOf, placeOf, tagOf, f, inside, isContainer, insideContainer, goodText, partAt}
 use Rattle.image.proofs.Tests.{both-true, inside-true}
-use Rattle.image.specs.Entries.{textEntryOf, definitionOf, nodeIn, namedIn}
+use Rattle.image.specs.Entries.{textEntryOf, definitionOf, entryTextFrom, definitionTextIn, nodeIn, namedIn}
 use Rattle.image.proofs.Entries.{IsNode, is-node, named-entry, item-entry, definition-entry}
-use Rattle.image.proofs.Parts.{good-part}
 use Rattle.records.specs.Records.{numberOfChildren, numberOfNamed, parentRule}
 use Rattle.records.specs.Shown.{ShowsParent, tagIn}
 use Rattle.records.proofs.Tests.{stop, go}
 use Rattle.tree.specs.Tree.{childAt, namedAt, namedText, rightChild, childRule, namedRule, entriesRule}
 use Rattle.index.specs.Definitions.{definitionText, itemText, itemTextOf, firstItem, numberOfItems}
-use Rattle.image.proofs.RisingTexts.{rising-next}
 use Rattle.draft.specs.Source.{draftOf, wordOf}
 use Rattle.draft.specs.Draft.{relationRule, orderRule}
-use Rattle.draft.specs.Shown.{shownEntry, shownDefinition, rightContainer, namedRight, TreePassed, ListsPassed}
+use Rattle.draft.specs.Shown.{rightContainer, namedRight, TreePassed, ListsPassed}
 use Rattle.draft.proofs.NodeTable.{countsIn, counts-are}
 use Rattle.draft.proofs.Runs.{as-passes, passes-unless, passes-both, passes-all, unless-both, unless-all, rising-upto, all-like}
-
--- ---- the order of two texts
-
-pub entry-rises : (ws ts : List ℕ) (first place : ℕ) (last entry : TextEntry) (b : Bool) → (place ≡ 0 → ⊥)
-    → last ≡ textEntryOf ws (first + (place - 1)) → entry ≡ textEntryOf ws (first + place)
-    → (s t : List ℕ) → s ≡ textOrEmpty ts (last .offset) (last .len) → t ≡ textOrEmpty ts (entry .offset) (entry .len)
-    → b ≡ before s t → b ≡ rising (shownEntry ws ts first) place
-unfolding shownEntry
-entry-rises ws ts first place last entry b d p q s t u v e = rw (rising-next (shownEntry ws ts first) place d, ← p, ← q, ← u, ← v) e
-
-pub definition-rises : (ws ts : List ℕ) (d : ℕ) (last entry : Definition) (b : Bool) → (d ≡ 0 → ⊥) → last ≡ definitionOf ws (d - 1) → entry ≡ definitionOf ws d
-    → (s t : List ℕ) → s ≡ textOrEmpty ts (last .offset) (last .len) → t ≡ textOrEmpty ts (entry .offset) (entry .len)
-    → b ≡ before s t → b ≡ rising (shownDefinition ws ts) d
-unfolding shownDefinition
-definition-rises ws ts d last entry b h p q s t u v e = rw (rising-next (shownDefinition ws ts) d h, ← p, ← q, ← u, ← v) e
 
 -- ---- a node by its words
 
@@ -97,7 +80,7 @@ module _ (v : ℕ) (ns : List ℕ) where
 
 -- ---- a named entry
 
-module _ (v : ℕ) (ns ms ts : List ℕ) (i first j : ℕ) (b : Bool) (e : b ≡ rising (shownEntry ms ts first) j) where
+module _ (v : ℕ) (ns ms ts : List ℕ) (i first j : ℕ) (b : Bool) (e : b ≡ rising (entryTextFrom ms ts first) j) where
   pub entry-falls : not b ≡ true → false ≡ namedRight v ns ms ts i first j
   unfolding namedRight
   entry-falls q = ap (λ (t : Bool). t && rightContainer v ns (textEntryOf ms (first + j) .value) i) (sym (sym e ∙ not-true b q))
@@ -167,16 +150,15 @@ module _ {v : ℕ} (ns cs ms ts : List ℕ) (g : TreePassed (draftOf v ns cs ms 
     good-entry : (j : ℕ) → j < r .f6 → goodText s (namedAt s i j 0) (namedAt s i j 1) ≡ true
     good-entry j k = g .texts (f s i 5 + j) (omega (arith, named-range, node-words .f5))
 
-    entry-text : (j : ℕ) → j < r .f6 → shownEntry ms ts (r .f5) j ≡ namedText s i j
-    unfolding shownEntry
-    entry-text j k =
-        ap (λ (x : TextEntry). textOrEmpty ts (x .offset) (x .len)) (entry-is j) ∙ good-part ts (namedAt s i j 0) (namedAt s i j 1) (good-entry j k)
+    entry-text : (j : ℕ) → j < r .f6 → entryTextFrom ms ts (r .f5) j ≡ namedText s i j
+    unfolding entryTextFrom
+    entry-text j k = ap (λ (x : TextEntry). partAt ts (x .offset) (x .len)) (entry-is j)
 
     named-test : (j : ℕ) → j < r .f6 → namedRight v ns ms ts i (r .f5) j ≡ passes (namedRule s i j)
     unfolding namedRight namedRule nodeWord
     named-test j k =
         rw (
-          rising-upto (shownEntry ms ts (r .f5)) (namedText s i) j (λ m l. entry-text m (omega arith)),
+          rising-upto (entryTextFrom ms ts (r .f5)) (namedText s i) j (λ m l. entry-text m (omega arith)),
           entry-is j,
           passes-both (unless (goodText s (namedAt s i j 0) (namedAt s i j 1)) 14) (unless (rising (namedText s i) j) 14 ▸ unless (insideContainer s (namedAt s i j 2)) 9 ▸ unless (eqb (parentOf s (namedAt s i j 2)) i) 14),
           passes-both (unless (rising (namedText s i) j) 14) (unless (insideContainer s (namedAt s i j 2)) 9 ▸ unless (eqb (parentOf s (namedAt s i j 2)) i) 14),
@@ -242,14 +224,13 @@ module _ (ds is ts : List ℕ) (g : ListsPassed (draftOf 0 [] [] [] ds is [] ts)
   abbrev lists : Sections
   lists = draftOf 0 [] [] [] ds is [] ts
 
-  definition-text : (k : ℕ) → k ≤ d → shownDefinition ds ts k ≡ definitionText lists k
-  unfolding shownDefinition
-  definition-text k l =
-      ap (λ (x : Definition). textOrEmpty ts (x .offset) (x .len)) (definition-entry lists ds k refl) ∙ good-part ts _ _ (g .definitions k (omega arith))
+  definition-text : (k : ℕ) → k ≤ d → definitionTextIn ds ts k ≡ definitionText lists k
+  unfolding definitionTextIn
+  definition-text k l = ap (λ (x : Definition). partAt ts (x .offset) (x .len)) (definition-entry lists ds k refl)
 
-  module _ (a : Bool) (p : a ≡ rising (shownDefinition ds ts) d) where
+  module _ (a : Bool) (p : a ≡ rising (definitionTextIn ds ts) d) where
     rises-is : rising (definitionText lists) d ≡ a
-    rises-is = sym (p ∙ rising-upto (shownDefinition ds ts) (definitionText lists) d definition-text)
+    rises-is = sym (p ∙ rising-upto (definitionTextIn ds ts) (definitionText lists) d definition-text)
 
     pub definition-falls : not a ≡ true → 21 ≡ orderRule lists d
     unfolding orderRule
@@ -265,21 +246,20 @@ module _ (ds is ts : List ℕ) (g : ListsPassed (draftOf 0 [] [] [] ds is [] ts)
       pub items-range : (entry .first + entry .count) * textEntryWords ≤ length is
       items-range = omega (arith, g .ranges d h, first-is, count-is)
 
-      item-text : (j : ℕ) → j < entry .count → shownEntry is ts (entry .first) j ≡ itemTextOf lists d j
-      unfolding shownEntry
+      item-text : (j : ℕ) → j < entry .count → entryTextFrom is ts (entry .first) j ≡ itemTextOf lists d j
+      unfolding entryTextFrom
       item-text j k =
-          ap (λ (x : TextEntry). textOrEmpty ts (x .offset) (x .len)) (item-entry lists is (entry .first + j) refl)
-          ∙ good-part ts _ _ (g .items (entry .first + j) (omega (arith, items-range)))
+          ap (λ (x : TextEntry). partAt ts (x .offset) (x .len)) (item-entry lists is (entry .first + j) refl)
           ∙ ap (λ (n : ℕ). itemText lists (n + j)) first-is
 
-      module _ (b : Bool) (k : b ≡ allOf (entry .count) (rising (shownEntry is ts (entry .first)))) where
+      module _ (b : Bool) (k : b ≡ allOf (entry .count) (rising (entryTextFrom is ts (entry .first)))) where
         items-are : firstOf (numberOfItems lists d) (λ j. unless (rising (itemTextOf lists d) j) 21) ≡ unless b 21
         items-are =
             unless-all (numberOfItems lists d) 20 (rising (itemTextOf lists d))
             ∙ ap (λ (n : ℕ). unless (allOf n (rising (itemTextOf lists d))) 21) (sym count-is)
             ∙ ap (λ (x : Bool). unless x 21)
-            (sym (k ∙ all-like (entry .count) (rising (shownEntry is ts (entry .first))) (rising (itemTextOf lists d))
-            (λ j l. rising-upto (shownEntry is ts (entry .first)) (itemTextOf lists d) j (λ m n. item-text m (omega arith)))))
+            (sym (k ∙ all-like (entry .count) (rising (entryTextFrom is ts (entry .first))) (rising (itemTextOf lists d))
+            (λ j l. rising-upto (entryTextFrom is ts (entry .first)) (itemTextOf lists d) j (λ m n. item-text m (omega arith)))))
 
         pub items-rise : b ≡ true → 0 ≡ orderRule lists d
         unfolding orderRule

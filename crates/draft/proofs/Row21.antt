@@ -20,7 +20,7 @@ tables-passed s t =
     record {
       some = t .some;
       tree = record { ranges = tables-fit s t .ranges; texts = t .named-texts };
-      lists = record { ranges = λ d h. items-end s t d h; definitions = λ d h. t .definitions d h .0; items = t .items };
+      lists = record { ranges = λ d h. items-end s t d h };
     }
 
 module _ (v : ℕ) (ns cs ms ds is ps ts : List ℕ) where
@@ -47,7 +47,7 @@ module _ (v : ℕ) (ns cs ms ds is ps ts : List ℕ) where
 
     pub lists-passed : ListsPassed lists
     unfolding definitionWord itemWord
-    lists-passed = record { ranges = p .lists .ranges; definitions = p .lists .definitions; items = p .lists .items }
+    lists-passed = record { ranges = p .lists .ranges }
 
   -- ---- the row
 

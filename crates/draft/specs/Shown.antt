@@ -5,21 +5,11 @@ use mathlib.Core.List.{List, []}
 use mathlib.Core.Bool.{Bool, true, _&&_}
 use lib.Dec.{eqb}
 use Rattle.texts.specs.Text.{rising}
-use Rattle.image.specs.Sections.{Sections, nodeCount, namedCount, definitionCount, itemCount, parentOf, namedWord, goodText, textOrEmpty, isContainer, insideContainer}
-use Rattle.image.specs.Entries.{textEntryOf, definitionOf}
+use Rattle.image.specs.Sections.{Sections, nodeCount, namedCount, definitionCount, itemCount, parentOf, namedWord, goodText, isContainer, insideContainer}
+use Rattle.image.specs.Entries.{textEntryOf, entryTextFrom}
 use Rattle.tree.specs.Parts.{Ranges}
-use Rattle.index.specs.Definitions.{goodDefinition, goodItem, firstItem, numberOfItems}
+use Rattle.index.specs.Definitions.{firstItem, numberOfItems}
 use Rattle.draft.specs.Source.{draftOf}
-
--- ---- texts, none where they are not inside the strings
-
--- of the j-th entry of three words, from the first one of a run on
-unfoldable pub shownEntry : List ℕ → List ℕ → ℕ → ℕ → List ℕ
-shownEntry ws strings first j = textOrEmpty strings (textEntryOf ws (first + j) .offset) (textEntryOf ws (first + j) .len)
-
--- of definition d
-unfoldable pub shownDefinition : List ℕ → List ℕ → ℕ → List ℕ
-shownDefinition ws strings d = textOrEmpty strings (definitionOf ws d .offset) (definitionOf ws d .len)
 
 -- ---- named entries
 
@@ -32,7 +22,7 @@ rightContainer version nodes n i =
 -- the j-th named entry from the first one of container i on has its text in order, and names such a container
 unfoldable pub namedRight : ℕ → List ℕ → List ℕ → List ℕ → ℕ → ℕ → ℕ → Bool
 namedRight version nodes named strings i first j =
-    rising (shownEntry named strings first) j && rightContainer version nodes (textEntryOf named (first + j) .value) i
+    rising (entryTextFrom named strings first) j && rightContainer version nodes (textEntryOf named (first + j) .value) i
 
 -- ---- what row 19 has shown
 
@@ -41,11 +31,9 @@ pub record TreePassed (s : Sections) : Type 0 where
   pub ranges : (i : ℕ) → i < nodeCount s → isContainer s i ≡ true → Ranges s i
   pub texts : (j : ℕ) → j < namedCount s → goodText s (namedWord s j 0) (namedWord s j 1) ≡ true
 
--- the items of definitions lie in their section, and all texts are good
+-- the items of definitions lie in their section
 pub record ListsPassed (s : Sections) : Type 0 where
   pub ranges : (d : ℕ) → d < definitionCount s → firstItem s d + numberOfItems s d ≤ itemCount s
-  pub definitions : (d : ℕ) → d < definitionCount s → goodDefinition s d ≡ true
-  pub items : (j : ℕ) → j < itemCount s → goodItem s j ≡ true
 
 -- there is a root, and both of these hold
 pub record TablesPassed (s : Sections) : Type 0 where

@@ -7,10 +7,11 @@ ghost use Rattle.laws.specs.Refusal.{firstOf};
 ghost use Rattle.laws.specs.Counted.{allOf};
 ghost use Rattle.texts.specs.Text.{rising};
 ghost use Rattle.image.specs.Sections.{textEntryWords, definitionWords, nodeCount, definitionCount};
+ghost use Rattle.image.specs.Entries.{entryTextFrom, definitionTextIn};
 ghost use Rattle.tree.specs.Tree.{rightChild};
 ghost use Rattle.draft.specs.Source.{draftOf};
 ghost use Rattle.draft.specs.Draft.{relationRule, orderRule, shapeRule};
-ghost use Rattle.draft.specs.Shown.{shownEntry, shownDefinition, rightContainer, namedRight, TreePassed, ListsPassed, TablesPassed};
+ghost use Rattle.draft.specs.Shown.{rightContainer, namedRight, TreePassed, ListsPassed, TablesPassed};
 use crate::source;
 use crate::source::Source;
 use image::ImageView;
@@ -22,7 +23,7 @@ use records::Counts;
 // Whether the text of an entry, the `place`-th from entry `first` on, comes after that of the entry before it.
 fn entry_rises(entries: &[u32], strings: &[u8], first: usize, place: usize) -> bool
     requires { ⌜ (first + place) * textEntryWords + textEntryWords ≤ length (now entries) ⌝ }
-    ensures { λ r. ⌜ r ≡ rising (shownEntry (now (entries .entry)) (now (strings .entry)) first) place ⌝ }
+    ensures { λ r. ⌜ r ≡ rising (entryTextFrom (now (entries .entry)) (now (strings .entry)) first) place ⌝ }
 {
     if place == 0 {
         return true;
@@ -30,15 +31,15 @@ fn entry_rises(entries: &[u32], strings: &[u8], first: usize, place: usize) -> b
     let last = source::entry_at(entries, first + (place - 1));
     let entry = source::entry_at(entries, first + place);
     comes_before(
-        image::text_part(strings, last.offset, last.len),
-        image::text_part(strings, entry.offset, entry.len),
+        image::text_bytes(strings, last.offset, last.len),
+        image::text_bytes(strings, entry.offset, entry.len),
     )
 }
 
 // Whether the text of definition `d` comes after that of the definition before it.
 fn definition_rises(definitions: &[u32], strings: &[u8], d: usize) -> bool
     requires { ⌜ d * definitionWords + definitionWords ≤ length (now definitions) ⌝ }
-    ensures { λ r. ⌜ r ≡ rising (shownDefinition (now (definitions .entry)) (now (strings .entry))) d ⌝ }
+    ensures { λ r. ⌜ r ≡ rising (definitionTextIn (now (definitions .entry)) (now (strings .entry))) d ⌝ }
 {
     if d == 0 {
         return true;
@@ -46,8 +47,8 @@ fn definition_rises(definitions: &[u32], strings: &[u8], d: usize) -> bool
     let last = source::definition_at(definitions, d - 1);
     let definition = source::definition_at(definitions, d);
     comes_before(
-        image::text_part(strings, last.offset, last.len),
-        image::text_part(strings, definition.offset, definition.len),
+        image::text_bytes(strings, last.offset, last.len),
+        image::text_bytes(strings, definition.offset, definition.len),
     )
 }
 
@@ -79,7 +80,8 @@ fn right_children(
 {
     let mut j = 0;
     while j < count {
-        if !right_child(nodes, children[start + j], id, j, source) {
+        let child = source::word(children, start + j);
+        if !right_child(nodes, child, id, j, source) {
             return false;
         }
         j += 1;
@@ -147,7 +149,7 @@ fn right_entries(
 // Whether all of so many items, from `first` on, have their texts in order.
 fn items_rise(items: &[u32], strings: &[u8], first: usize, count: usize) -> bool
     requires { ⌜ (first + count) * textEntryWords ≤ length (now items) ⌝ }
-    ensures { λ r. ⌜ r ≡ allOf count (rising (shownEntry (now (items .entry)) (now (strings .entry)) first)) ⌝ }
+    ensures { λ r. ⌜ r ≡ allOf count (rising (entryTextFrom (now (items .entry)) (now (strings .entry)) first)) ⌝ }
 {
     let mut j = 0;
     while j < count {

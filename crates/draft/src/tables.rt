@@ -123,7 +123,7 @@ fn children_rule(nodes: &[u32], children: &[u32], source: Source) -> u32
     let count = source::node_count(nodes, source);
     let mut j = 0;
     while j < children.len() {
-        if !image::is_inside(count, children[j]) {
+        if !image::is_inside(count, source::word(children, j)) {
             return BAD_DRAFT;
         }
         j += 1;

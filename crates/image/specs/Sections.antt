@@ -33,6 +33,16 @@ textEntrySize = 12
 abbrev pub definitionSize : ℕ
 definitionSize = 16
 
+-- bytes of a list's payload: of its two counts, of an item, of an origin
+abbrev pub listHeadSize : ℕ
+listHeadSize = 8
+
+abbrev pub listItemSize : ℕ
+listItemSize = 20
+
+abbrev pub listOriginSize : ℕ
+listOriginSize = 8
+
 pub record Sections : Type 0 where
   -- the format version
   pub version : ℕ

@@ -14,9 +14,6 @@ use crate::node_size;
 use words::output::put_words;
 use words::put_word;
 
-// Where the checksum stands.
-const CHECKSUM_AT: usize = 84;
-
 // How many entries each section has.
 pub struct EntryCounts {
     pub nodes: u32,
@@ -86,7 +83,7 @@ pub fn put_header(version: u32, ink: u32, counts: EntryCounts, out: &mut [u8])
         0,
     ];
     put_magic(out);
-    put_words(out, 8, &words);
+    put_words(out, ImageView::VERSION_AT, &words);
 }
 
 // Writes the checksum of an image into its header, where 0 stands.
@@ -95,5 +92,5 @@ pub fn put_checksum(image: &mut [u8])
     ensures { λ r. ⌜ ((ink : ℕ) (s : Sections) → now (image .entry) ≡ headerWith ink s 0 ++ bodyOf s → now (image .exit) ≡ imageOf ink s) ⌝ }
 {
     let sum = checksum::checksum(image);
-    put_word(image, CHECKSUM_AT, sum);
+    put_word(image, ImageView::CHECKSUM_AT, sum);
 }

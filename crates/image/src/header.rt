@@ -13,7 +13,7 @@ fn section_at(bytes: &[u8], k: usize) -> Section
     ensures { λ r. ⌜ r ≡ sectionAt (now (bytes .entry)) k ⌝ }
 {
     Section {
-        offset: words::word(bytes, 20 + 8 * k),
+        offset: words::word(bytes, ImageView::SECTIONS_AT + 8 * k),
         count: words::word(bytes, 24 + 8 * k),
     }
 }
@@ -24,8 +24,8 @@ pub fn view_at(bytes: &[u8]) -> ImageView
     ensures { λ r. ⌜ r ≡ viewOf (now (bytes .entry)) ⌝ }
 {
     ImageView {
-        version: words::word(bytes, 8),
-        ink_version: words::word(bytes, 12),
+        version: words::word(bytes, ImageView::VERSION_AT),
+        ink_version: words::word(bytes, ImageView::INK_VERSION_AT),
         nodes: section_at(bytes, 0),
         children: section_at(bytes, 1),
         named: section_at(bytes, 2),
@@ -44,6 +44,7 @@ fn version_right(version: u32) -> bool
     version == ImageView::VERSION
 }
 
+// Whether an ink version is one that is known: 18 to 21.
 fn ink_right(version: u32) -> bool
     ensures { λ r. ⌜ r ≡ inkRight version ⌝ }
 {
@@ -58,7 +59,7 @@ fn laid_out(bytes: &[u8]) -> bool
     requires { ⌜ headerLength ≤ length (now bytes) ⌝ }
     ensures { λ r. ⌜ r ≡ laidOut (now (bytes .entry)) ⌝ }
 {
-    let sizes = crate::section_sizes(words::word(bytes, 8));
+    let sizes = crate::section_sizes(words::word(bytes, ImageView::VERSION_AT));
     let mut end = ImageView::HEADER_LENGTH;
     let mut k = 0;
     while k < 8 {
@@ -91,13 +92,13 @@ pub fn refusal_of(bytes: &[u8]) -> u32
     if !texts::equal(&bytes[..8], &magic) {
         return refusal::BAD_HEADER;
     }
-    if !version_right(words::word(bytes, 8)) {
+    if !version_right(words::word(bytes, ImageView::VERSION_AT)) {
         return refusal::BAD_VERSION;
     }
-    if !ink_right(words::word(bytes, 12)) {
+    if !ink_right(words::word(bytes, ImageView::INK_VERSION_AT)) {
         return refusal::BAD_INK_VERSION;
     }
-    if words::word(bytes, 16) as usize != bytes.len() {
+    if words::word(bytes, ImageView::LENGTH_AT) as usize != bytes.len() {
         return refusal::BAD_LENGTH;
     }
     if laid_out(bytes) {

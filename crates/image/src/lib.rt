@@ -3,13 +3,15 @@ ghost use mathlib.Core.Path.{_≡_};
 ghost use Prim.Native.Nat.{_+_, _*_, _/_, _≤_, _<_};
 ghost use lib.ListN.{length, getD};
 ghost use Rattle.words.specs.Words.{wordsOf};
-ghost use Rattle.image.specs.Sections.{nodeWords, nodeSize, textEntrySize, definitionSize, goodIn, goodBytes, insideAmong, optionalIn, partAt, textOrEmpty};
+ghost use Rattle.image.specs.Sections.{nodeWords, nodeSize, textEntrySize, definitionSize};
+ghost use Rattle.image.specs.Sections.{goodIn, goodBytes, insideAmong, optionalIn, partAt, textOrEmpty};
 ghost use Rattle.image.specs.Header.{sectionBytes, sizes, openedOf};
 ghost use Rattle.image.specs.Entries.{recordOf, textEntryOf, definitionOf};
 
 pub mod encoding;
 mod header;
 pub mod order;
+pub mod payload;
 pub mod refusal;
 pub mod tag;
 
@@ -46,6 +48,17 @@ impl ImageView {
 
     // In bytes.
     pub const HEADER_LENGTH: usize = 88;
+
+    // Where the header's words stand behind the magic: of a section, offset and count.
+    pub const VERSION_AT: usize = 8;
+
+    pub const INK_VERSION_AT: usize = 12;
+
+    pub const LENGTH_AT: usize = 16;
+
+    pub const SECTIONS_AT: usize = 20;
+
+    pub const CHECKSUM_AT: usize = 84;
 
     // Words an entry: a node; a named entry, an item or an index entry; a definition.
     const NODE_WORDS: usize = 10;

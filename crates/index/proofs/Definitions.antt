@@ -15,7 +15,7 @@ use Rattle.image.proofs.Tests.{both-true}
 use Rattle.index.specs.Definitions.{definitionText, firstItem, numberOfItems, itemText, itemTextOf, goodDefinition, goodItem, itemsBefore, itemsRight, itemRuleFrom, itemRule, definitionRule, itemsUsedUp, definitionsRule}
 use Rattle.index.specs.Parts.{definitionParts}
 use Rattle.image.proofs.RisingTexts.{rising-before, rising-once, rising-like}
-use Rattle.index.proofs.RuleRuns.{first-like, sum-like}
+use Rattle.laws.proofs.RuleRuns.{first-like, sum-like}
 
 -- ---- an item and a definition that pass
 

@@ -15,7 +15,7 @@ use Rattle.index.specs.Index.{indexText, indexEntryRule, indexRule}
 use Rattle.index.specs.Parts.{indexParts, pathNodeOf}
 use Rattle.index.proofs.Paths.{fits-plain}
 use Rattle.image.proofs.RisingTexts.{rising-before, rising-once, rising-like}
-use Rattle.index.proofs.RuleRuns.{first-like}
+use Rattle.laws.proofs.RuleRuns.{first-like}
 
 -- ---- an entry that passes
 

@@ -21,13 +21,14 @@ use Rattle.image.specs.declared.TextEntry.{TextEntry}
 use Rattle.image.specs.declared.Definition.{Definition}
 use Rattle.image.specs.Sections.{Sections, textEntryWords, definitionWords, textEntrySize, definitionSize, definitionWord, partAt, goodIn, insideContainer, itemCount}
 use Rattle.image.specs.Entries.{textEntryOf, definitionOf, entryTextFrom, definitionTextIn}
+use Rattle.image.proofs.Parts.{text-entry-count}
 use Rattle.image.proofs.Entries.{index-entry, item-entry, definition-entry}
 use Rattle.index.specs.Paths.{noName, fits}
 use Rattle.index.specs.Index.{indexText, indexEntryRule, indexRule}
 use Rattle.index.specs.Definitions.{definitionText, itemText, numberOfItems, itemsBefore, itemRuleFrom, definitionRule, itemsUsedUp, definitionsRule}
 use Rattle.index.specs.Parts.{indexParts, definitionParts}
 use Rattle.image.proofs.RisingTexts.{rising-like}
-use Rattle.index.proofs.RuleRuns.{run-stops}
+use Rattle.laws.proofs.RuleRuns.{run-stops}
 use Rattle.index.proofs.Definitions.{definition-passed}
 
 -- ---- names
@@ -113,9 +114,6 @@ unfolding indexRule
 index-run version nodes index strings =
     ap (λ (n : ℕ). firstOf n (indexEntryRule (indexParts version nodes index strings))) (omega (arith, length-words index))
 
-pub items-length : (items : List ℕ) → length (wordsOf items) / textEntryWords ≡ length items / textEntrySize
-items-length items = omega (arith, length-words items)
-
 -- the refusals of the definitions, then of items that are left over
 pub definitions-run : (definitions items strings : List ℕ)
     → definitionsRule (definitionParts definitions items strings)
@@ -126,7 +124,7 @@ definitions-run definitions items strings =
     let s = definitionParts definitions items strings in
     let n : length (wordsOf definitions) / definitionWords ≡ length definitions / definitionSize = omega (arith, length-words definitions) in
     ap (λ (k : ℕ). firstOf k (definitionRule s) ▸ unless (eqb (itemsBefore s k) (length (wordsOf items) / textEntryWords)) 17) n
-    ∙ ap (λ (k : ℕ). firstOf (length definitions / definitionSize) (definitionRule s) ▸ unless (eqb (itemsBefore s (length definitions / definitionSize)) k) 17) (items-length items)
+    ∙ ap (λ (k : ℕ). firstOf (length definitions / definitionSize) (definitionRule s) ▸ unless (eqb (itemsBefore s (length definitions / definitionSize)) k) 17) (text-entry-count items)
 
 -- the loop over definitions: the one at d is refused; none is; its items, whose count w was read, are added to those used
 module _ (definitions items strings : List ℕ) (d : ℕ) where
@@ -164,6 +162,6 @@ module _ (definitions items strings : List ℕ) (d : ℕ) where
       → used + e .count ≤ length items / textEntrySize
   used-inside used e u h p =
       let q = definition-passed parts d p in
-      let n : itemCount parts ≡ length items / textEntrySize = items-length items in
+      let n : itemCount parts ≡ length items / textEntrySize = text-entry-count items in
       let k : e .count ≡ numberOfItems parts d = count-read e h in
       rw (u, k, ← q .start, ← n) (q .inside)

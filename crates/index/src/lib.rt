@@ -197,7 +197,8 @@ fn items_rule(items: &[u8], strings: &[u8], first: usize, count: usize) -> u32
 
 // The refusal of definition `d`, or 0. The definitions before it have `used` items.
 fn definition_rule(definitions: &[u8], items: &[u8], strings: &[u8], d: usize, used: usize) -> u32
-    requires { ⌜ (definitionSize * d + definitionSize ≤ length (now definitions)) × (used ≡ itemsBefore (definitionParts (now definitions) (now items) (now strings)) d) ⌝ }
+    requires { ⌜ (definitionSize * d + definitionSize ≤ length (now definitions))
+        × (used ≡ itemsBefore (definitionParts (now definitions) (now items) (now strings)) d) ⌝ }
     ensures { λ r. ⌜ r ≡ definitionRule (definitionParts (now (definitions .entry)) (now (items .entry)) (now (strings .entry))) d ⌝ }
 {
     let definition = image::definition_at(definitions, d);

@@ -14,11 +14,9 @@ use Rattle.image.specs.Header.{sectionBytes, sectionsBy}
 use Rattle.records.specs.declared.Counts.{Counts}
 use Rattle.records.specs.Shown.{tagIn, countsOf}
 use Rattle.image.proofs.Tests.{inside-true}
+use Rattle.image.proofs.Parts.{text-entry-count}
 
 -- ---- counts
-
-three : (bs : List ℕ) → length (wordsOf bs) / textEntryWords ≡ length bs / textEntrySize
-three bs = rw (length-words bs) (omega arith)
 
 module _ (bs : List ℕ) (v : ImageView) where
   pub counts-read : (ns cs ms : List ℕ) (count : ℕ) → ns ≡ sectionBytes bs (v .nodes) (nodeSize (v .version)) → cs ≡ sectionBytes bs (v .children) childSize
@@ -30,12 +28,12 @@ module _ (bs : List ℕ) (v : ImageView) where
       record {
         nodes = (e ∙ ap (λ (x : List ℕ). length (wordsOf x) / nodeWords (v .version)) n) k;
         children = (ap (λ (x : List ℕ). length x / childSize) c ∙ sym (length-words (sectionBytes bs (v .children) childSize))) k;
-        named = (ap (λ (x : List ℕ). length x / textEntrySize) m ∙ sym (three (sectionBytes bs (v .named) textEntrySize))) k;
+        named = (ap (λ (x : List ℕ). length x / textEntrySize) m ∙ sym (text-entry-count (sectionBytes bs (v .named) textEntrySize))) k;
       }
 
   pub index-read : (is : List ℕ) → is ≡ sectionBytes bs (v .index) textEntrySize → length is / textEntrySize ≡ indexCount (sectionsBy bs v)
   unfolding sectionsBy
-  index-read is e = ap (λ (x : List ℕ). length x / textEntrySize) e ∙ sym (three (sectionBytes bs (v .index) textEntrySize))
+  index-read is e = ap (λ (x : List ℕ). length x / textEntrySize) e ∙ sym (text-entry-count (sectionBytes bs (v .index) textEntrySize))
 
 -- ---- the tag of node n
 

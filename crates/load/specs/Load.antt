@@ -8,10 +8,11 @@ use lib.Dec.{leb, eqb}
 use Rattle.laws.specs.Refusal.{unless, _▸_, firstOf, refusals}
 use Rattle.words.specs.Words.{wordAt}
 use Rattle.checksum.specs.Crc.{checksumOf, crcs}
-use Rattle.image.specs.Sections.{Sections, nodeCount, childCount, namedCount, indexCount}
+use Rattle.image.specs.Sections.{Sections, nodeCount, indexCount}
 use Rattle.image.specs.declared.ImageView.{ImageView}
 use Rattle.image.specs.Header.{headerRule, viewOf, sectionsOf, headers}
 use Rattle.records.specs.Records.{nodeRule, rootRight, usedUp, containersBefore, records}
+use Rattle.tree.specs.Work.{treeWords}
 use Rattle.tree.specs.Tree.{treeRule, trees}
 use Rattle.index.specs.Index.{indexRule, indexes}
 use Rattle.index.specs.Definitions.{definitionsRule, definitions}
@@ -34,9 +35,9 @@ recordsRule s = unless (rootRight s) 8 ▸ firstOf (nodeCount s) (nodeRule s) �
 unfoldable pub sectionsRule : Sections → ℕ
 sectionsRule s = recordsRule s ▸ treeRule s ▸ indexRule s ▸ definitionsRule s
 
--- work words for loading
+-- work words for loading: those of the tree's walk
 abbrev pub loadWords : Sections → ℕ
-loadWords s = nodeCount s + childCount s + namedCount s + 1
+loadWords s = treeWords s
 
 -- a load of bytes with a count of work words
 unfoldable pub loadRule : List ℕ → ℕ → ℕ

@@ -76,7 +76,7 @@ fn load_view(bytes: &[u8], view: ImageView, work: &mut [u32]) -> Loaded
     ensures words { λ r. ⌜ (let bs = now (bytes .entry) in
         now (work .exit) ≡ workAfter (loadWords (sectionsOf bs)) (loadRule bs (length (now (work .entry)))) (now (work .entry))) ⌝ }
 {
-    if words::word(bytes, 84) != checksum::checksum(bytes) {
+    if words::word(bytes, ImageView::CHECKSUM_AT) != checksum::checksum(bytes) {
         return Loaded::Refused(BAD_CHECKSUM);
     }
     let needed = view.nodes.count as usize

@@ -40,7 +40,7 @@ use Rattle.views.specs.View.{signed}
 use Rattle.views.specs.Found.{containerFound}
 use Rattle.lookups.specs.Lookup.{placed, entryText, searched, namedBy, findNamed, itemIn, definitionName, placeIn, answers, listItemAt, listItemIn, lastItem, listItem}
 use Rattle.index.specs.Parts.{definitionParts}
-use Rattle.views.proofs.Reading.{triple-count, definition-count, no-container, a-container}
+use Rattle.views.proofs.Reading.{text-entry-count, definition-count, no-container, a-container}
 use Rattle.lookups.proofs.HalvingSearch.{Searching, search-start, search-above, search-below, search-here, search-end, found-there}
 
 -- ---- the place of a name among entries
@@ -109,7 +109,7 @@ place-below words strings from count name j e = found-there (λ k. entryText wor
 module _ (named strings : List ℕ) (from count : ℕ) (name : List ℕ) where
   pub named-outside : length named / textEntrySize < from + count → found.NotFound ≡ namedBy (wordsOf named) strings from count name
   unfolding namedBy
-  named-outside h = rw (triple-count named, lt-leb (from + count) (length named / textEntrySize) h)
+  named-outside h = rw (text-entry-count named, lt-leb (from + count) (length named / textEntrySize) h)
 
   module _ (p : Place) (e : placed p ≡ searched (wordsOf named) strings from count name) where
     pub named-place : (j : ℕ) → p ≡ place.At j → j < count
@@ -118,12 +118,12 @@ module _ (named strings : List ℕ) (from count : ℕ) (name : List ℕ) where
     module _ (l : from + count ≤ length named / textEntrySize) where
       pub named-nowhere : p ≡ place.Nowhere → found.NotFound ≡ namedBy (wordsOf named) strings from count name
       unfolding namedBy
-      named-nowhere h = rw (triple-count named, le-leb (from + count) (length named / textEntrySize) l, ← e, h)
+      named-nowhere h = rw (text-entry-count named, le-leb (from + count) (length named / textEntrySize) l, ← e, h)
 
       pub named-at : (j : ℕ) → p ≡ place.At j → (w : ℕ) → w ≡ getD (wordsOf named) ((from + j) * textEntryWords + 2) 0
           → found.Node w ≡ namedBy (wordsOf named) strings from count name
       unfolding namedBy
-      named-at j h w q = rw (triple-count named, le-leb (from + count) (length named / textEntrySize) l, ← e, h, q)
+      named-at j h w q = rw (text-entry-count named, le-leb (from + count) (length named / textEntrySize) l, ← e, h, q)
 
 module _ (bs : List ℕ) (v : ImageView) (i : ℕ) (name : List ℕ) (r : RecordFound) (e : r ≡ containerFound (sectionsBy bs v) i) where
   pub find-missing : r ≡ node.NotFound → found.NotFound ≡ findNamed (sectionsBy bs v) i name
@@ -189,13 +189,13 @@ module _ (ds is ss : List ℕ) where
         pub place-outside : length is / textEntrySize < x .first + x .count → none ≡ placeIn parts given origin name d
         unfolding placeIn itemIn
         place-outside l =
-            rw (← origin-told, not-false b y, triple-count is, lt-leb (firstItem parts d + numberOfItems parts d) (length is / textEntrySize) (rw told at l))
+            rw (← origin-told, not-false b y, text-entry-count is, lt-leb (firstItem parts d + numberOfItems parts d) (length is / textEntrySize) (rw told at l))
 
         pub place-there : x .first + x .count ≤ length is / textEntrySize → (r : Place) → placed r ≡ searched (wordsOf is) ss (x .first) (x .count) name
             → placed r ≡ placeIn parts given origin name d
         unfolding placeIn itemIn
         place-there l r q =
-            rw (← origin-told, not-false b y, triple-count is, le-leb (firstItem parts d + numberOfItems parts d) (length is / textEntrySize) (rw told at l))
+            rw (← origin-told, not-false b y, text-entry-count is, le-leb (firstItem parts d + numberOfItems parts d) (length is / textEntrySize) (rw told at l))
             (q ∙ λ j. searched (wordsOf is) ss (told j .first) (told j .count) name)
 
   -- an item that is found is one of the section
@@ -207,7 +207,7 @@ module _ (ds is ss : List ℕ) where
       let here = chosen (leb (firstItem parts d + numberOfItems parts d) (itemCount parts)) (searched (wordsOf is) ss (firstItem parts d) (numberOfItems parts d) name) j (mine .1) in
       let last = place-below (wordsOf is) ss (firstItem parts d) (numberOfItems parts d) name j (here .1) in
       let inside = leb-true (firstItem parts d + numberOfItems parts d) (itemCount parts) (here .0) in
-      omega (arith, triple-count is)
+      omega (arith, text-entry-count is)
 
   -- ---- the last definition that answers
 

@@ -118,7 +118,8 @@ fn place_in(
     name: &[u8],
 ) -> Place
     requires { ⌜ definitionSize * d + definitionSize ≤ length (now definitions) ⌝ }
-    ensures { λ r. ⌜ placed r ≡ placeIn (definitionParts (now (definitions .entry)) (now (items .entry)) (now (strings .entry))) given (now (origin .entry)) (now (name .entry)) d ⌝ }
+    ensures { λ r. ⌜ (let s = definitionParts (now (definitions .entry)) (now (items .entry)) (now (strings .entry)) in
+        placed r ≡ placeIn s given (now (origin .entry)) (now (name .entry)) d) ⌝ }
 {
     let definition = image::definition_at(definitions, d);
     let text = image::text_part(strings, definition.offset, definition.len);
@@ -156,7 +157,8 @@ fn last_item(
     origin: &[u8],
     name: &[u8],
 ) -> ListItemAnswer
-    ensures { λ r. ⌜ r ≡ lastItem (definitionParts (now (definitions .entry)) (now (items .entry)) (now (strings .entry))) given (now (origin .entry)) (now (name .entry)) ⌝ }
+    ensures { λ r. ⌜ (let s = definitionParts (now (definitions .entry)) (now (items .entry)) (now (strings .entry)) in
+        r ≡ lastItem s given (now (origin .entry)) (now (name .entry))) ⌝ }
 {
     let mut d = definitions.len() / ImageView::DEFINITION_BYTES;
     while 0 < d {

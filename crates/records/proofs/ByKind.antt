@@ -10,6 +10,7 @@ use native.Mathlib.Nat.{eq-or-lt-of-le}
 use lib.ListN.{length, List·getD-eq-default}
 use lib.Dec.{leb, eqb}
 use borrow.Author.Tests.{eq-eqb, ne-eqb, eqb-true, not-true, not-false}
+use Rattle.laws.proofs.Flags.{up}
 use Rattle.laws.specs.Refusal.{unless, _▸_, firstOf}
 use Rattle.laws.proofs.First.{first-all, passed}
 use Rattle.words.specs.Words.{NONE, isNone}
@@ -239,10 +240,6 @@ abbrev pub Rest : ℕ → Type 0
 Rest t =
     ((((((((((Unit {0} × (t ≡ 1 → ⊥)) × (t ≡ 2 → ⊥)) × (t ≡ 4 → ⊥)) × ((t ≡ 5) ⊎ (t ≡ 18) → ⊥)) × ((t ≡ 3) ⊎ ((t ≡ 11) ⊎ (t ≡ 14)) → ⊥))
     × (t ≡ 8 → ⊥)) × (t ≡ 12 → ⊥)) × (t ≡ 13 → ⊥)) × (t ≡ 16 → ⊥)) × (t ≡ 17 → ⊥))
-
--- a number that is at least k, and not k
-up : (k n : ℕ) → k ≤ n → (n ≡ k → ⊥) → suc k ≤ n
-up k n h d = ⊎-elim (λ e. absurd (d (sym e))) (λ l. l) (eq-or-lt-of-le h)
 
 pub from-six : (t : ℕ) → Rest t → 1 ≤ t → 6 ≤ t
 from-six t r h =

@@ -10,7 +10,7 @@ use borrow.Author.Tests.{le-leb, lt-leb, eq-eqb, ne-eqb}
 use Rattle.laws.specs.Refusal.{unless, _▸_, firstOf}
 use Rattle.laws.proofs.First.{first, second, pass, fail}
 use Rattle.words.specs.Words.{wordAt}
-use Rattle.image.specs.Sections.{goodIn, optionalIn}
+use Rattle.image.specs.Sections.{listHeadSize, listItemSize, listOriginSize, goodIn, optionalIn}
 use Rattle.records.specs.Records.{listWord, listItems, listOrigins, listItemWord, listOriginWord, listItemRule, listOriginRule, payloadRule}
 use Rattle.records.specs.Shown.{bytesOnly}
 use Rattle.records.proofs.Tests.{refused, stop, go, stop-last, go-last}
@@ -18,7 +18,7 @@ use Rattle.records.proofs.Tests.{refused, stop, go, stop-last, go-last}
 module _ (ps ts : List ℕ) (at : ℕ) where
   -- ---- items and origins, whose words begin at `from`
 
-  pub item-rule : (j from a b c d : ℕ) → from ≡ at + 8 + j * 20 → a ≡ wordAt ps from → b ≡ wordAt ps (from + 4) → c ≡ wordAt ps (from + 8)
+  pub item-rule : (j from a b c d : ℕ) → from ≡ at + listHeadSize + j * listItemSize → a ≡ wordAt ps from → b ≡ wordAt ps (from + 4) → c ≡ wordAt ps (from + 8)
       → d ≡ wordAt ps (from + 12) → (unless (optionalIn ts a b) 10 ▸ unless (goodIn ts c d) 10) ≡ listItemRule (bytesOnly ps ts) at j
   unfolding listItemRule listWord
   item-rule j from a b c d e ha hb hc hd =
@@ -28,7 +28,7 @@ module _ (ps ts : List ℕ) (at : ℕ) where
       let pd : d ≡ listItemWord (bytesOnly ps ts) at j 3 = hd ∙ ap (wordAt ps) (omega arith) in
       λ k. unless (optionalIn ts (pa k) (pb k)) 10 ▸ unless (goodIn ts (pc k) (pd k)) 10
 
-  pub origin-rule : (items j from a b : ℕ) → items ≡ listItems (bytesOnly ps ts) at → from ≡ at + 8 + items * 20 + j * 8 → a ≡ wordAt ps from
+  pub origin-rule : (items j from a b : ℕ) → items ≡ listItems (bytesOnly ps ts) at → from ≡ at + listHeadSize + items * listItemSize + j * listOriginSize → a ≡ wordAt ps from
       → b ≡ wordAt ps (from + 4) → unless (goodIn ts a b) 10 ≡ listOriginRule (bytesOnly ps ts) at j
   unfolding listOriginRule listWord
   origin-rule items j from a b n e ha hb =
@@ -50,7 +50,7 @@ module _ (ps ts : List ℕ) (at : ℕ) where
 
   -- the test of the length
   abbrev exact : ℕ → Bool
-  exact len = leb (at + len) (length ps) && leb 8 len && eqb len (8 + listItems (bytesOnly ps ts) at * 20 + listOrigins (bytesOnly ps ts) at * 8)
+  exact len = leb (at + len) (length ps) && leb listHeadSize len && eqb len (listHeadSize + listItems (bytesOnly ps ts) at * listItemSize + listOrigins (bytesOnly ps ts) at * listOriginSize)
 
   inexact : (len : ℕ) → exact len ≡ false → 11 ≡ payloadRule (bytesOnly ps ts) at len
   unfolding payloadRule
@@ -69,19 +69,19 @@ module _ (ps ts : List ℕ) (at : ℕ) where
   payload-past len h = inexact len (rw (lt-leb (at + len) (length ps) h))
 
   pub payload-short : (len : ℕ) → len < 8 → 11 ≡ payloadRule (bytesOnly ps ts) at len
-  payload-short len h = inexact len (rw (lt-leb 8 len h) (and-false (leb (at + len) (length ps)) _))
+  payload-short len h = inexact len (rw (lt-leb listHeadSize len h) (and-false (leb (at + len) (length ps)) _))
 
   module _ (len items origins : ℕ) (n : items ≡ wordAt ps at) (o : origins ≡ wordAt ps (at + 4)) where
-    total : 8 + items * 20 + origins * 8 ≡ 8 + listItems (bytesOnly ps ts) at * 20 + listOrigins (bytesOnly ps ts) at * 8
-    total = λ k. 8 + items-word items n k * 20 + origins-word origins o k * 8
+    total : listHeadSize + items * listItemSize + origins * listOriginSize ≡ listHeadSize + listItems (bytesOnly ps ts) at * listItemSize + listOrigins (bytesOnly ps ts) at * listOriginSize
+    total = λ k. listHeadSize + items-word items n k * listItemSize + origins-word origins o k * listOriginSize
 
-    pub payload-other : (len ≡ 8 + items * 20 + origins * 8 → ⊥) → 11 ≡ payloadRule (bytesOnly ps ts) at len
+    pub payload-other : (len ≡ listHeadSize + items * listItemSize + origins * listOriginSize → ⊥) → 11 ≡ payloadRule (bytesOnly ps ts) at len
     payload-other h =
-        inexact len (rw (ne-eqb len _ (λ e. h (e ∙ sym total))) (and-both-false (leb (at + len) (length ps)) (leb 8 len)))
+        inexact len (rw (ne-eqb len _ (λ e. h (e ∙ sym total))) (and-both-false (leb (at + len) (length ps)) (leb listHeadSize len)))
 
-    module _ (inside : at + len ≤ length ps) (long : 8 ≤ len) (e : len ≡ 8 + items * 20 + origins * 8) where
+    module _ (inside : at + len ≤ length ps) (long : listHeadSize ≤ len) (e : len ≡ listHeadSize + items * listItemSize + origins * listOriginSize) where
       is-exact : exact len ≡ true
-      is-exact = rw (le-leb (at + len) (length ps) inside, le-leb 8 len long, eq-eqb len _ (e ∙ total))
+      is-exact = rw (le-leb (at + len) (length ps) inside, le-leb listHeadSize len long, eq-eqb len _ (e ∙ total))
 
       -- an item is refused
       pub payload-items : (r : ℕ) → r ≡ firstOf items (listItemRule (bytesOnly ps ts) at) → (r ≡ 0 → ⊥) → r ≡ payloadRule (bytesOnly ps ts) at len
@@ -102,7 +102,7 @@ module _ (ps ts : List ℕ) (at : ℕ) where
 -- ---- an item and an origin, by the flags that the tests gave
 
 module _ (ps ts : List ℕ) (at j from : ℕ) where
-  module _ (a b c d : ℕ) (e : from ≡ at + 8 + j * 20) (ha : a ≡ wordAt ps from) (hb : b ≡ wordAt ps (from + 4)) (hc : c ≡ wordAt ps (from + 8))
+  module _ (a b c d : ℕ) (e : from ≡ at + listHeadSize + j * listItemSize) (ha : a ≡ wordAt ps from) (hb : b ≡ wordAt ps (from + 4)) (hc : c ≡ wordAt ps (from + 8))
       (hd : d ≡ wordAt ps (from + 12)) (p : Bool) (origin : p ≡ optionalIn ts a b) where
     pub item-origin : not p ≡ true → 10 ≡ listItemRule (bytesOnly ps ts) at j
     item-origin n = stop (optionalIn ts a b) p 10 (unless (goodIn ts c d) 10) refl origin n ∙ item-rule ps ts at j from a b c d e ha hb hc hd

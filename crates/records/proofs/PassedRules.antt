@@ -18,7 +18,7 @@ use Rattle.texts.specs.Text.{holds}
 use Rattle.names.specs.Names.{commands, operators}
 use Rattle.image.specs.declared.NodeRecord.{NodeRecord}
 use Rattle.image.specs.Entries.{nodeIn}
-use Rattle.image.specs.Sections.{Sections, nodeCount, childCount, namedCount, parentOf, placeOf, tagOf, f, textAt, goodText, goodOptional, inside, isContainer, insideContainer}
+use Rattle.image.specs.Sections.{listHeadSize, listItemSize, listOriginSize, Sections, nodeCount, childCount, namedCount, parentOf, placeOf, tagOf, f, textAt, goodText, goodOptional, inside, isContainer, insideContainer}
 use Rattle.image.proofs.Tests.{both-true}
 use Rattle.records.specs.declared.Sums.{Sums}
 use Rattle.records.specs.Fields.{Kind, Container, Choice, Command, Divert, Glue, Operator, Tag, BoolValue, IntValue, FloatValue, StringValue, ListValue, TargetValue, PointerValue, Assignment, Reference, Void, Unknown, Field, text, optional, command, operator, node, optionalNode, container, optionalContainer, atMost, children, named, payload, kinds, kindOf, fields, targetAmong}
@@ -118,7 +118,7 @@ module _ (s : Sections) (i : ℕ) where
 pub record ListPassed (s : Sections) (at len : ℕ) : Type 0 where
   pub inside : at + len ≤ length (s .payload)
   pub long : 8 ≤ len
-  pub exact : len ≡ 8 + listItems s at * 20 + listOrigins s at * 8
+  pub exact : len ≡ listHeadSize + listItems s at * listItemSize + listOrigins s at * listOriginSize
   pub item-origin : (j : ℕ) → j < listItems s at → goodOptional s (listItemWord s at j 0) (listItemWord s at j 1) ≡ true
   pub item-name : (j : ℕ) → j < listItems s at → goodText s (listItemWord s at j 2) (listItemWord s at j 3) ≡ true
   pub origin : (j : ℕ) → j < listOrigins s at → goodText s (listOriginWord s at j 0) (listOriginWord s at j 1) ≡ true
@@ -129,8 +129,8 @@ list-passed s at len p =
     let lengths = both _ _ p in
     let entries = both _ _ (lengths .1) in
     let fits = leb (at + len) (length (s .payload)) in
-    let exact = both-true (fits && leb 8 len) _ (passed _ 10 (lengths .0)) in
-    let here = both-true fits (leb 8 len) (exact .0) in
+    let exact = both-true (fits && leb listHeadSize len) _ (passed _ 10 (lengths .0)) in
+    let here = both-true fits (leb listHeadSize len) (exact .0) in
     record {
       inside = leb-true _ _ (here .0);
       long = leb-true _ _ (here .1);

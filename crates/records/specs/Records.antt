@@ -11,12 +11,15 @@ use Rattle.texts.specs.Text.{holds, texts}
 use Rattle.names.specs.Names.{commands, operators, names}
 use Rattle.image.specs.declared.NodeRecord.{NodeRecord}
 use Rattle.image.specs.Entries.{nodeIn}
-use Rattle.image.specs.Sections.{Sections, nodeCount, childCount, namedCount, parentOf, placeOf, tagOf, f, textAt, goodText, goodOptional, inside, isContainer, insideContainer, sections}
+use Rattle.image.specs.Sections.{Sections, listHeadSize, listItemSize, listOriginSize, nodeCount, childCount, namedCount, parentOf, placeOf, tagOf, f, textAt, goodText, goodOptional, inside, isContainer, insideContainer, sections}
 use Rattle.records.specs.Fields.{Kind, Container, Choice, Command, Divert, Glue, Operator, Tag, BoolValue, IntValue, FloatValue, StringValue, ListValue, TargetValue, PointerValue, Assignment, Reference, Void, Unknown, Field, targetPlace, text, optional, command, operator, node, optionalNode, container, optionalContainer, plain, atMost, children, named, payload, wrong, fields, kindOf, schema}
 
 -- the fields of node i
 abbrev pub fieldsAt : Sections → ℕ → List Field
 fieldsAt s i = fields (kindOf (tagOf s i))
+
+abbrev pub listTag : ℕ
+listTag = 12
 
 -- ---- the target of a node
 
@@ -49,7 +52,7 @@ numberOfNamed s i = cond (isContainer s i) (f s i 6) 0
 
 -- bytes of payload
 unfoldable pub payloadLengthOf : Sections → ℕ → ℕ
-payloadLengthOf s i = cond (eqb (tagOf s i) 12) (f s i 1) 0
+payloadLengthOf s i = cond (eqb (tagOf s i) listTag) (f s i 1) 0
 
 -- 1 for a container
 unfoldable pub containerOf : Sections → ℕ → ℕ
@@ -81,10 +84,10 @@ listOrigins s at = listWord s at 4
 
 -- word k of item j; of origin j
 abbrev pub listItemWord : Sections → ℕ → ℕ → ℕ → ℕ
-listItemWord s at j k = listWord s at (8 + j * 20 + k * 4)
+listItemWord s at j k = listWord s at (listHeadSize + j * listItemSize + k * 4)
 
 abbrev pub listOriginWord : Sections → ℕ → ℕ → ℕ → ℕ
-listOriginWord s at j k = listWord s at (8 + listItems s at * 20 + j * 8 + k * 4)
+listOriginWord s at j k = listWord s at (listHeadSize + listItems s at * listItemSize + j * listOriginSize + k * 4)
 
 unfoldable pub listItemRule : Sections → ℕ → ℕ → ℕ
 listItemRule s at j =
@@ -96,7 +99,7 @@ listOriginRule s at j = unless (goodText s (listOriginWord s at j 0) (listOrigin
 -- the length is exact
 unfoldable pub payloadRule : Sections → ℕ → ℕ → ℕ
 payloadRule s at len =
-    unless (leb (at + len) (length (s .payload)) && leb 8 len && eqb len (8 + listItems s at * 20 + listOrigins s at * 8)) 11
+    unless (leb (at + len) (length (s .payload)) && leb listHeadSize len && eqb len (listHeadSize + listItems s at * listItemSize + listOrigins s at * listOriginSize)) 11
     ▸ firstOf (listItems s at) (listItemRule s at)
     ▸ firstOf (listOrigins s at) (listOriginRule s at)
 

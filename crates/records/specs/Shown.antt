@@ -16,7 +16,7 @@ use Rattle.image.specs.Sections.{Sections, nodeCount, childCount, namedCount, p
 use Rattle.records.specs.declared.Counts.{Counts}
 use Rattle.records.specs.declared.Sums.{Sums}
 use Rattle.records.specs.Fields.{Kind, Container, Choice, Command, Divert, Glue, Operator, Tag, BoolValue, IntValue, FloatValue, StringValue, ListValue, TargetValue, PointerValue, Assignment, Reference, Void, Unknown, kindOf}
-use Rattle.records.specs.Records.{targetOf, childrenBefore, namedBefore, payloadBefore, containersBefore, payloadRule, records}
+use Rattle.records.specs.Records.{targetOf, childrenBefore, namedBefore, payloadBefore, containersBefore, payloadRule, listTag, records}
 
 abbrev pub countsOf : Sections → Counts
 countsOf s = record { nodes = nodeCount s; children = childCount s; named = namedCount s }
@@ -135,7 +135,7 @@ unfoldable pub sumsAfter : Sums → NodeRecord → Sums
 sumsAfter u r =
     cond (eqb (r .tag) containerTag)
     (record { children = r .f3 + r .f4; named = r .f5 + r .f6; payload = u .payload; containers = u .containers + 1 })
-    (cond (eqb (r .tag) 12)
+    (cond (eqb (r .tag) listTag)
     (record { children = u .children; named = u .named; payload = r .f0 + r .f1; containers = u .containers })
     u)
 

@@ -101,6 +101,7 @@ fn at_most(word: u32, most: u32) -> u32
     if word <= most { 0 } else { BAD_TAG }
 }
 
+// A container: an optional name, then its ranges of ordered and of named children.
 fn container(node: NodeRecord, counts: Counts, sums: Sums, strings: &[u8]) -> u32
     ensures { λ r. ⌜ r ≡ containerRule node counts sums (now (strings .entry)) ⌝ }
 {
@@ -116,6 +117,7 @@ fn container(node: NodeRecord, counts: Counts, sums: Sums, strings: &[u8]) -> u3
     0
 }
 
+// A choice: an optional path, then the container that it leads to.
 fn choice(node: NodeRecord, nodes: usize, target_tag: u32, strings: &[u8]) -> u32
     ensures { λ r. ⌜ r ≡ choiceRule node nodes «target_tag» (now (strings .entry)) ⌝ }
 {
@@ -128,6 +130,7 @@ fn choice(node: NodeRecord, nodes: usize, target_tag: u32, strings: &[u8]) -> u3
     0
 }
 
+// A divert: an optional path, an optional node, an optional variable, flags.
 fn divert(node: NodeRecord, nodes: usize, strings: &[u8]) -> u32
     ensures { λ r. ⌜ r ≡ divertRule node nodes (now (strings .entry)) ⌝ }
 {
@@ -143,6 +146,7 @@ fn divert(node: NodeRecord, nodes: usize, strings: &[u8]) -> u32
     at_most(node.f6, 23)
 }
 
+// Whether the text is the known name of a command.
 fn is_command(name: &[u8]) -> bool
     ensures { λ r. ⌜ r ≡ holds commands (now (name .entry)) ⌝ }
 {
@@ -152,6 +156,7 @@ fn is_command(name: &[u8]) -> bool
     }
 }
 
+// Whether the text is the known name of an operator.
 fn is_operator(name: &[u8]) -> bool
     ensures { λ r. ⌜ r ≡ holds operators (now (name .entry)) ⌝ }
 {
@@ -184,6 +189,7 @@ fn text_only(text_tag: u32, offset: u32, len: u32, strings: &[u8]) -> u32
     0
 }
 
+// A divert target: a text, then a node.
 fn target_value(node: NodeRecord, nodes: usize, strings: &[u8]) -> u32
     ensures { λ r. ⌜ r ≡ targetRule node nodes (now (strings .entry)) ⌝ }
 {
@@ -196,6 +202,7 @@ fn target_value(node: NodeRecord, nodes: usize, strings: &[u8]) -> u32
     0
 }
 
+// An assignment: a text, then flags.
 fn assignment(node: NodeRecord, strings: &[u8]) -> u32
     ensures { λ r. ⌜ r ≡ assignmentRule node (now (strings .entry)) ⌝ }
 {
@@ -205,6 +212,7 @@ fn assignment(node: NodeRecord, strings: &[u8]) -> u32
     at_most(node.f2, 3)
 }
 
+// A reference: a name, an optional path, an optional container.
 fn reference(node: NodeRecord, nodes: usize, target_tag: u32, strings: &[u8]) -> u32
     ensures { λ r. ⌜ r ≡ referenceRule node nodes «target_tag» (now (strings .entry)) ⌝ }
 {
@@ -220,6 +228,7 @@ fn reference(node: NodeRecord, nodes: usize, target_tag: u32, strings: &[u8]) ->
     0
 }
 
+// A list value: its payload begins where those before it end, and keeps its rules.
 fn list_value(node: NodeRecord, sums: Sums, payload: &[u8], strings: &[u8]) -> u32
     ensures { λ r. ⌜ r ≡ listRule node sums (now (payload .entry)) (now (strings .entry)) ⌝ }
 {

@@ -1,19 +1,23 @@
 // A list's payload: how many items and origins it has, the items (optional origin, name, value), the origins.
+use image::payload::HEAD_BYTES;
+use image::payload::ITEM_BYTES;
+use image::payload::ORIGIN_BYTES;
 use image::refusal::BAD_RANGE;
 use image::refusal::BAD_TEXT;
 ghost use mathlib.Core.Path.{_≡_};
 ghost use Prim.Native.Nat.{_+_, _*_, _≤_};
 ghost use lib.ListN.{length};
 ghost use Rattle.laws.specs.Refusal.{firstOf};
+ghost use Rattle.image.specs.Sections.{listHeadSize, listItemSize, listOriginSize};
 ghost use Rattle.records.specs.Records.{payloadRule, listItemRule, listOriginRule, listItems};
 ghost use Rattle.records.specs.Shown.{bytesOnly};
 
 // Item `j` of the payload that starts at `at`.
 fn item(payload: &[u8], strings: &[u8], at: usize, j: usize) -> u32
-    requires { ⌜ at + 8 + j * 20 + 20 ≤ length (now payload) ⌝ }
+    requires { ⌜ at + listHeadSize + j * listItemSize + listItemSize ≤ length (now payload) ⌝ }
     ensures { λ r. ⌜ r ≡ listItemRule (bytesOnly (now (payload .entry)) (now (strings .entry))) at j ⌝ }
 {
-    let first = at + 8 + j * 20;
+    let first = at + HEAD_BYTES + j * ITEM_BYTES;
     let origin = words::word(payload, first);
     let origin_len = words::word(payload, first + 4);
     let name = words::word(payload, first + 8);
@@ -27,8 +31,9 @@ fn item(payload: &[u8], strings: &[u8], at: usize, j: usize) -> u32
     0
 }
 
+// The first refusal of an item, or 0.
 fn items_rule(payload: &[u8], strings: &[u8], at: usize, items: usize) -> u32
-    requires { ⌜ at + 8 + items * 20 ≤ length (now payload) ⌝ }
+    requires { ⌜ at + listHeadSize + items * listItemSize ≤ length (now payload) ⌝ }
     ensures { λ r. ⌜ r ≡ firstOf items (listItemRule (bytesOnly (now (payload .entry)) (now (strings .entry))) at) ⌝ }
 {
     let mut j = 0;
@@ -44,10 +49,11 @@ fn items_rule(payload: &[u8], strings: &[u8], at: usize, items: usize) -> u32
 
 // Origin `j`, where the payload has so many items before its origins.
 fn origin(payload: &[u8], strings: &[u8], at: usize, items: usize, j: usize) -> u32
-    requires { ⌜ (at + 8 + items * 20 + j * 8 + 8 ≤ length (now payload)) × (items ≡ listItems (bytesOnly (now payload) (now strings)) at) ⌝ }
+    requires { ⌜ (at + listHeadSize + items * listItemSize + j * listOriginSize + listOriginSize ≤ length (now payload))
+        × (items ≡ listItems (bytesOnly (now payload) (now strings)) at) ⌝ }
     ensures { λ r. ⌜ r ≡ listOriginRule (bytesOnly (now (payload .entry)) (now (strings .entry))) at j ⌝ }
 {
-    let first = at + 8 + items * 20 + j * 8;
+    let first = at + HEAD_BYTES + items * ITEM_BYTES + j * ORIGIN_BYTES;
     let text = words::word(payload, first);
     let len = words::word(payload, first + 4);
     if !image::good_text(strings, text, len) {
@@ -56,8 +62,10 @@ fn origin(payload: &[u8], strings: &[u8], at: usize, items: usize, j: usize) -> 
     0
 }
 
+// The first refusal of an origin, or 0.
 fn origins_rule(payload: &[u8], strings: &[u8], at: usize, items: usize, origins: usize) -> u32
-    requires { ⌜ (at + 8 + items * 20 + origins * 8 ≤ length (now payload)) × (items ≡ listItems (bytesOnly (now payload) (now strings)) at) ⌝ }
+    requires { ⌜ (at + listHeadSize + items * listItemSize + origins * listOriginSize ≤ length (now payload))
+        × (items ≡ listItems (bytesOnly (now payload) (now strings)) at) ⌝ }
     ensures { λ r. ⌜ r ≡ firstOf origins (listOriginRule (bytesOnly (now (payload .entry)) (now (strings .entry))) at) ⌝ }
 {
     let mut j = 0;
@@ -80,12 +88,12 @@ pub fn payload_rule(payload: &[u8], strings: &[u8], start: u32, len: u32) -> u32
     if payload.len() < at + size {
         return BAD_RANGE;
     }
-    if size < 8 {
+    if size < HEAD_BYTES {
         return BAD_RANGE;
     }
     let items = words::word(payload, at) as usize;
     let origins = words::word(payload, at + 4) as usize;
-    if size != 8 + items * 20 + origins * 8 {
+    if size != HEAD_BYTES + items * ITEM_BYTES + origins * ORIGIN_BYTES {
         return BAD_RANGE;
     }
     let broken = items_rule(payload, strings, at, items);

@@ -14,7 +14,7 @@ use Rattle.image.specs.Sections.{Sections, nodeCount, childCount, namedCount}
 use Rattle.tree.specs.Tree.{entriesRule, entryNodes, Walked, walk, turns, loadWalk, allSeen, treeRule}
 use Rattle.tree.specs.Work.{marked, treeWords, Entered, LoadWalkResult}
 use Rattle.tree.specs.Parts.{EntriesOwned}
-use Rattle.tree.proofs.Members.{All, all-reverse, all-ext, sum-ext}
+use Rattle.laws.proofs.Members.{All, all-reverse, all-ext, sum-ext}
 use Rattle.tree.proofs.Entries.{entries-inside, entries-counted}
 use Rattle.tree.proofs.PlainTree.{backwards}
 use Rattle.tree.proofs.Machine.{Setting, Walking, turnsLeft, walk-start, walk-end, mark-seen, walk-marked, walk-refused, high-kept, top-below, push-room, walk-less, walk-entered}

@@ -9,7 +9,7 @@ use lib.ListN.{length}
 use Rattle.image.specs.Sections.{Sections, nodeCount, parentOf, isContainer}
 use Rattle.tree.specs.Tree.{childAt, namedAt, entriesRule, entryNodes, turns, loadWalk, treeRule}
 use Rattle.tree.specs.Reach.{climb, Climbs}
-use Rattle.tree.proofs.Members.{All, all-map, all-append, all-reverse, all-at, Distinct, pigeon}
+use Rattle.laws.proofs.Members.{All, all-map, all-append, all-reverse, all-at, Distinct, pigeon}
 use Rattle.tree.proofs.Walks.{Turns, walk-turns, walk-marks}
 use Rattle.tree.proofs.Entries.{children-pass, named-pass, child-container, named-container, entry-each, entries-inside}
 use Rattle.tree.proofs.PlainTree.{backwards, walk-passed, all-marked}

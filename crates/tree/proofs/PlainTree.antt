@@ -12,7 +12,7 @@ use Rattle.image.specs.Sections.{Sections, nodeCount}
 use Rattle.tree.specs.Tree.{entriesRule, entryNodes, turns, loadWalk, allSeen, treeRule}
 use Rattle.tree.specs.Reach.{Reached, root, child, named}
 use Rattle.tree.specs.Parts.{EntriesOwned}
-use Rattle.tree.proofs.Members.{All, all-reverse, all-at, has-reverse, all-of, all-so, sum-ext}
+use Rattle.laws.proofs.Members.{All, all-reverse, all-at, has-reverse, all-of, all-so, sum-ext}
 use Rattle.tree.proofs.Walks.{walk-keeps, walk-passes, walk-closed, Closed, pending, pushed}
 use Rattle.tree.proofs.Entries.{entry-each, child-entry, named-entry, entries-inside, entries-counted}
 

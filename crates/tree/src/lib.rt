@@ -81,7 +81,8 @@ fn push_children(
 ) -> u32
     requires { ⌜ start ≡ f (partsOf version (now nodes) (now children) [] []) id 3 ⌝ }
     requires { ⌜ (start + count ≤ childCount (partsOf version (now nodes) (now children) [] [])) × (base + depth + count ≤ length (now work)) ⌝ }
-    ensures { λ r. ⌜ ChildrenPushed version (now (nodes .entry)) (now (children .entry)) id count base depth (now (work .entry)) (now (work .exit)) r ⌝ }
+    ensures { λ r. ⌜ ChildrenPushed version (now (nodes .entry)) (now (children .entry))
+        id count base depth (now (work .entry)) (now (work .exit)) r ⌝ }
 {
     let mut j = 0;
     while j < count {
@@ -110,7 +111,8 @@ fn push_named(
 ) -> u32
     requires { ⌜ start ≡ f (partsOf version (now nodes) [] (now named) (now strings)) id 5 ⌝ }
     requires { ⌜ (start + count ≤ namedCount (partsOf version (now nodes) [] (now named) (now strings))) × (base + depth + count ≤ length (now work)) ⌝ }
-    ensures { λ r. ⌜ NamedPushed version (now (nodes .entry)) (now (named .entry)) (now (strings .entry)) id count base depth (now (work .entry)) (now (work .exit)) r ⌝ }
+    ensures { λ r. ⌜ NamedPushed version (now (nodes .entry)) (now (named .entry)) (now (strings .entry))
+        id count base depth (now (work .entry)) (now (work .exit)) r ⌝ }
 {
     let mut j = 0;
     while j < count {

@@ -13,7 +13,7 @@ use Rattle.words.specs.Words.{wordAt, NONE}
 use Rattle.image.specs.declared.NodeRecord.{NodeRecord}
 use Rattle.image.specs.declared.TextEntry.{TextEntry}
 use Rattle.image.specs.declared.Definition.{Definition}
-use Rattle.image.specs.Sections.{Sections, f, namedWord, definitionWord, itemWord, inside, insideContainer, present, textOrEmpty}
+use Rattle.image.specs.Sections.{listHeadSize, listItemSize, listOriginSize, Sections, f, namedWord, definitionWord, itemWord, inside, insideContainer, present, textOrEmpty}
 use Rattle.image.specs.Entries.{nodeIn, definitionIn}
 use Rattle.image.proofs.Tests.{both-true}
 use Rattle.image.specs.declared.ImageView.{ImageView}
@@ -245,52 +245,52 @@ module _ (strings at len : ℕ) where
 -- ---- entries of a list value
 
 module _ (payload strings : List ℕ) (j : ℕ) where
-  pub list-short : length payload < 8 + j * 20 + 20 → list.NotFound ≡ listEntry payload strings j
+  pub list-short : length payload < listHeadSize + j * listItemSize + listItemSize → list.NotFound ≡ listEntry payload strings j
   unfolding listEntry
-  list-short h = rw (lt-leb (8 + j * 20 + 20) (length payload) h)
+  list-short h = rw (lt-leb (listHeadSize + j * listItemSize + listItemSize) (length payload) h)
 
-  module _ (long : 8 + j * 20 + 20 ≤ length payload) where
+  module _ (long : listHeadSize + j * listItemSize + listItemSize ≤ length payload) where
     pub list-past : (w : ℕ) → w ≡ wordAt payload 0 → w ≤ j → list.NotFound ≡ listEntry payload strings j
     unfolding listEntry
-    list-past w e h = rw (le-leb (8 + j * 20 + 20) (length payload) long, ← e, le-ltb j w h)
+    list-past w e h = rw (le-leb (listHeadSize + j * listItemSize + listItemSize) (length payload) long, ← e, le-ltb j w h)
 
-    module _ (w : ℕ) (e : w ≡ wordAt payload 0) (h : j < w) (at len : ℕ) (a : at ≡ wordAt payload (8 + j * 20 + 8)) (l : len ≡ wordAt payload (8 + j * 20 + 12))
+    module _ (w : ℕ) (e : w ≡ wordAt payload 0) (h : j < w) (at len : ℕ) (a : at ≡ wordAt payload (listHeadSize + j * listItemSize + 8)) (l : len ≡ wordAt payload (listHeadSize + j * listItemSize + 12))
         (b : Bool) (g : b ≡ shown (length strings) at len) where
       pub list-hidden : not b ≡ true → list.NotFound ≡ listEntry payload strings j
       unfolding listEntry
-      list-hidden n = rw (le-leb (8 + j * 20 + 20) (length payload) long, ← e, lt-ltb j w h, ← a, ← l, ← g, not-true b n)
+      list-hidden n = rw (le-leb (listHeadSize + j * listItemSize + listItemSize) (length payload) long, ← e, lt-ltb j w h, ← a, ← l, ← g, not-true b n)
 
-      pub list-shown : not b ≡ false → (o p v : ℕ) → o ≡ wordAt payload (8 + j * 20) → p ≡ wordAt payload (8 + j * 20 + 4)
-          → v ≡ wordAt payload (8 + j * 20 + 16) → (origin : OptionalText) → origin ≡ optionalText (length strings) o p → (value : ℤ) → value ≡ signed v
+      pub list-shown : not b ≡ false → (o p v : ℕ) → o ≡ wordAt payload (listHeadSize + j * listItemSize) → p ≡ wordAt payload (listHeadSize + j * listItemSize + 4)
+          → v ≡ wordAt payload (listHeadSize + j * listItemSize + 16) → (origin : OptionalText) → origin ≡ optionalText (length strings) o p → (value : ℤ) → value ≡ signed v
           → list.Entry (record { origin = origin; name = span at len; value = value }) ≡ listEntry payload strings j
       unfolding listEntry
       list-shown n o p v oe pe ve origin f value z =
-          rw (le-leb (8 + j * 20 + 20) (length payload) long, ← e, lt-ltb j w h, ← a, ← l, ← g, not-false b n, f, z, oe, pe, ve, add-zero (8 + j * 20))
+          rw (le-leb (listHeadSize + j * listItemSize + listItemSize) (length payload) long, ← e, lt-ltb j w h, ← a, ← l, ← g, not-false b n, f, z, oe, pe, ve, add-zero (listHeadSize + j * listItemSize))
 
   -- ---- origins
 
   pub origin-none : length payload < 8 → text.NotFound ≡ listOrigin payload strings j
   unfolding listOrigin
-  origin-none h = rw (lt-leb (8 + wordAt payload 0 * 20 + j * 8 + 8) (length payload) (omega arith))
+  origin-none h = rw (lt-leb (listHeadSize + wordAt payload 0 * listItemSize + j * listOriginSize + listOriginSize) (length payload) (omega arith))
 
   module _ (w : ℕ) (e : w ≡ wordAt payload 0) where
-    pub origin-short : length payload < 8 + w * 20 + j * 8 + 8 → text.NotFound ≡ listOrigin payload strings j
+    pub origin-short : length payload < listHeadSize + w * listItemSize + j * listOriginSize + listOriginSize → text.NotFound ≡ listOrigin payload strings j
     unfolding listOrigin
-    origin-short h = rw (← e, lt-leb (8 + w * 20 + j * 8 + 8) (length payload) h)
+    origin-short h = rw (← e, lt-leb (listHeadSize + w * listItemSize + j * listOriginSize + listOriginSize) (length payload) h)
 
-    module _ (long : 8 + w * 20 + j * 8 + 8 ≤ length payload) (n : ℕ) (c : n ≡ wordAt payload 4) where
+    module _ (long : listHeadSize + w * listItemSize + j * listOriginSize + listOriginSize ≤ length payload) (n : ℕ) (c : n ≡ wordAt payload 4) where
       pub origin-past : n ≤ j → text.NotFound ≡ listOrigin payload strings j
       unfolding listOrigin
-      origin-past h = rw (← e, le-leb (8 + w * 20 + j * 8 + 8) (length payload) long, ← c, le-ltb j n h)
+      origin-past h = rw (← e, le-leb (listHeadSize + w * listItemSize + j * listOriginSize + listOriginSize) (length payload) long, ← c, le-ltb j n h)
 
-      module _ (h : j < n) (at len : ℕ) (a : at ≡ wordAt payload (8 + w * 20 + j * 8)) (l : len ≡ wordAt payload (8 + w * 20 + j * 8 + 4))
+      module _ (h : j < n) (at len : ℕ) (a : at ≡ wordAt payload (listHeadSize + w * listItemSize + j * listOriginSize)) (l : len ≡ wordAt payload (listHeadSize + w * listItemSize + j * listOriginSize + 4))
           (b : Bool) (g : b ≡ shown (length strings) at len) where
         pub origin-hidden : b ≡ false → text.NotFound ≡ listOrigin payload strings j
         unfolding listOrigin
         origin-hidden y =
-            rw (← e, le-leb (8 + w * 20 + j * 8 + 8) (length payload) long, ← c, lt-ltb j n h, add-zero (8 + w * 20 + j * 8), ← a, ← l, ← g, y)
+            rw (← e, le-leb (listHeadSize + w * listItemSize + j * listOriginSize + listOriginSize) (length payload) long, ← c, lt-ltb j n h, add-zero (listHeadSize + w * listItemSize + j * listOriginSize), ← a, ← l, ← g, y)
 
         pub origin-shown : b ≡ true → text.Text (span at len) ≡ listOrigin payload strings j
         unfolding listOrigin
         origin-shown y =
-            rw (← e, le-leb (8 + w * 20 + j * 8 + 8) (length payload) long, ← c, lt-ltb j n h, add-zero (8 + w * 20 + j * 8), ← a, ← l, ← g, y)
+            rw (← e, le-leb (listHeadSize + w * listItemSize + j * listOriginSize + listOriginSize) (length payload) long, ← c, lt-ltb j n h, add-zero (listHeadSize + w * listItemSize + j * listOriginSize), ← a, ← l, ← g, y)

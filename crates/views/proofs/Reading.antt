@@ -17,6 +17,7 @@ use Rattle.image.specs.Sections.{Sections, nodeWords, textEntryWords, definitio
 use Rattle.image.specs.Header.{sectionBytes, sectionsBy}
 use Rattle.image.specs.Entries.{recordOf, textEntryOf, definitionOf, nodeIn, namedIn, itemIn, definitionIn}
 use Rattle.image.proofs.Tests.{and-false, inside-true}
+pub use Rattle.image.proofs.Parts.{word-count, text-entry-count, definition-count}
 use Rattle.image.proofs.Entries.{node-record, named-entry, item-entry, definition-entry}
 use Rattle.image.proofs.Views.{version-by, nodes-by, children-by, named-by, definitions-by, items-by}
 use Rattle.views.specs.declared.Found.the-variants as found
@@ -27,17 +28,6 @@ use Rattle.views.specs.declared.entries.EntryFound.the-variants as entry
 use Rattle.views.specs.declared.entries.DefinitionFound.{DefinitionFound}
 use Rattle.views.specs.declared.entries.DefinitionFound.the-variants as definition
 use Rattle.views.specs.Found.{nodeFound, containerFound, childFound, namedFound, definitionFound, itemFound, entryFound}
-
--- ---- how many entries a section's bytes hold
-
-pub word-count : (part : List ℕ) → length (wordsOf part) ≡ length part / childSize
-word-count part = length-words part
-
-pub triple-count : (part : List ℕ) → length (wordsOf part) / textEntryWords ≡ length part / textEntrySize
-triple-count part = rw (length-words part) (omega arith)
-
-pub definition-count : (part : List ℕ) → length (wordsOf part) / definitionWords ≡ length part / definitionSize
-definition-count part = rw (length-words part) (omega arith)
 
 -- ---- out of the bytes of a view's section
 
@@ -92,23 +82,23 @@ module _ (bs : List ℕ) (v : ImageView) (part : List ℕ) where
 
 pub entry-past : (part : List ℕ) (k : ℕ) → length part / textEntrySize ≤ k → entry.NotFound ≡ entryFound part k
 unfolding entryFound
-entry-past part k h = rw (triple-count part, le-ltb k (length part / textEntrySize) h)
+entry-past part k h = rw (text-entry-count part, le-ltb k (length part / textEntrySize) h)
 
 pub entry-read : (part : List ℕ) (k : ℕ) → k < length part / textEntrySize → (r : TextEntry) → r ≡ textEntryOf (wordsOf part) k → entry.Entry r ≡ entryFound part k
 unfolding entryFound
-entry-read part k h r q = rw (triple-count part, lt-ltb k (length part / textEntrySize) h, q)
+entry-read part k h r q = rw (text-entry-count part, lt-ltb k (length part / textEntrySize) h, q)
 
 module _ (bs : List ℕ) (v : ImageView) (k : ℕ) where
   pub named-read : entryFound (sectionBytes bs (v .named) textEntrySize) k ≡ namedFound (sectionsBy bs v) k
   unfolding entryFound namedFound
   named-read =
-      λ j. cond (ltb k (length (sym (named-by bs v) j) / 3))
+      λ j. cond (ltb k (length (sym (named-by bs v) j) / textEntryWords))
       (entry.Entry (named-entry (sectionsBy bs v) (wordsOf (sectionBytes bs (v .named) textEntrySize)) k (named-by bs v) j)) entry.NotFound
 
   pub item-read : entryFound (sectionBytes bs (v .items) textEntrySize) k ≡ itemFound (sectionsBy bs v) k
   unfolding entryFound itemFound
   item-read =
-      λ j. cond (ltb k (length (sym (items-by bs v) j) / 3))
+      λ j. cond (ltb k (length (sym (items-by bs v) j) / textEntryWords))
       (entry.Entry (item-entry (sectionsBy bs v) (wordsOf (sectionBytes bs (v .items) textEntrySize)) k (items-by bs v) j)) entry.NotFound
 
 -- ---- what an answer tells of the test that it was made by

@@ -7,6 +7,7 @@ use native.Mathlib.Omega.{arith}
 use native.Mathlib.Nat.{eq-or-lt-of-le}
 use lib.ListN.{length}
 use Rattle.image.specs.declared.NodeRecord.{NodeRecord}
+use Rattle.laws.proofs.Flags.{up}
 use Rattle.records.specs.Fields.{Kind, kinds, kindOf}
 use Rattle.records.proofs.ByKind.{past-kinds}
 use borrow.Author.Tests.{ne-eqb}
@@ -79,10 +80,6 @@ abbrev pub Rest : ℕ → Type 0
 Rest t =
     (((((((((((Unit {0} × (t ≡ 1 → ⊥)) × (t ≡ 2 → ⊥)) × (t ≡ 4 → ⊥)) × (t ≡ 5 → ⊥)) × ((t ≡ 3) ⊎ ((t ≡ 11) ⊎ (t ≡ 13)) → ⊥)) × (t ≡ 8 → ⊥))
     × (t ≡ 9 → ⊥)) × (t ≡ 10 → ⊥)) × (t ≡ 12 → ⊥)) × (t ≡ 14 → ⊥)) × (t ≡ 18 → ⊥))
-
--- a number that is at least k, and not k
-up : (k n : ℕ) → k ≤ n → (n ≡ k → ⊥) → suc k ≤ n
-up k n h d = ⊎-elim (λ e. absurd (d (sym e))) (λ l. l) (eq-or-lt-of-le h)
 
 pub from-six : (t : ℕ) → Rest t → 1 ≤ t → 6 ≤ t
 from-six t r h =

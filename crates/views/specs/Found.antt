@@ -5,7 +5,7 @@ use mathlib.Core.Bool.{cond}
 use lib.ListN.{length}
 use lib.Dec.{ltb}
 use Rattle.words.specs.Words.{wordsOf}
-use Rattle.image.specs.Sections.{Sections, childCount, namedCount, definitionCount, itemCount, childWord, inside, insideContainer}
+use Rattle.image.specs.Sections.{Sections, textEntryWords, childCount, namedCount, definitionCount, itemCount, childWord, inside, insideContainer}
 use Rattle.image.specs.Entries.{nodeIn, namedIn, itemIn, definitionIn, textEntryOf}
 use Rattle.views.specs.declared.Found.{Found}
 use Rattle.views.specs.declared.Found.the-variants as found
@@ -27,7 +27,7 @@ childFound s k = cond (ltb k (childCount s)) (found.Node (childWord s k)) found.
 
 -- of a section of texts, out of its bytes
 unfoldable pub entryFound : List ℕ → ℕ → EntryFound
-entryFound part k = cond (ltb k (length (wordsOf part) / 3)) (entry.Entry (textEntryOf (wordsOf part) k)) entry.NotFound
+entryFound part k = cond (ltb k (length (wordsOf part) / textEntryWords)) (entry.Entry (textEntryOf (wordsOf part) k)) entry.NotFound
 
 unfoldable pub namedFound : Sections → ℕ → EntryFound
 namedFound s k = cond (ltb k (namedCount s)) (entry.Entry (namedIn s k)) entry.NotFound

@@ -5,7 +5,7 @@ use mathlib.Core.Bool.{cond, _&&_}
 use lib.ListN.{length}
 use lib.Dec.{leb, ltb}
 use Rattle.words.specs.Words.{wordAt, words}
-use Rattle.image.specs.Sections.{Sections, definitionCount, itemCount, definitionWord, itemWord, textOrEmpty, sections}
+use Rattle.image.specs.Sections.{Sections, listHeadSize, listItemSize, listOriginSize, definitionCount, itemCount, definitionWord, itemWord, textOrEmpty, sections}
 use Rattle.index.specs.Definitions.{firstItem, numberOfItems}
 use Rattle.views.specs.declared.Span.{Span}
 use Rattle.views.specs.declared.EntryAnswer.{EntryAnswer}
@@ -22,10 +22,10 @@ use Rattle.views.specs.View.{signed, span, shown, optionalText, views}
 
 -- word k of item j, of origin j
 abbrev pub itemEntryWord : List ℕ → ℕ → ℕ → ℕ
-itemEntryWord payload j k = wordAt payload (8 + j * 20 + k * 4)
+itemEntryWord payload j k = wordAt payload (listHeadSize + j * listItemSize + k * 4)
 
 abbrev pub originEntryWord : List ℕ → ℕ → ℕ → ℕ
-originEntryWord payload j k = wordAt payload (8 + wordAt payload 0 * 20 + j * 8 + k * 4)
+originEntryWord payload j k = wordAt payload (listHeadSize + wordAt payload 0 * listItemSize + j * listOriginSize + k * 4)
 
 -- the payload of a list value, none where it is not inside
 unfoldable pub listPart : Sections → Span → List ℕ
@@ -35,7 +35,7 @@ listPart s t = textOrEmpty (s .payload) (t .offset) (t .len)
 unfoldable pub listEntry : List ℕ → List ℕ → ℕ → EntryAnswer
 listEntry payload strings j =
     cond
-    (leb (8 + j * 20 + 20) (length payload) && ltb j (wordAt payload 0)
+    (leb (listHeadSize + j * listItemSize + listItemSize) (length payload) && ltb j (wordAt payload 0)
     && shown (length strings) (itemEntryWord payload j 2) (itemEntryWord payload j 3))
     (entry.Entry
     (record {
@@ -57,7 +57,7 @@ listEntryName payload strings j = nameIn strings (listEntry payload strings j)
 unfoldable pub listOrigin : List ℕ → List ℕ → ℕ → TextAnswer
 listOrigin payload strings j =
     cond
-    (leb (8 + wordAt payload 0 * 20 + j * 8 + 8) (length payload) && ltb j (wordAt payload 4)
+    (leb (listHeadSize + wordAt payload 0 * listItemSize + j * listOriginSize + listOriginSize) (length payload) && ltb j (wordAt payload 4)
     && shown (length strings) (originEntryWord payload j 0) (originEntryWord payload j 1))
     (text.Text (span (originEntryWord payload j 0) (originEntryWord payload j 1))) text.NotFound
 

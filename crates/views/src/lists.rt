@@ -19,6 +19,9 @@ use crate::view::is_shown;
 use crate::view::optional_text;
 use crate::view::signed_of;
 use image::ImageView;
+use image::payload::HEAD_BYTES;
+use image::payload::ITEM_BYTES;
+use image::payload::ORIGIN_BYTES;
 
 // The payload of a list value, empty where it is not inside.
 pub fn list_payload(bytes: &[u8], view: ImageView, list: Span) -> &[u8]
@@ -35,8 +38,8 @@ pub fn list_payload(bytes: &[u8], view: ImageView, list: Span) -> &[u8]
 pub fn list_entry(payload: &[u8], strings: &[u8], j: u32) -> EntryAnswer
     ensures { λ r. ⌜ r ≡ listEntry (now (payload .entry)) (now (strings .entry)) j ⌝ }
 {
-    let at = 8 + (j as usize) * 20;
-    if payload.len() < at + 20 {
+    let at = HEAD_BYTES + (j as usize) * ITEM_BYTES;
+    if payload.len() < at + ITEM_BYTES {
         return EntryAnswer::NotFound;
     }
     if words::word(payload, 0) <= j {
@@ -77,12 +80,12 @@ pub fn list_entry_name<'p, 's>(payload: &'p [u8], strings: &'s [u8], j: u32) -> 
 pub fn list_origin(payload: &[u8], strings: &[u8], j: u32) -> TextAnswer
     ensures { λ r. ⌜ r ≡ listOrigin (now (payload .entry)) (now (strings .entry)) j ⌝ }
 {
-    if payload.len() < 8 {
+    if payload.len() < HEAD_BYTES {
         return TextAnswer::NotFound;
     }
     let items = words::word(payload, 0) as usize;
-    let at = 8 + items * 20 + (j as usize) * 8;
-    if payload.len() < at + 8 {
+    let at = HEAD_BYTES + items * ITEM_BYTES + (j as usize) * ORIGIN_BYTES;
+    if payload.len() < at + ORIGIN_BYTES {
         return TextAnswer::NotFound;
     }
     if words::word(payload, 4) <= j {

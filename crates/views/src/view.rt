@@ -19,6 +19,7 @@ use crate::entries::node_of;
 use image::ImageView;
 use image::NONE;
 use image::NodeRecord;
+use image::tag;
 use names::control_command::Command;
 use names::native_function_call::Operator;
 
@@ -58,6 +59,7 @@ pub fn is_shown(strings: usize, offset: u32, len: u32) -> bool
     offset as usize + len as usize <= strings
 }
 
+// A text, if it is present and inside.
 pub fn optional_text(strings: usize, offset: u32, len: u32) -> OptionalText
     ensures { λ r. ⌜ r ≡ optionalText strings offset len ⌝ }
 {
@@ -68,6 +70,7 @@ pub fn optional_text(strings: usize, offset: u32, len: u32) -> OptionalText
     }
 }
 
+// A word, if it is present.
 fn optional_word(word: u32) -> OptionalWord
     ensures { λ r. ⌜ r ≡ optionalWord word ⌝ }
 {
@@ -78,6 +81,7 @@ fn optional_word(word: u32) -> OptionalWord
     }
 }
 
+// What a divert pushes, by the number in its flags.
 fn push_type(n: u32) -> PushPopType
     ensures { λ r. ⌜ r ≡ pushType n ⌝ }
 {
@@ -88,6 +92,7 @@ fn push_type(n: u32) -> PushPopType
     }
 }
 
+// A container by its record: its optional name and its flags.
 fn container(node: NodeRecord, strings: usize) -> KindAnswer
     ensures { λ r. ⌜ r ≡ containerView strings node ⌝ }
 {
@@ -96,6 +101,7 @@ fn container(node: NodeRecord, strings: usize) -> KindAnswer
     KindAnswer::Kind(NodeKindView::Container { count_flags, name })
 }
 
+// A divert by its record: where it leads, and what its flags say.
 fn divert(node: NodeRecord, strings: usize) -> KindAnswer
     ensures { λ r. ⌜ r ≡ divertView strings node ⌝ }
 {
@@ -120,6 +126,7 @@ fn divert(node: NodeRecord, strings: usize) -> KindAnswer
     })
 }
 
+// The command that a text names.
 fn command(name: &[u8]) -> KindAnswer
     ensures { λ r. ⌜ r ≡ commandView (now (name .entry)) ⌝ }
 {
@@ -129,6 +136,7 @@ fn command(name: &[u8]) -> KindAnswer
     }
 }
 
+// The operator that a text names.
 fn operator(name: &[u8]) -> KindAnswer
     ensures { λ r. ⌜ r ≡ operatorView (now (name .entry)) ⌝ }
 {
@@ -138,6 +146,7 @@ fn operator(name: &[u8]) -> KindAnswer
     }
 }
 
+// A list value, if its payload is inside.
 fn list(payload: usize, start: u32, len: u32) -> KindAnswer
     ensures { λ r. ⌜ r ≡ listView payload start len ⌝ }
 {
@@ -152,19 +161,19 @@ fn list(payload: usize, start: u32, len: u32) -> KindAnswer
 fn with_name(node: NodeRecord, name: Span, strings: &[u8]) -> KindAnswer
     ensures { λ r. ⌜ r ≡ withName (node .tag) (now (strings .entry)) node name ⌝ }
 {
-    let tag = node.tag;
+    let node_tag = node.tag;
     let flags = node.f2;
-    match tag {
-        3 => command(image::text_part(strings, name.offset, name.len)),
-        6 => operator(image::text_part(strings, name.offset, name.len)),
-        7 => KindAnswer::Kind(NodeKindView::Tag(name)),
-        11 => KindAnswer::Kind(NodeKindView::Value(ValueView::String(name))),
-        13 => KindAnswer::Kind(NodeKindView::Value(ValueView::DivertTarget(name))),
-        14 => KindAnswer::Kind(NodeKindView::Value(ValueView::VariablePointer {
+    match node_tag {
+        tag::COMMAND => command(image::text_part(strings, name.offset, name.len)),
+        tag::OPERATOR => operator(image::text_part(strings, name.offset, name.len)),
+        tag::TAG => KindAnswer::Kind(NodeKindView::Tag(name)),
+        tag::STRING_VALUE => KindAnswer::Kind(NodeKindView::Value(ValueView::String(name))),
+        tag::TARGET_VALUE => KindAnswer::Kind(NodeKindView::Value(ValueView::DivertTarget(name))),
+        tag::POINTER_VALUE => KindAnswer::Kind(NodeKindView::Value(ValueView::VariablePointer {
             name,
             context_index: signed_of(flags),
         })),
-        16 => KindAnswer::Kind(NodeKindView::VariableAssignment {
+        tag::ASSIGNMENT => KindAnswer::Kind(NodeKindView::VariableAssignment {
             name,
             global: flags % 2 != 0,
             new_declaration: flags / 2 % 2 != 0,
@@ -190,27 +199,27 @@ fn text_kind(node: NodeRecord, strings: &[u8]) -> KindAnswer
 fn kind_view(node: NodeRecord, payload: usize, strings: &[u8]) -> KindAnswer
     ensures { λ r. ⌜ r ≡ kindView (now (strings .entry)) payload node (kindOf (node .tag)) ⌝ }
 {
-    let tag = node.tag;
-    match tag {
-        1 => container(node, strings.len()),
-        2 => KindAnswer::Kind(NodeKindView::ChoicePoint {
+    let node_tag = node.tag;
+    match node_tag {
+        tag::CONTAINER => container(node, strings.len()),
+        tag::CHOICE => KindAnswer::Kind(NodeKindView::ChoicePoint {
             flags: signed_of(node.f3),
             target: optional_word(node.f2),
         }),
-        4 => divert(node, strings.len()),
-        5 => KindAnswer::Kind(NodeKindView::Glue),
-        3 | 11 | 13 => text_kind(node, strings),
-        6..=7 => text_kind(node, strings),
-        8 => KindAnswer::Kind(NodeKindView::Value(ValueView::Bool(node.f0 != 0))),
-        9 => KindAnswer::Kind(NodeKindView::Value(ValueView::Int(signed_of(node.f0)))),
-        10 => KindAnswer::Kind(NodeKindView::Value(ValueView::Float {
+        tag::DIVERT => divert(node, strings.len()),
+        tag::GLUE => KindAnswer::Kind(NodeKindView::Glue),
+        tag::COMMAND | tag::STRING_VALUE | tag::TARGET_VALUE => text_kind(node, strings),
+        tag::OPERATOR..=tag::TAG => text_kind(node, strings),
+        tag::BOOL_VALUE => KindAnswer::Kind(NodeKindView::Value(ValueView::Bool(node.f0 != 0))),
+        tag::INT_VALUE => KindAnswer::Kind(NodeKindView::Value(ValueView::Int(signed_of(node.f0)))),
+        tag::FLOAT_VALUE => KindAnswer::Kind(NodeKindView::Value(ValueView::Float {
             bits: node.f0,
             value: float_of(node.f0),
         })),
-        12 => list(payload, node.f0, node.f1),
-        14 => text_kind(node, strings),
-        16..=17 => text_kind(node, strings),
-        18 => KindAnswer::Kind(NodeKindView::Void),
+        tag::LIST_VALUE => list(payload, node.f0, node.f1),
+        tag::POINTER_VALUE => text_kind(node, strings),
+        tag::ASSIGNMENT..=tag::REFERENCE => text_kind(node, strings),
+        tag::VOID => KindAnswer::Kind(NodeKindView::Void),
         _ => KindAnswer::NotFound,
     }
 }
@@ -233,6 +242,7 @@ pub fn record_view(node: NodeRecord, payload: usize, strings: &[u8]) -> NodeAnsw
     }
 }
 
+// Node `id` as a reader sees it: its parent, its place and its kind.
 pub fn node_view(bytes: &[u8], view: ImageView, id: u32) -> NodeAnswer
     ensures { λ r. ⌜ r ≡ nodeView (sectionsBy (now (bytes .entry)) view) id ⌝ }
 {

@@ -8,7 +8,7 @@ use lib.ListN.{length, getD}
 use Rattle.laws.specs.Refusal.{_▸_, firstOf}
 use Rattle.laws.specs.Counted.{joinOf}
 use Rattle.laws.proofs.First.{then, first-of}
-use Rattle.image.specs.Sections.{Sections, nodeCount, childWord, namedWord, f, isContainer}
+use Rattle.image.specs.Sections.{Sections, textEntryWords, nodeCount, childWord, namedWord, f, isContainer}
 use Rattle.image.specs.declared.NodeRecord.{NodeRecord}
 use Rattle.image.proofs.Entries.{IsNode}
 use Rattle.records.specs.Records.{numberOfChildren, numberOfNamed}
@@ -72,7 +72,7 @@ module _ (s : Sections) (i : ℕ) where
         -- its entries are there, and there are words for them
         pub record Room : Type 0 where
           pub children : node .f3 + node .f4 ≤ length (s .children)
-          pub named : node .f5 + node .f6 ≤ length (s .named) / 3
+          pub named : node .f5 + node .f6 ≤ length (s .named) / textEntryWords
           pub words : base + depth + node .f6 + node .f4 ≤ length w₀
 
         pub room : Fit s → i < nodeCount s → base + depth + length (entryNodes s i) ≤ length w₀ → Room
@@ -87,8 +87,8 @@ module _ (s : Sections) (i : ℕ) where
         named-run : (w : List ℕ) → NamedPushed (s .named) (node .f5) (node .f6) base depth w₀ w → Pushed free namedBack (numberOfNamed s i) base depth w₀ w 0
         unfolding namedWord
         named-run w p =
-            subst (λ (k : ℕ). Pushed free (λ j. getD (s .named) ((f s i 5 + (k - 1 - j)) * 3 + 2) 0) k base depth w₀ w 0) named-count
-            (subst (λ (a : ℕ). Pushed free (λ j. getD (s .named) ((a + (node .f6 - 1 - j)) * 3 + 2) 0) (node .f6) base depth w₀ w 0) (n .f5) p)
+            subst (λ (k : ℕ). Pushed free (λ j. getD (s .named) ((f s i 5 + (k - 1 - j)) * textEntryWords + 2) 0) k base depth w₀ w 0) named-count
+            (subst (λ (a : ℕ). Pushed free (λ j. getD (s .named) ((a + (node .f6 - 1 - j)) * textEntryWords + 2) 0) (node .f6) base depth w₀ w 0) (n .f5) p)
 
         children-run : (d : ℕ) (w w₁ : List ℕ) → ChildrenPushed (s .children) (node .f3) (node .f4) base d w w₁
             → Pushed free childBack (numberOfChildren s i) base d w w₁ 0

@@ -10,18 +10,16 @@ use lib.Seq.{drop-set-lt}
 use Rattle.laws.specs.Counted.{sumOf, allOf}
 use Rattle.laws.specs.Lists.{has}
 use Rattle.words.specs.Words.{NONE}
-use Rattle.image.specs.Sections.{Sections, nodeCount, childCount, namedCount}
+use Rattle.image.specs.Sections.{Sections, nodeCount}
 use Rattle.tree.specs.Tree.{entryNodes, Walked, walk, turns, readWalk, allSeen}
 use Rattle.tree.specs.Work.{marked, markIn, treeWords}
 use Rattle.tree.specs.Parts.{Fit}
 use Rattle.tree.proofs.Members.{All, all-ext}
 use Rattle.tree.proofs.Entries.{entries-counted}
+use Rattle.tree.proofs.LoadWalk.{pushedEntries}
 use Rattle.tree.proofs.Machine.{Setting, Walking, turnsLeft, walk-start, seen-start, walk-end, walk-marked, seen-marked, top-below, mark-has, mark-few, push-room, walk-less, walk-entered, seen-entered}
 use Rattle.write_numbering.specs.Work.{Leads, free, NodeEntered, Read}
 use Rattle.write_numbering.proofs.WalkMarks.{InWords, entries-below, few-marks}
-
-abbrev pub pushedEntries : Sections → ℕ
-pushedEntries s = childCount s + namedCount s
 
 abbrev pub readTurns : Sections → ℕ → List ℕ → ℕ → ℕ
 readTurns s count w d = turnsLeft free (entryNodes s) suc count count (pushedEntries s) w d

@@ -8,7 +8,7 @@ use lib.ListN.{length, getD}
 use Rattle.laws.specs.Counted.{joinOf}
 use Rattle.laws.specs.Lists.{placeIn}
 use Rattle.words.specs.Words.{bytesOf}
-use Rattle.image.specs.Sections.{Sections, nodeCount}
+use Rattle.image.specs.Sections.{Sections, textEntrySize, nodeCount}
 use Rattle.draft.specs.Numbering.{oldOf}
 use Rattle.draft_image.specs.Strings.{byPath, pathOf, offsetOf}
 use Rattle.draft_image.specs.Written.{indexOut}
@@ -22,7 +22,7 @@ use Rattle.write_paths.specs.declared.path_index.Paths.{Paths}
 use Rattle.write_paths.specs.PathIndex.{PathsAt, LengthsAt, indexWords}
 use Rattle.write_numbering.proofs.DraftWords.{join-same}
 
-pub begin : (w : List ℕ) (n : Numbers) (p : Paths) (out : List ℕ) → 12 * p .count ≤ length out → Running 0 (p .count) (indexWords w n p) out out 0 0
+pub begin : (w : List ℕ) (n : Numbers) (p : Paths) (out : List ℕ) → textEntrySize * p .count ≤ length out → Running 0 (p .count) (indexWords w n p) out out 0 0
 begin w n p out h = run-start 0 (p .count) (indexWords w n p) out (omega (arith, even-len (p .count) 3 (indexWords w n p) (λ m q. refl))) 0 refl
 
 map-at : (g : ℕ → List ℕ) (xs : List ℕ) (k : ℕ) → k < length xs → (getD (map g xs) k [] ≡ g (getD xs k 0)) × (k < length (map g xs))

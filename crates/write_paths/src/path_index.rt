@@ -14,6 +14,7 @@ ghost use Rattle.draft_image.specs.Ready.{NewsAt, OffsetsAt};
 ghost use Rattle.words.specs.Output.{over};
 ghost use Rattle.write_paths.specs.PathIndex.{IndexFit, PathsAt, LengthsAt};
 use draft::source::word;
+use image::ImageView;
 use words::output::put_words;
 use write_numbering::numbers::Numbers;
 
@@ -47,7 +48,7 @@ pub fn put_index(work: &[u32], numbers: Numbers, paths: Paths, out: &mut [u8])
             word(work, numbers.new + node),
         ];
         put_words(out, at, &words);
-        at += 12;
+        at += ImageView::INDEX_SIZE as usize;
         k += 1;
     }
 }

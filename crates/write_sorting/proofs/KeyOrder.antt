@@ -1,4 +1,4 @@
--- A list sorted by keys: its neighbours rise where no two keys are one, and then it is the list that encoder/specs/Strings.antt sorts.
+-- A list sorted by keys: its neighbours rise where no two keys are one, and then it is the list that draft_image/specs/Strings.antt sorts.
 use Prim.Native.Nat.{ℕ, suc, _<_}
 use mathlib.Core.Path.{_≡_, refl, sym, ap, _∙_}
 use mathlib.Core.Logic.{_⊎_, inl, inr, ⊎-elim}

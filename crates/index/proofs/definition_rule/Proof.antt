@@ -13,8 +13,9 @@ use Rattle.image.specs.Sections.{Sections, itemCount}
 use Rattle.index.specs.Definitions.{itemRuleFrom, definitionRule}
 use Rattle.index.specs.Parts.{definitionParts}
 use Rattle.index.proofs.Definitions.{item-like}
-use Rattle.index.proofs.Readers.{definition-by, definition-past, items-length}
-use Rattle.index.proofs.RuleRuns.{first-like}
+use Rattle.image.proofs.Parts.{text-entry-count}
+use Rattle.index.proofs.Readers.{definition-by, definition-past}
+use Rattle.laws.proofs.RuleRuns.{first-like}
 use borrow.Author.Needs.{needs}
 use Rattle.index.proofs.definition_rule.Statement.{statement}
 use Rattle.index.proofs.definition_rule.Tie as tie
@@ -79,13 +80,13 @@ returns-3 : tie.Need-returns-3
 unfolding unless _▸_
 returns-3 c =
     let at = c .before .before .before in
-    sym (past-texts at ∙ rw (lt-leb (entry at .first + entry at .count) (itemCount (whole at)) (omega (arith, items-length (at .before .before .before .before .before .before .before .before .args .items .now)))))
+    sym (past-texts at ∙ rw (lt-leb (entry at .first + entry at .count) (itemCount (whole at)) (omega (arith, text-entry-count (at .before .before .before .before .before .before .before .before .args .items .now)))))
 
 returns-4 : tie.Need-returns-4
 unfolding unless _▸_
 returns-4 c =
     let at = c .before .before .before .before in
-    sym (past-texts at ∙ rw (le-leb (entry at .first + entry at .count) (itemCount (whole at)) (omega (arith, items-length (at .before .before .before .before .before .before .before .before .args .items .now))), ne-eqb (entry at .first) (at .before .before .before .before .before .before .before .before .args .used) (c .if4 .taken)))
+    sym (past-texts at ∙ rw (le-leb (entry at .first + entry at .count) (itemCount (whole at)) (omega (arith, text-entry-count (at .before .before .before .before .before .before .before .before .args .items .now))), ne-eqb (entry at .first) (at .before .before .before .before .before .before .before .before .args .used) (c .if4 .taken)))
 
 items-rule-requires : tie.Need-items-rule-requires
 items-rule-requires c κs = search needs
@@ -96,7 +97,7 @@ returns-5 c =
     let at = c .before .before .before .before .before in
     let items = definitionParts [] (at .before .before .before .before .before .before .before .before .args .items .now) (at .before .before .before .before .before .before .before .before .args .strings .now) in
     sym (past-texts at
-    ∙ rw (le-leb (entry at .first + entry at .count) (itemCount (whole at)) (omega (arith, items-length (at .before .before .before .before .before .before .before .before .args .items .now))), eq-eqb (entry at .first) (at .before .before .before .before .before .before .before .before .args .used) (c .before .if4 .left))
+    ∙ rw (le-leb (entry at .first + entry at .count) (itemCount (whole at)) (omega (arith, text-entry-count (at .before .before .before .before .before .before .before .before .args .items .now))), eq-eqb (entry at .first) (at .before .before .before .before .before .before .before .before .args .used) (c .before .if4 .left))
     (first-like (entry at .count) (itemRuleFrom (whole at) (entry at .first)) (itemRuleFrom items (entry at .first)) (item-like (whole at) items refl refl (entry at .first))
     ∙ sym (c .items-rule .ensures)))
 

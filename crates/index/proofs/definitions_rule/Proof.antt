@@ -10,7 +10,7 @@ use Rattle.index.specs.Definitions.{numberOfItems, itemsBefore, definiti
 use Rattle.image.specs.Sections.{textEntrySize}
 use Rattle.index.specs.Parts.{definitionParts}
 use Rattle.index.proofs.Readers.{definitions-stop, definitions-end, used-more, used-inside}
-use Rattle.index.proofs.RuleRuns.{sum-starts, run-starts, run-goes}
+use Rattle.laws.proofs.RuleRuns.{sum-starts, run-starts, run-goes}
 use Rattle.index.proofs.definitions_rule.Statement.{statement}
 use Rattle.index.proofs.definitions_rule.Tie as tie
 

@@ -8,7 +8,7 @@ use Rattle.laws.specs.Refusal.{firstOf}
 use Rattle.index.specs.Index.{indexEntryRule}
 use Rattle.index.specs.Parts.{indexParts}
 use Rattle.index.proofs.Readers.{index-run}
-use Rattle.index.proofs.RuleRuns.{run-starts, run-stops, run-goes, run-ends}
+use Rattle.laws.proofs.RuleRuns.{run-starts, run-stops, run-goes, run-ends}
 use Rattle.index.proofs.index_rule.Statement.{statement}
 use Rattle.index.proofs.index_rule.Tie as tie
 

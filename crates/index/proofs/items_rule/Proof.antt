@@ -5,7 +5,7 @@ use mathlib.Core.List.{[]}
 use Rattle.laws.specs.Refusal.{firstOf}
 use Rattle.index.specs.Definitions.{itemRuleFrom}
 use Rattle.index.specs.Parts.{definitionParts}
-use Rattle.index.proofs.RuleRuns.{run-starts, run-stops, run-goes, run-ends}
+use Rattle.laws.proofs.RuleRuns.{run-starts, run-stops, run-goes, run-ends}
 use borrow.Author.Needs.{needs}
 use Rattle.index.proofs.items_rule.Statement.{statement}
 use Rattle.index.proofs.items_rule.Tie as tie

@@ -72,17 +72,23 @@ same-length c = c .before .before .before .before .enter .kept .1 .1 .1 .1 .1 .0
 
 returns : tie.Need-returns Inv-loop μ-loop
 returns c =
-    load-refused _ _ (St (c .before .before .before .before .before .before .before .before .before .before) .pre .1 .0) (St (c .before .before .before .before .before .before .before .before .before .before) .pre .0 .counts) (St (c .before .before .before .before .before .before .before .before .before .before) .args .work .now) _ _ (c .before .before .before .before .before .before .before .before .before .before .loop .inv) _ (c .before .before .before .before .before .before .before .before .before .loop-test .taken) refl (c .before .before .before .before .before .before .if1 .taken) _ _ _
+    let head = c .before .before .before .before .before .before .before .before .before .before in
+    let start = St head in
+    load-refused _ _ (start .pre .1 .0) (start .pre .0 .counts) (start .args .work .now) _ _ (head .loop .inv) _ (c .before .before .before .before .before .before .before .before .before .loop-test .taken) refl (c .before .before .before .before .before .before .if1 .taken) _ _ _
     (c .before .before .before .before .enter .ensures) (c .before .before .before .before .enter .kept .1 .1 .1 .1 .1 .0) (c .if2 .taken)
 
 loop-less : tie.Need-loop-less Inv-loop μ-loop
 loop-less c =
-    load-less _ _ (St (c .before .before .before .before .before .before .before .before .before .before) .pre .1 .0) (St (c .before .before .before .before .before .before .before .before .before .before) .pre .0 .counts) (St (c .before .before .before .before .before .before .before .before .before .before) .args .work .now) _ _ (c .before .before .before .before .before .before .before .before .before .before .loop .inv) _ (c .before .before .before .before .before .before .before .before .before .loop-test .taken) refl (c .before .before .before .before .before .before .if1 .taken) _ _ _
+    let head = c .before .before .before .before .before .before .before .before .before .before in
+    let start = St head in
+    load-less _ _ (start .pre .1 .0) (start .pre .0 .counts) (start .args .work .now) _ _ (head .loop .inv) _ (c .before .before .before .before .before .before .before .before .before .loop-test .taken) refl (c .before .before .before .before .before .before .if1 .taken) _ _ _
     (c .before .before .before .before .enter .ensures) (c .before .before .before .before .enter .kept .1 .1 .1 .1 .1 .0) (c .if2 .left)
 
 loop-again : tie.Need-loop-again Inv-loop μ-loop
 loop-again c =
-    load-entered _ _ (St (c .before .before .before .before .before .before .before .before .before .before) .pre .1 .0) (St (c .before .before .before .before .before .before .before .before .before .before) .pre .0 .counts) (St (c .before .before .before .before .before .before .before .before .before .before) .args .work .now) _ _ (c .before .before .before .before .before .before .before .before .before .before .loop .inv) _ (c .before .before .before .before .before .before .before .before .before .loop-test .taken) refl (c .before .before .before .before .before .before .if1 .taken) _ _ _
+    let head = c .before .before .before .before .before .before .before .before .before .before in
+    let start = St head in
+    load-entered _ _ (start .pre .1 .0) (start .pre .0 .counts) (start .args .work .now) _ _ (head .loop .inv) _ (c .before .before .before .before .before .before .before .before .before .loop-test .taken) refl (c .before .before .before .before .before .before .if1 .taken) _ _ _
     (c .before .before .before .before .enter .ensures) (c .before .before .before .before .enter .kept .1 .1 .1 .1 .1 .0) (c .if2 .left)
 
 loop-less-2 : tie.Need-loop-less-2 Inv-loop μ-loop

@@ -9,8 +9,6 @@ use Rattle.write_sorting.proofs.MergeInPlace.{paste-above, paste-down}
 use borrow.Author.Needs.{needs}
 use Rattle.write_sorting.proofs.copy_down.Statement.{statement}
 use Rattle.write_sorting.proofs.copy_down.Tie as tie
-use Rattle.write_sorting.proofs.copy_down.Reads as reads
-use Rattle.write_sorting.proofs.copy_down.Lts as lts
 
 abbrev Inv-loop : tie.InvT-loop
 Inv-loop w₀ m n i₀ w i = (i ≤ m) × (w ≡ paste w₀ 0 (drop n w₀) i)

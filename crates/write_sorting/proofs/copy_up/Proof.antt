@@ -9,8 +9,6 @@ use Rattle.write_sorting.proofs.MergeInPlace.{paste-low}
 use borrow.Author.Needs.{needs}
 use Rattle.write_sorting.proofs.copy_up.Statement.{statement}
 use Rattle.write_sorting.proofs.copy_up.Tie as tie
-use Rattle.write_sorting.proofs.copy_up.Reads as reads
-use Rattle.write_sorting.proofs.copy_up.Lts as lts
 
 abbrev Inv-loop : tie.InvT-loop
 Inv-loop w₀ m n i₀ w i = (i ≤ m) × (w ≡ paste w₀ n w₀ i)

@@ -8,11 +8,6 @@ use Rattle.write_sorting.proofs.MergeInPlace.{down-joined, paste-behind
 use borrow.Author.Needs.{needs}
 use Rattle.write_sorting.proofs.join_parts.Statement.{statement}
 use Rattle.write_sorting.proofs.join_parts.Tie as tie
-use Rattle.write_sorting.proofs.join_parts.Reads as reads
-use Rattle.write_sorting.proofs.join_parts.Lts as lts
-use Rattle.write_text_keys.proofs.below.Reads as below-reads
-use Rattle.write_sorting.proofs.copy_down.Reads as copy-down-reads
-use Rattle.write_sorting.proofs.merge_parts.Reads as merge-parts-reads
 
 add-last : tie.Need-add-last
 add-last c = search needs

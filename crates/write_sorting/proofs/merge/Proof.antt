@@ -9,10 +9,6 @@ use Rattle.write_sorting.proofs.MergeInPlace.{Copied, copied, copied-or
 use borrow.Author.Needs.{needs}
 use Rattle.write_sorting.proofs.merge.Statement.{statement}
 use Rattle.write_sorting.proofs.merge.Tie as tie
-use Rattle.write_sorting.proofs.merge.Reads as reads
-use Rattle.write_sorting.proofs.merge.Lts as lts
-use Rattle.write_sorting.proofs.copy_up.Reads as copy-up-reads
-use Rattle.write_sorting.proofs.join_parts.Reads as join-parts-reads
 
 returns : tie.Need-returns
 returns c =

@@ -11,9 +11,6 @@ use Rattle.write_sorting.proofs.MergeInPlace.{Placing, placing-none, pl
 use borrow.Author.Needs.{needs}
 use Rattle.write_sorting.proofs.merge_parts.Statement.{statement}
 use Rattle.write_sorting.proofs.merge_parts.Tie as tie
-use Rattle.write_sorting.proofs.merge_parts.Reads as reads
-use Rattle.write_sorting.proofs.merge_parts.Lts as lts
-use Rattle.write_sorting.proofs.takes_right.Reads as takes-right-reads
 
 abbrev Inv-loop : tie.InvT-loop
 Inv-loop nodes strings w₀ t m n source i₀ j₀ k₀ w i j k = Placing (byKey (keyIn (source .version) nodes strings t w₀)) w₀ m n w i j k

@@ -3,9 +3,6 @@ use Rattle.write_sorting.specs.Sorted.{takesRight}
 use borrow.Author.Needs.{needs}
 use Rattle.write_sorting.proofs.takes_right.Statement.{statement}
 use Rattle.write_sorting.proofs.takes_right.Tie as tie
-use Rattle.write_sorting.proofs.takes_right.Reads as reads
-use Rattle.write_sorting.proofs.takes_right.Lts as lts
-use Rattle.write_text_keys.proofs.below.Reads as below-reads
 
 mul-below : tie.Need-mul-below
 mul-below c = search needs

@@ -1,8 +1,7 @@
 -- `draft::shape::entry_rises` meets its contract.
-use mathlib.Core.Path.{sym}
+use mathlib.Core.Path.{sym, _∙_}
 use borrow.Author.Needs.{needs}
-use Rattle.image.proofs.RisingTexts.{rising-first}
-use Rattle.draft.proofs.Relations.{entry-rises}
+use Rattle.image.proofs.RisingTexts.{rising-first, entry-rises}
 use Rattle.draft.proofs.shape.entry_rises.Statement.{statement}
 use Rattle.draft.proofs.shape.entry_rises.Tie as tie
 
@@ -24,11 +23,11 @@ add-entry-at-2 c = search needs
 entry-at-requires-2 : tie.Need-entry-at-requires-2
 entry-at-requires-2 c κs = search needs
 
-text-part-requires : tie.Need-text-part-requires
-text-part-requires c κs = search needs
+text-bytes-requires : tie.Need-text-bytes-requires
+text-bytes-requires c κs = search needs
 
-text-part-requires-2 : tie.Need-text-part-requires-2
-text-part-requires-2 c κs = search needs
+text-bytes-requires-2 : tie.Need-text-bytes-requires-2
+text-bytes-requires-2 c κs = search needs
 
 comes-before-requires : tie.Need-comes-before-requires
 comes-before-requires c κs = search needs
@@ -36,8 +35,9 @@ comes-before-requires c κs = search needs
 returns-2 : tie.Need-returns-2
 returns-2 c =
     let read = c .before .before .before in
-    entry-rises _ _ _ _ _ _ _ (read .before .before .if1 .left) (read .before .entry-at .ensures) (read .entry-at2 .ensures) _ _
-    (c .before .before .text-part .ensures) (c .before .text-part2 .ensures) (c .comes-before .ensures)
+    c .comes-before .ensures
+    ∙ entry-rises _ _ _ _ _ _ _ _ (read .before .before .if1 .left) (read .before .entry-at .ensures) (read .entry-at2 .ensures) (c .before .before .text-bytes .ensures)
+    (c .before .text-bytes2 .ensures)
 
 pub entry-rises-spec : {M : Type 1} → statement M
 entry-rises-spec =
@@ -49,7 +49,7 @@ entry-rises-spec =
     entry-at-requires
     add-entry-at-2
     entry-at-requires-2
-    text-part-requires
-    text-part-requires-2
+    text-bytes-requires
+    text-bytes-requires-2
     comes-before-requires
     returns-2)

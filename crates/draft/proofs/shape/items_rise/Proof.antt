@@ -5,13 +5,13 @@ use mathlib.Core.Bool.{true}
 use borrow.Author.Needs.{needs}
 use Rattle.laws.specs.Counted.{allOf}
 use Rattle.texts.specs.Text.{rising}
-use Rattle.draft.specs.Shown.{shownEntry}
+use Rattle.image.specs.Entries.{entryTextFrom}
 use Rattle.draft.proofs.Runs.{all-starts, all-stops, all-goes, all-ends}
 use Rattle.draft.proofs.shape.items_rise.Statement.{statement}
 use Rattle.draft.proofs.shape.items_rise.Tie as tie
 
 abbrev Inv-loop : tie.InvT-loop
-Inv-loop items strings first count j₀ j = (j ≤ count) × (allOf j (rising (shownEntry items strings first)) ≡ true)
+Inv-loop items strings first count j₀ j = (j ≤ count) × (allOf j (rising (entryTextFrom items strings first)) ≡ true)
 
 abbrev μ-loop : tie.MeasureT-loop
 μ-loop items strings first count j₀ j = count - j

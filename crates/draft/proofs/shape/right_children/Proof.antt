@@ -1,6 +1,6 @@
 -- `draft::shape::right_children` meets its contract. The invariant: the tests so far pass.
-use Prim.Native.Nat.{_≤_, _-_, _+_}
-use mathlib.Core.Path.{_≡_}
+use Prim.Native.Nat.{ℕ, _≤_, _-_, _+_}
+use mathlib.Core.Path.{_≡_, ap, _∙_}
 use mathlib.Core.Bool.{true}
 use borrow.Author.Needs.{needs}
 use Rattle.laws.specs.Counted.{allOf}
@@ -23,20 +23,22 @@ abbrev μ-loop : tie.MeasureT-loop
 loop-holds : tie.Need-loop-holds Inv-loop μ-loop
 loop-holds c = (search needs, all-starts _)
 
-add-right-child : tie.Need-add-right-child Inv-loop μ-loop
-add-right-child c = search needs
+add-word : tie.Need-add-word Inv-loop μ-loop
+add-word c = search needs
 
-mul-right-child : tie.Need-mul-right-child Inv-loop μ-loop
-mul-right-child c = search needs
-
-shared-slice-read-right-child : tie.Need-shared-slice-read-right-child Inv-loop μ-loop
-shared-slice-read-right-child c = search needs
+word-requires : tie.Need-word-requires Inv-loop μ-loop
+word-requires c κs = search needs
 
 right-child-requires : tie.Need-right-child-requires Inv-loop μ-loop
 right-child-requires c κs = search needs
 
 returns : tie.Need-returns Inv-loop μ-loop
-returns c = all-stops _ _ _ (c .before .right-child .ensures) _ (c .before .before .before .loop-test .taken) (c .if1 .taken)
+returns c =
+    let loop = c .before .before .before .before in
+    let to = loop .before .before .before .args in
+    let s = draftOf (to .source .version) (to .nodes .now) [] [] [] [] [] [] in
+    let right = c .before .right-child .ensures ∙ ap (λ (x : ℕ). rightChild s x (to .id) (loop .loop .j)) (c .before .before .word .ensures) in
+    all-stops _ _ _ right _ (c .before .before .before .loop-test .taken) (c .if1 .taken)
 
 add-j : tie.Need-add-j Inv-loop μ-loop
 add-j c = search needs
@@ -45,7 +47,12 @@ loop-less : tie.Need-loop-less Inv-loop μ-loop
 loop-less c = search needs
 
 loop-again : tie.Need-loop-again Inv-loop μ-loop
-loop-again c = (search needs, all-goes _ _ _ (c .before .right-child .ensures) (c .before .before .before .before .loop .inv .1) (c .if1 .left))
+loop-again c =
+    let loop = c .before .before .before .before in
+    let to = loop .before .before .before .args in
+    let s = draftOf (to .source .version) (to .nodes .now) [] [] [] [] [] [] in
+    let right = c .before .right-child .ensures ∙ ap (λ (x : ℕ). rightChild s x (to .id) (loop .loop .j)) (c .before .before .word .ensures) in
+    (search needs, all-goes _ _ _ right (loop .loop .inv .1) (c .if1 .left))
 
 returns-2 : tie.Need-returns-2 Inv-loop μ-loop
 returns-2 c = all-ends _ _ _ (c .before .loop .inv .0) (c .loop-test .left) (c .before .loop .inv .1)
@@ -57,9 +64,8 @@ right-children-spec =
     Inv-loop
     μ-loop
     loop-holds
-    add-right-child
-    mul-right-child
-    shared-slice-read-right-child
+    add-word
+    word-requires
     right-child-requires
     returns
     add-j

@@ -28,11 +28,8 @@ node-count-requires c κs = search needs
 loop-holds : tie.Need-loop-holds Inv-loop μ-loop
 loop-holds c = (search needs, λ v e. run-starts _)
 
-mul-is-inside : tie.Need-mul-is-inside Inv-loop μ-loop
-mul-is-inside c = search needs
-
-shared-slice-read-is-inside : tie.Need-shared-slice-read-is-inside Inv-loop μ-loop
-shared-slice-read-is-inside c = search needs
+word-requires : tie.Need-word-requires Inv-loop μ-loop
+word-requires c κs = search needs
 
 is-inside-requires : tie.Need-is-inside-requires Inv-loop μ-loop
 is-inside-requires c κs = search needs
@@ -41,7 +38,7 @@ returns : tie.Need-returns Inv-loop μ-loop
 returns c =
     let loop = c .before .before .before .before in
     let count = loop .before .node-count .ensures in
-    let child = child-told _ _ _ _ count _ _ (c .before .is-inside .ensures) in
+    let child = child-told _ _ _ _ count _ _ _ (c .before .before .word .ensures) (c .before .is-inside .ensures) in
     test-stops _ _ _ _ (loop .loop .inv .1 _ count) child _ (c .before .before .before .loop-test .taken) (λ z. omega arith) (c .if1 .taken)
 
 add-j : tie.Need-add-j Inv-loop μ-loop
@@ -54,7 +51,7 @@ loop-again : tie.Need-loop-again Inv-loop μ-loop
 loop-again c =
     let passed = c .before .before .before .before .loop .inv .1 in (
       search needs,
-      λ v e. test-goes _ _ _ _ (passed v e) (child-told v _ _ _ e _ _ (c .before .is-inside .ensures)) (c .if1 .left),
+      λ v e. test-goes _ _ _ _ (passed v e) (child-told v _ _ _ e _ _ _ (c .before .before .word .ensures) (c .before .is-inside .ensures)) (c .if1 .left),
     )
 
 returns-2 : tie.Need-returns-2 Inv-loop μ-loop
@@ -70,8 +67,7 @@ children-rule-spec =
     μ-loop
     node-count-requires
     loop-holds
-    mul-is-inside
-    shared-slice-read-is-inside
+    word-requires
     is-inside-requires
     returns
     add-j

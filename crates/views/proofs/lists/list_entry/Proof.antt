@@ -63,7 +63,10 @@ signed-of-requires : tie.Need-signed-of-requires
 signed-of-requires c κs = search needs
 
 returns-4 : tie.Need-returns-4
-returns-4 c = search (needs, list-shown (now (c .before .before .before .before .before .before .before .before .before .before .before .before .before .before .args .payload)) (now (c .before .before .before .before .before .before .before .before .before .before .before .before .before .before .args .strings)) (c .before .before .before .before .before .before .before .before .before .before .before .before .before .before .args .j) (c .before .before .before .before .before .before .before .before .before .before .before .if1 .left) _ (c .before .before .before .before .before .before .before .before .before .before .word .ensures) (c .before .before .before .before .before .before .before .before .before .if2 .left) _ _ (c .before .before .before .before .before .before .before .before .word2 .ensures) (c .before .before .before .before .before .before .before .word3 .ensures) _ (c .before .before .before .before .before .before .is-shown .ensures) (c .before .before .before .before .before .if3 .left) _ _ _ (c .before .before .before .before .word4 .ensures) (c .before .before .before .word5 .ensures) (c .before .word6 .ensures) _ (c .before .before .optional-text .ensures))
+returns-4 c =
+    let at = c .before .before .before .before .before .before .before .before .before .before .before .before .before .before .args in
+    let name = c .before .before .before .before .before .before .before .before in
+    search (needs, list-shown (now (at .payload)) (now (at .strings)) (at .j) (name .before .before .before .if1 .left) _ (name .before .before .word .ensures) (name .before .if2 .left) _ _ (name .word2 .ensures) (c .before .before .before .before .before .before .before .word3 .ensures) _ (c .before .before .before .before .before .before .is-shown .ensures) (c .before .before .before .before .before .if3 .left) _ _ _ (c .before .before .before .before .word4 .ensures) (c .before .before .before .word5 .ensures) (c .before .word6 .ensures) _ (c .before .before .optional-text .ensures))
 
 pub list-entry-spec : {M : Type 1} → statement M
 list-entry-spec =

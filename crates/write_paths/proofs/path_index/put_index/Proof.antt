@@ -55,6 +55,9 @@ put-words-requires c κs =
     let test = c .before .before .before .before .before .before .before .before .before .before in
     three-room _ _ _ _ _ _ _ _ _ (test .before .before .loop .inv) (test .if1 .taken)
 
+cast-at : tie.Need-cast-at Inv-loop μ-loop
+cast-at c = search needs
+
 add-at : tie.Need-add-at Inv-loop μ-loop
 add-at c =
     let test = c .before .before .before .before .before .before .before .before .before .before .before .before .before in
@@ -102,6 +105,7 @@ put-index-spec =
     word-requires-4
     slice-aggregate-put-words
     put-words-requires
+    cast-at
     add-at
     add-k
     loop-less
