@@ -1,18 +1,18 @@
 -- The loop over the nodes: what it is told of each node, and what it has shown when it has passed some.
 use Prim.Native.Nat.{ℕ, zero, suc, _+_, _*_, _/_, _≤_, _<_}
 use mathlib.Core.Path.{_≡_, refl, sym, ap, _∙_}
-use mathlib.Core.List.{List}
+use mathlib.Core.List.{List, []}
 use mathlib.Core.Bool.{Bool, true, false, cond}
 use native.Mathlib.Omega.{arith}
 use native.Mathlib.Numerals.{add-one}
 use lib.ListN.{length}
-use Rattle.laws.specs.Refusal.{firstOf}
+use Rattle.laws.specs.Refusal.{firstOf, _▸_}
 use Rattle.laws.specs.Counted.{sumOf}
-use Rattle.laws.proofs.First.{first-next, both}
+use Rattle.laws.proofs.First.{first-next, both, second}
 use Rattle.words.specs.Words.{wordsOf}
 use Rattle.image.specs.declared.ImageView.{ImageView}
 use Rattle.image.specs.declared.NodeRecord.{NodeRecord}
-use Rattle.image.specs.Sections.{Sections, nodeWords, nodeSize, nodeCount, isContainer}
+use Rattle.image.specs.Sections.{Sections, nodeWords, nodeSize, nodeCount, nodeWord, isContainer}
 use Rattle.image.specs.Entries.{nodeIn, recordOf}
 use Rattle.image.specs.Header.{sectionBytes, sectionsBy}
 use Rattle.image.proofs.Entries.{node-record}
@@ -21,13 +21,33 @@ use Rattle.records.specs.declared.Counts.{Counts}
 use Rattle.records.specs.declared.Sums.{Sums}
 use Rattle.records.specs.Fields.{kindOf}
 use Rattle.records.specs.Records.{targetIn, nodeRule, parentRule, fieldsRule, containerOf, containersBefore}
-use Rattle.records.specs.Shown.{Shows, ShowsParent, tagIn, countsOf, sumsBefore}
-use Rattle.records.proofs.Tests.{first-broken, first-done}
+use Rattle.records.specs.Shown.{Shows, ShowsParent, tagIn, countsOf, sumsBefore, parentBy, fieldsBy}
+use Rattle.laws.proofs.Chains.{refused, first-broken, first-done}
 use Rattle.records.proofs.PassedRules.{first-sums}
 use Rattle.load.specs.declared.nodes.Nodes.{Nodes}
 use Rattle.load.specs.declared.nodes.Nodes.the-variants.{Passed, Refused}
-use Rattle.load.specs.Nodes.{ReadFrom, nodesBy, nodesOf}
+use Rattle.tree.specs.Parts.{partsOf}
+use Rattle.records.proofs.ByKind.{shown-parent, shown-fields}
+use Rattle.load.specs.Nodes.{ReadFrom, nodeBy, nodesBy, nodesOf}
 use Rattle.load.proofs.SectionReads.{node-total}
+
+-- the rules of a node, by what the code finds of its parent and of its target
+module _ (version : ℕ) (ns ps ts : List ℕ) (c : Counts) (u : Sums) (i : ℕ) (r : NodeRecord) (parent q : ℕ)
+    (e : parent ≡ tagIn (partsOf version ns [] [] []) (r .parent)) (h : q ≡ parentBy i r (c .nodes) parent) where
+  first-rule : q ≡ parentBy i r (c .nodes) (tagIn (partsOf version ns [] [] []) (r .parent))
+  first-rule = h ∙ ap (parentBy i r (c .nodes)) e
+
+  pub parent-broken : (q ≡ 0 → ⊥) → q ≡ nodeBy version ns ps ts c u i r
+  unfolding nodeBy
+  parent-broken d = refused (parentBy i r (c .nodes) (tagIn (partsOf version ns [] [] []) (r .parent))) _ q first-rule d
+
+  pub parent-kept : q ≡ 0 → (target tag x : ℕ) → target ≡ targetIn r (kindOf (r .tag)) → tag ≡ tagIn (partsOf version ns [] [] []) target
+      → x ≡ fieldsBy (kindOf (r .tag)) r c u tag ps ts → x ≡ nodeBy version ns ps ts c u i r
+  unfolding nodeBy
+  parent-kept z target tag x t k f =
+      f
+      ∙ ap (λ (y : ℕ). fieldsBy (kindOf (r .tag)) r c u y ps ts) (k ∙ ap (tagIn (partsOf version ns [] [] [])) t)
+      ∙ sym (second (parentBy i r (c .nodes) (tagIn (partsOf version ns [] [] []) (r .parent))) _ (sym first-rule ∙ z))
 
 module _ (s : Sections) (i : ℕ) (version : ℕ) (ns ps ts : List ℕ) (counts : Counts) (r : NodeRecord) (g : ReadFrom s version ns ps ts counts) (node : r ≡ nodeIn s i) where
   pub parent-told : (tag : ℕ) → tag ≡ tagIn s (r .parent) → ShowsParent s i r counts tag
@@ -44,6 +64,20 @@ module _ (s : Sections) (i : ℕ) (version : ℕ) (ns ps ts : List ℕ) (counts 
         payload = sym (g .payload-is);
         strings = sym (g .strings-are);
       }
+
+  -- a tag out of the nodes' bytes
+  tag-read : (n : ℕ) → tagIn (partsOf version ns [] [] []) n ≡ tagIn s n
+  unfolding tagIn nodeWord
+  tag-read n = rw (g .versioned, g .nodes-are)
+
+  -- what is read of a node decides its rules
+  pub shown-node : (sums : Sums) → sums ≡ sumsBefore s i → nodeBy version ns ps ts counts sums i r ≡ nodeRule s i
+  unfolding nodeBy nodeRule
+  shown-node sums u =
+      let kind = kindOf (r .tag) in
+      let parent = shown-parent s i r counts _ (parent-told _ (tag-read (r .parent))) in
+      let fields = shown-fields s i r counts sums _ ps ts (fields-told sums (targetIn r kind) _ u refl (tag-read (targetIn r kind))) in
+      λ j. parent j ▸ fields j
 
 -- the sections of a view are read from its parts
 pub read-from : (bs : List ℕ) (v : ImageView) (ns ps ts : List ℕ) (counts : Counts) → ns ≡ sectionBytes bs (v .nodes) (nodeSize (v .version))

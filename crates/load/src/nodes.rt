@@ -6,15 +6,13 @@ use image::refusal::LEFT_OVER;
 use records::Counts;
 use records::Sums;
 ghost use mathlib.Core.Path.{_≡_};
-ghost use Prim.Native.Nat.{ℕ};
-ghost use Rattle.words.specs.Words.{wordsOf};
-ghost use Rattle.image.specs.Sections.{Sections, nodeCount};
-ghost use Rattle.image.specs.Entries.{nodeIn};
+ghost use mathlib.Core.List.{[]};
+ghost use Rattle.image.specs.Sections.{nodeCount};
 ghost use Rattle.image.specs.Header.{sectionsBy};
-ghost use Rattle.records.specs.Records.{nodeRule};
 ghost use Rattle.records.specs.Shown.{tagIn, countsOf, sumsBefore};
 ghost use Rattle.load.specs.Load.{leftoverRule, recordsRule};
-ghost use Rattle.load.specs.Nodes.{ReadFrom, nodesOf};
+ghost use Rattle.tree.specs.Parts.{partsOf};
+ghost use Rattle.load.specs.Nodes.{nodeBy, nodesOf};
 
 // What the nodes give: the sums of their counts, or the first refusal.
 pub enum Nodes {
@@ -24,7 +22,7 @@ pub enum Nodes {
 
 // The tag of node `n`, 0 where there is no such node.
 fn tag_at(nodes: &[u8], n: u32, version: u32) -> u32
-    ensures { λ r. ⌜ ((s : Sections) → s .version ≡ version → s .nodes ≡ wordsOf (now (nodes .entry)) → r ≡ tagIn s n) ⌝ }
+    ensures { λ r. ⌜ r ≡ tagIn (partsOf version (now (nodes .entry)) [] [] []) n ⌝ }
 {
     if image::is_inside(image::node_count(nodes, version), n) {
         image::node_word(nodes, version, n as usize, NodeRecord::TAG)
@@ -44,8 +42,7 @@ fn node_rule(
     node: NodeRecord,
     version: u32,
 ) -> u32
-    ensures { λ r. ⌜ ((s : Sections) → ReadFrom s version (now (nodes .entry)) (now (payload .entry)) (now (strings .entry)) counts
-        → sums ≡ sumsBefore s i → node ≡ nodeIn s i → r ≡ nodeRule s i) ⌝ }
+    ensures { λ r. ⌜ r ≡ nodeBy version (now (nodes .entry)) (now (payload .entry)) (now (strings .entry)) counts sums i node ⌝ }
 {
     let wrong = records::parent_rule(node, i, counts, tag_at(nodes, node.parent, version));
     if wrong != 0 {

@@ -12,6 +12,15 @@ use image::tag;
 use views::Found;
 use views::entries::RecordFound;
 
+// Words a component, and the kinds of components.
+const COMPONENT_WORDS: usize = 3;
+
+const PARENT: u32 = 0;
+
+const INDEX: u32 = 1;
+
+const NAME: u32 = 2;
+
 // The node in the parent word; a step up from the root finds nothing.
 fn parent_of(bytes: &[u8], view: ImageView, id: u32) -> Found
     ensures { λ r. ⌜ r ≡ parentQuery (sectionsBy (now (bytes .entry)) view) id ⌝ }
@@ -54,9 +63,9 @@ fn step_along(
     ensures { λ r. ⌜ r ≡ step (sectionsBy (now (bytes .entry)) view) id (component (now (names .entry)) kind a b) ⌝ }
 {
     match kind {
-        0 => parent_of(bytes, view, id),
-        1 => views::children::child_at(bytes, view, id, a),
-        2 => child_named(bytes, view, id, names, a, b),
+        PARENT => parent_of(bytes, view, id),
+        INDEX => views::children::child_at(bytes, view, id, a),
+        NAME => child_named(bytes, view, id, names, a, b),
         _ => Found::NotFound,
     }
 }
@@ -69,7 +78,7 @@ fn walk(bytes: &[u8], view: ImageView, from: u32, path: &[u32], first: usize, na
     let mut at = from;
     let mut k = first;
     while k < n {
-        if n - k < 3 {
+        if n - k < COMPONENT_WORDS {
             return Found::NotFound;
         }
         match step_along(bytes, view, at, names, path[k], path[k + 1], path[k + 2]) {
@@ -80,7 +89,7 @@ fn walk(bytes: &[u8], view: ImageView, from: u32, path: &[u32], first: usize, na
                 at = next;
             }
         }
-        k += 3;
+        k += COMPONENT_WORDS;
     }
     Found::Node(at)
 }
@@ -109,7 +118,7 @@ pub fn resolve_path(
             if node.parent == NONE {
                 return Found::NotFound;
             }
-            walk(bytes, view, node.parent, path, 3, names)
+            walk(bytes, view, node.parent, path, COMPONENT_WORDS, names)
         }
     }
 }

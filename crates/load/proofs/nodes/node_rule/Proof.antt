@@ -1,9 +1,6 @@
 -- `load::nodes::node_rule` meets its contract: the parent's rule, then the fields'.
-use mathlib.Core.Path.{_≡_, sym, ap, _∙_}
+use Rattle.load.proofs.NodeLoop.{parent-broken, parent-kept}
 use borrow.Author.Needs.{needs}
-use Rattle.records.proofs.ByKind.{shown-parent, shown-fields}
-use Rattle.records.proofs.PassedRules.{node-refused, node-fields}
-use Rattle.load.proofs.NodeLoop.{parent-told, fields-told}
 use Rattle.load.proofs.nodes.node_rule.Statement.{statement}
 use Rattle.load.proofs.nodes.node_rule.Tie as tie
 
@@ -14,11 +11,7 @@ parent-rule-requires : tie.Need-parent-rule-requires
 parent-rule-requires c κs = search needs
 
 returns : tie.Need-returns
-returns c =
-    λ s g sums node.
-    node-refused s _ _
-    (c .before .parent-rule .ensures ∙ shown-parent s _ _ _ _ (parent-told s _ _ _ _ _ _ _ g node _ (c .before .before .tag-at .ensures s (g .versioned) (g .nodes-are))))
-    (c .if1 .taken)
+returns c = parent-broken _ _ _ _ _ _ _ _ _ _ (c .before .before .tag-at .ensures) (c .before .parent-rule .ensures) (c .if1 .taken)
 
 target-of-requires : tie.Need-target-of-requires
 target-of-requires c κs = search needs
@@ -31,13 +24,9 @@ fields-rule-requires c κs = search needs
 
 returns-2 : tie.Need-returns-2
 returns-2 c =
-    λ s g sums node.
-    node-fields s _ _ _
-    (c .before .before .before .before .parent-rule .ensures
-    ∙ shown-parent s _ _ _ _ (parent-told s _ _ _ _ _ _ _ g node _ (c .before .before .before .before .before .tag-at .ensures s (g .versioned) (g .nodes-are))))
-    (c .before .before .before .if1 .left)
-    (c .fields-rule .ensures
-    ∙ shown-fields s _ _ _ _ _ _ _ (fields-told s _ _ _ _ _ _ _ g node _ _ _ sums (c .before .before .target-of .ensures) (c .before .tag-at2 .ensures s (g .versioned) (g .nodes-are))))
+    let parent = c .before .before .before .before in
+    parent-kept _ _ _ _ _ _ _ _ _ _ (parent .before .tag-at .ensures) (parent .parent-rule .ensures) (c .before .before .before .if1 .left) _ _ _
+    (c .before .before .target-of .ensures) (c .before .tag-at2 .ensures) (c .fields-rule .ensures)
 
 pub node-rule-spec : {M : Type 1} → statement M
 node-rule-spec =

@@ -10,7 +10,7 @@ use Rattle.image.specs.Header.{sectionsBy}
 use Rattle.records.specs.Records.{nodeRule}
 use Rattle.load.specs.Nodes.{ReadFrom}
 use Rattle.records.proofs.PassedRules.{shown-sums}
-use Rattle.load.proofs.NodeLoop.{Passing, passing-start, passing-next, read-from, few, refused-here, all-passed, fields-pass, node-below, node-upto, node-past, node-there, node-is}
+use Rattle.load.proofs.NodeLoop.{shown-node, Passing, passing-start, passing-next, read-from, few, refused-here, all-passed, fields-pass, node-below, node-upto, node-past, node-there, node-is}
 use Rattle.load.proofs.nodes.nodes_rule.Statement.{statement}
 use Rattle.load.proofs.nodes.nodes_rule.Tie as tie
 
@@ -53,7 +53,7 @@ returns c =
     let g = told (c .before .before .before .before .before .before) in
     let p = c .before .before .before .before .before .loop .inv .1 _ g in
     refused-here _ _ _ p _ (node-below _ _ _ _ _ _ g _ (c .before .before .before .if1 .taken))
-    (c .before .node-rule .ensures _ g (p .summed) (node-is _ _ _ _ _ _ g _ _ (c .before .before .node-record .ensures))) (c .if2 .taken)
+    (c .before .node-rule .ensures ∙ shown-node _ _ _ _ _ _ _ _ g (node-is _ _ _ _ _ _ g _ _ (c .before .before .node-record .ensures)) _ (p .summed)) (c .if2 .taken)
 
 add-requires : tie.Need-add-requires Inv-loop μ-loop
 add-requires c κs =
@@ -72,7 +72,7 @@ loop-again c = (
   λ s g.
       let p = c .before .before .before .before .before .before .loop .inv .1 s g in
       let node = node-is s _ _ _ _ _ g _ _ (c .before .before .before .node-record .ensures) in
-      let passes = sym (c .before .before .node-rule .ensures s g (p .summed) node) ∙ c .before .if2 .left in
+      let passes = sym (c .before .before .node-rule .ensures ∙ shown-node s _ _ _ _ _ _ _ g node _ (p .summed)) ∙ c .before .if2 .left in
       passing-next s _ _ p _ passes (c .add .ensures ∙ shown-sums s _ _ _ (p .summed) node (fields-pass s _ passes)),
 )
 

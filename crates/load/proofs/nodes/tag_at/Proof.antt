@@ -1,4 +1,5 @@
 -- `load::nodes::tag_at` meets its contract.
+use mathlib.Core.Path.{refl}
 use native.Mathlib.Omega.{arith}
 use Rattle.image.proofs.Widths.{words-some}
 use borrow.Author.Needs.{needs}
@@ -20,14 +21,12 @@ node-word-requires c κs = (
 
 returns : tie.Need-returns
 returns c =
-    λ s versioned nodes.
-    tag-inside s _ _ _ versioned nodes _ (c .before .before .before .node-count .ensures) _ (c .before .before .is-inside .ensures) _ (c .before .if1 .taken)
+    tag-inside _ _ _ _ refl refl _ (c .before .before .before .node-count .ensures) _ (c .before .before .is-inside .ensures) _ (c .before .if1 .taken)
     (c .node-word .ensures)
 
 returns-2 : tie.Need-returns-2
 returns-2 c =
-    λ s versioned nodes.
-    tag-outside s _ _ _ versioned nodes _ (c .before .before .node-count .ensures) _ (c .before .is-inside .ensures) (c .if1 .left)
+    tag-outside _ _ _ _ refl refl _ (c .before .before .node-count .ensures) _ (c .before .is-inside .ensures) (c .if1 .left)
 
 pub tag-at-spec : {M : Type 1} → statement M
 tag-at-spec = tie.close (tie.spec node-count-requires is-inside-requires node-word-requires returns returns-2)
