@@ -10,7 +10,7 @@ use Rattle.laws.specs.Counted.{sumOf, joinOf}
 use Rattle.words.specs.Words.{wordIn}
 use Rattle.image.specs.declared.NodeRecord.{NodeRecord}
 use Rattle.image.specs.Entries.{recordOf}
-use Rattle.image.specs.Sections.{textEntryWords, definitionWords, nodeWords}
+use Rattle.image.specs.Sections.{textEntryWords, definitionWords, nodeWords, listHeadSize, listItemSize, listOriginSize}
 use Rattle.words.specs.Output.{putAt}
 use Rattle.write_tree_sections.specs.Encoded.{textCount, optionalOffset}
 use Rattle.write_tree_sections.specs.Summed.{usedBy}
@@ -43,21 +43,21 @@ itemsWords definitions items w at d =
 
 -- the texts of the items before item j of the list whose payload starts at `start`
 unfoldable pub itemTexts : List ℕ → ℕ → ℕ → ℕ
-itemTexts payload start j = sumOf j (λ m. textCount (wordIn payload (start + 8 + m * 20)) + 1)
+itemTexts payload start j = sumOf j (λ m. textCount (wordIn payload (start + listHeadSize + m * listItemSize)) + 1)
 
 -- item j: an origin that may be absent, a name, a value
 unfoldable pub listItemWords : List ℕ → List ℕ → ℕ → ℕ → ℕ → List ℕ
 listItemWords payload w text start j =
-    optionalOffset w (text + itemTexts payload start j) (wordIn payload (start + 8 + j * 20))
-    ∷ wordIn payload (start + 8 + j * 20 + 4)
-    ∷ getD w (text + itemTexts payload start j + textCount (wordIn payload (start + 8 + j * 20))) 0
-    ∷ wordIn payload (start + 8 + j * 20 + 12)
-    ∷ wordIn payload (start + 8 + j * 20 + 16)
+    optionalOffset w (text + itemTexts payload start j) (wordIn payload (start + listHeadSize + j * listItemSize))
+    ∷ wordIn payload (start + listHeadSize + j * listItemSize + 4)
+    ∷ getD w (text + itemTexts payload start j + textCount (wordIn payload (start + listHeadSize + j * listItemSize))) 0
+    ∷ wordIn payload (start + listHeadSize + j * listItemSize + 12)
+    ∷ wordIn payload (start + listHeadSize + j * listItemSize + 16)
     ∷ []
 
 -- origin j of those that begin at a byte
 unfoldable pub listOriginWords : List ℕ → List ℕ → ℕ → ℕ → ℕ → List ℕ
-listOriginWords payload w text first j = getD w (text + j) 0 ∷ wordIn payload (first + j * 8 + 4) ∷ []
+listOriginWords payload w text first j = getD w (text + j) 0 ∷ wordIn payload (first + j * listOriginSize + 4) ∷ []
 
 -- the list
 unfoldable pub listWords : List ℕ → List ℕ → ℕ → ℕ → List ℕ
@@ -65,7 +65,7 @@ listWords payload w text start =
     (wordIn payload start ∷ wordIn payload (start + 4) ∷ [])
     ++ joinOf (wordIn payload start) (listItemWords payload w text start)
     ++ joinOf (wordIn payload (start + 4))
-    (listOriginWords payload w (text + itemTexts payload start (wordIn payload start)) (start + 8 + wordIn payload start * 20))
+    (listOriginWords payload w (text + itemTexts payload start (wordIn payload start)) (start + listHeadSize + wordIn payload start * listItemSize))
 
 -- a node that is no list has none
 unfoldable pub nodeListWords : List ℕ → List ℕ → ℕ → NodeRecord → List ℕ

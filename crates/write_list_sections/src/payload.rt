@@ -9,13 +9,16 @@ ghost use Rattle.records.specs.Fields.{kindOf};
 ghost use Rattle.write_list_sections.specs.Entered.{itemTexts, listItemWords, listOriginWords, listWords, nodeListWords, payloadWords};
 ghost use Rattle.write_list_sections.specs.Entered.{PayloadFits, PutWords};
 ghost use Rattle.write_list_sections.specs.Put.{PayloadPut};
-ghost use Rattle.image.specs.Sections.{nodeWords};
+ghost use Rattle.image.specs.Sections.{nodeWords, listHeadSize, listItemSize, listOriginSize};
 use draft::source::Source;
 use draft::source::node_at;
 use draft::source::node_count;
 use draft::source::payload_get;
 use draft::source::word;
 use image::NodeRecord;
+use image::payload::HEAD_BYTES;
+use image::payload::ITEM_BYTES;
+use image::payload::ORIGIN_BYTES;
 use image::tag;
 use words::output::put_words;
 use write_tree_sections::kinds::optional_offset;
@@ -33,17 +36,17 @@ fn put_list_items(
     at: usize,
 ) -> usize
     requires { ⌜ text + itemTexts (now payload) start count ≤ length (now w) ⌝ }
-    requires { ⌜ at + 20 * count ≤ length (now out) ⌝ }
+    requires { ⌜ at + listItemSize * count ≤ length (now out) ⌝ }
     ensures { λ r. ⌜ (let items = listItemWords (now (payload .entry)) (now (w .entry)) text start in
         (now (out .exit) ≡ putAt (now (out .entry)) at (joinOf count items)) × (r ≡ text + itemTexts (now (payload .entry)) start count)) ⌝ }
 {
-    let first = start as usize + 8;
+    let first = start as usize + HEAD_BYTES;
     let all = count as usize;
     let mut k = text;
     let mut place = at;
     let mut j = 0;
     while j < all {
-        let item = first + j * 20;
+        let item = first + j * ITEM_BYTES;
         let origin = payload_get(payload, item);
         let name = k + text_count(origin);
         let words = [
@@ -55,7 +58,7 @@ fn put_list_items(
         ];
         put_words(out, place, &words);
         k = name + 1;
-        place += 20;
+        place += ITEM_BYTES;
         j += 1;
     }
     k
@@ -72,21 +75,21 @@ fn put_list_origins(
     out: &mut [u8],
     at: usize,
 )
-    requires { ⌜ (text + count ≤ length (now w)) × (at + 8 * count ≤ length (now out)) ⌝ }
-    ensures { λ r. ⌜ (let origins = listOriginWords (now (payload .entry)) (now (w .entry)) text (start + 8 + items * 20) in
+    requires { ⌜ (text + count ≤ length (now w)) × (at + listOriginSize * count ≤ length (now out)) ⌝ }
+    ensures { λ r. ⌜ (let origins = listOriginWords (now (payload .entry)) (now (w .entry)) text (start + listHeadSize + items * listItemSize) in
         now (out .exit) ≡ putAt (now (out .entry)) at (joinOf count origins)) ⌝ }
 {
-    let first = start as usize + 8 + items as usize * 20;
+    let first = start as usize + HEAD_BYTES + items as usize * ITEM_BYTES;
     let all = count as usize;
     let mut place = at;
     let mut j = 0;
     while j < all {
-        let origin = first + j * 8;
+        let origin = first + j * ORIGIN_BYTES;
         let offset = word(w, text + j);
         let len = payload_get(payload, origin + 4);
         let words = [offset, len];
         put_words(out, place, &words);
-        place += 8;
+        place += ORIGIN_BYTES;
         j += 1;
     }
 }
@@ -102,10 +105,10 @@ fn put_list(payload: &[u8], start: u32, w: &[u32], text: usize, out: &mut [u8], 
     let origins = payload_get(payload, first + 4);
     let head = [items, origins];
     put_words(out, at, &head);
-    let behind = put_list_items(payload, start, items, w, text, out, at + 8);
-    let place = at + 8 + items as usize * 20;
+    let behind = put_list_items(payload, start, items, w, text, out, at + HEAD_BYTES);
+    let place = at + HEAD_BYTES + items as usize * ITEM_BYTES;
     put_list_origins(payload, start, items, origins, w, behind, out, place);
-    place + origins as usize * 8
+    place + origins as usize * ORIGIN_BYTES
 }
 
 // The same of a node, if it is a list.

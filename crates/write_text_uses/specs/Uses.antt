@@ -7,7 +7,7 @@ use lib.ListN.{length, getD, take, drop}
 use Rattle.laws.specs.Counted.{joinOf, counted}
 use Rattle.laws.specs.Lists.{flatMap, lists}
 use Rattle.words.specs.Words.{wordAt}
-use Rattle.image.specs.Sections.{Sections, nodeWords, textEntryWords, nodeCount, namedCount, definitionCount, itemCount, tagOf, f, absent, definitionWord, itemWord, sections}
+use Rattle.image.specs.Sections.{Sections, nodeWords, textEntryWords, nodeCount, namedCount, definitionCount, itemCount, tagOf, f, absent, definitionWord, itemWord, sections, listHeadSize, listItemSize, listOriginSize}
 use Rattle.records.specs.Fields.{Field, text, optional, command, operator, node, optionalNode, container, optionalContainer, plain, atMost, children, named, payload, wrong}
 use Rattle.records.specs.Records.{fieldsAt, numberOfNamed, listItems, listOrigins, listItemWord, listOriginWord, records}
 use Rattle.tree.specs.Tree.{namedAt}
@@ -92,7 +92,7 @@ storedBytes s = flatMap (λ t. t) (storedTexts s (numbering s))
 
 -- origin j of those that begin at a byte
 unfoldable pub originPairs : List ℕ → ℕ → ℕ → List ℕ
-originPairs bytes first j = wordAt bytes (first + j * 8) ∷ wordAt bytes (first + j * 8 + 4) ∷ []
+originPairs bytes first j = wordAt bytes (first + j * listOriginSize) ∷ wordAt bytes (first + j * listOriginSize + 4) ∷ []
 
 -- entry j, counted from the first, of those of three words
 unfoldable pub entryPairs : List ℕ → ℕ → ℕ → List ℕ
@@ -132,7 +132,7 @@ definitionsOnly definitions items = draftOf 0 [] [] [] definitions items [] []
 
 -- the list whose payload starts at `at` lies inside
 abbrev pub ListInside : Sections → ℕ → Type 0
-ListInside s at = at + 8 + listItems s at * 20 + listOrigins s at * 8 ≤ length (s .payload)
+ListInside s at = at + listHeadSize + listItems s at * listItemSize + listOrigins s at * listOriginSize ≤ length (s .payload)
 
 -- the numbers of n nodes are below n
 pub record Olds (n : ℕ) (order : List ℕ) : Type 0 where

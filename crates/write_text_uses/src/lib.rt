@@ -4,7 +4,7 @@ ghost use mathlib.Core.List.{List, [], _∷_, _++_};
 ghost use Prim.Native.Nat.{ℕ, _+_, _*_, _/_, _≤_, _<_};
 ghost use lib.ListN.{length};
 ghost use Rattle.laws.specs.Counted.{joinOf};
-ghost use Rattle.image.specs.Sections.{nodeWords, definitionWords, nodeCount, absent, tagOf, f};
+ghost use Rattle.image.specs.Sections.{nodeWords, definitionWords, listHeadSize, listItemSize, listOriginSize, nodeCount, absent, tagOf, f};
 ghost use Rattle.draft.specs.Source.{draftOf, nodesOnly};
 ghost use Rattle.write_text_uses.specs.Uses.{useIf, listItemPairs, listPairs, nodePairs, namedPairs, definitionPairs, allNodePairs};
 ghost use Rattle.write_text_uses.specs.Uses.{allNamedPairs, allDefinitionPairs, originPairs, entryPairs, wordsFrom, Room, Put, payloadOnly};
@@ -17,6 +17,9 @@ use draft::source::payload_word;
 use draft::source::word;
 use image::ImageView;
 use image::NONE;
+use image::payload::HEAD_BYTES;
+use image::payload::ITEM_BYTES;
+use image::payload::ORIGIN_BYTES;
 use image::tag;
 
 // Whether both words of a text say that it is absent.
@@ -52,11 +55,11 @@ fn put_optional(w: &mut [u32], at: usize, offset: u32, len: u32) -> usize
 
 // Of item `j` of the list whose payload starts at `start`.
 fn put_list_item(payload: &[u8], start: usize, j: usize, w: &mut [u32], at: usize) -> usize
-    requires { ⌜ start + (8 + j * 20 + 20) ≤ length (now payload) ⌝ }
+    requires { ⌜ start + (listHeadSize + j * listItemSize + listItemSize) ≤ length (now payload) ⌝ }
     requires { ⌜ Room (listItemPairs (payloadOnly (now payload)) start j) (now w) at ⌝ }
     ensures { λ r. ⌜ Put (listItemPairs (payloadOnly (now (payload .entry))) start j) (now (w .entry)) at (now (w .exit)) r ⌝ }
 {
-    let item = start + (8 + j * 20);
+    let item = start + (HEAD_BYTES + j * ITEM_BYTES);
     let origin = payload_word(payload, item);
     let origin_len = payload_word(payload, item + 4);
     let name = payload_word(payload, item + 8);
@@ -67,7 +70,7 @@ fn put_list_item(payload: &[u8], start: usize, j: usize, w: &mut [u32], at: usiz
 
 // Of the items of a list.
 fn put_list_items(payload: &[u8], start: usize, count: usize, w: &mut [u32], at: usize) -> usize
-    requires { ⌜ start + (8 + count * 20) ≤ length (now payload) ⌝ }
+    requires { ⌜ start + (listHeadSize + count * listItemSize) ≤ length (now payload) ⌝ }
     requires { ⌜ Room (joinOf count (listItemPairs (payloadOnly (now payload)) start)) (now w) at ⌝ }
     ensures { λ r. ⌜ Put (joinOf count (listItemPairs (payloadOnly (now (payload .entry))) start)) (now (w .entry)) at (now (w .exit)) r ⌝ }
 {
@@ -82,15 +85,15 @@ fn put_list_items(payload: &[u8], start: usize, count: usize, w: &mut [u32], at:
 
 // Of the origins of a list, the first of which lies at byte `first`.
 fn put_list_origins(payload: &[u8], first: usize, count: usize, w: &mut [u32], at: usize) -> usize
-    requires { ⌜ first + count * 8 ≤ length (now payload) ⌝ }
+    requires { ⌜ first + count * listOriginSize ≤ length (now payload) ⌝ }
     requires { ⌜ Room (joinOf count (originPairs (now payload) first)) (now w) at ⌝ }
     ensures { λ r. ⌜ Put (joinOf count (originPairs (now (payload .entry)) first)) (now (w .entry)) at (now (w .exit)) r ⌝ }
 {
     let mut k = at;
     let mut j = 0;
     while j < count {
-        let offset = payload_word(payload, first + j * 8);
-        let len = payload_word(payload, first + j * 8 + 4);
+        let offset = payload_word(payload, first + j * ORIGIN_BYTES);
+        let len = payload_word(payload, first + j * ORIGIN_BYTES + 4);
         k = put_use(w, k, offset, len);
         j += 1;
     }
@@ -106,7 +109,13 @@ fn put_list(payload: &[u8], start: usize, w: &mut [u32], at: usize) -> usize
     let items = payload_word(payload, start) as usize;
     let origins = payload_word(payload, start + 4) as usize;
     let behind = put_list_items(payload, start, items, w, at);
-    put_list_origins(payload, start + (8 + items * 20), origins, w, behind)
+    put_list_origins(
+        payload,
+        start + (HEAD_BYTES + items * ITEM_BYTES),
+        origins,
+        w,
+        behind,
+    )
 }
 
 // Of a divert: its path and its variable, both of which may be absent.

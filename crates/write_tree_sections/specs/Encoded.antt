@@ -5,6 +5,7 @@ use mathlib.Core.List.{List, [], _∷_}
 use mathlib.Core.Bool.{cond}
 use lib.ListN.{getD}
 use Rattle.laws.specs.Counted.{sumOf}
+use Rattle.image.specs.Sections.{listHeadSize, listItemSize}
 use Rattle.words.specs.Words.{NONE, isNone, wordIn}
 use Rattle.image.specs.declared.NodeRecord.{NodeRecord}
 use Rattle.records.specs.Fields.{Kind, Container, Choice, Command, Divert, Glue, Operator, Tag, BoolValue, IntValue, FloatValue, StringValue, ListValue, TargetValue, PointerValue, Assignment, Reference, Void, Unknown}
@@ -61,7 +62,7 @@ module _ (w : List ℕ) (new : ℕ) where
 -- of the list whose payload starts at `at`: origins that items have, a name an item, a text an origin
 unfoldable pub listTextsIn : List ℕ → ℕ → ℕ
 listTextsIn payload at =
-    sumOf (wordIn payload at) (λ j. textCount (wordIn payload (at + 8 + j * 20))) + wordIn payload at + wordIn payload (at + 4)
+    sumOf (wordIn payload at) (λ j. textCount (wordIn payload (at + listHeadSize + j * listItemSize))) + wordIn payload at + wordIn payload (at + 4)
 
 unfoldable pub textsBy : List ℕ → NodeRecord → Kind → ℕ
 textsBy payload r Container = textCount (r .f0)

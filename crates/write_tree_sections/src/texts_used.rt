@@ -5,6 +5,8 @@ ghost use Rattle.write_tree_sections.specs.Encoded.{textsBy, listTextsIn
 use crate::kinds::text_count;
 use draft::source::payload_get;
 use image::NodeRecord;
+use image::payload::HEAD_BYTES;
+use image::payload::ITEM_BYTES;
 use image::tag;
 
 // How many texts the list has whose payload starts at `start`: a name an item, a text an origin, and the origins that items have.
@@ -17,7 +19,7 @@ fn list_texts(payload: &[u8], start: u32) -> usize
     let mut present = 0;
     let mut j = 0;
     while j < items {
-        present += text_count(payload_get(payload, at + 8 + j * 20));
+        present += text_count(payload_get(payload, at + HEAD_BYTES + j * ITEM_BYTES));
         j += 1;
     }
     present + items + origins

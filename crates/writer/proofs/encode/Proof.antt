@@ -1,5 +1,5 @@
 -- `writer::encode` meets its contract.
-use mathlib.Core.Path.{_≡_, sym, _∙_}
+use mathlib.Core.Path.{sym, _∙_}
 use borrow.Author.Tests.{not-true, not-false}
 use Rattle.image.specs.Header.{version}
 use Rattle.draft.specs.Source.{draftOf}
@@ -45,52 +45,52 @@ enum-known-needed c = search needs
 
 slice-relend-prefix-write : tie.Need-slice-relend-prefix-write
 slice-relend-prefix-write c =
-    let to = c .before .before .before .before .before .before .before .before .before .before .before .before .before .before .before .before .before .before .args in
+    let to = c .before .before .before .before .before .before .before .before .before .before .before .before .before .before .before .before .before .before .before .args in
     let work-words-fit = c .before .before .before .before .work-words-fit in
     let s = draftOf version (to .nodes .now) (to .children .now) (to .named .now) (to .definitions .now) (to .items .now) (to .payload .now) (to .strings .now) in
-    lent-fits (writeWords s) _ (to .work .now) _ (rw (c .before .entry-counts .ensures) at (work-words-fit .ensures)) (c .before .before .needed .given .1)
+    lent-fits (writeWords s) _ (to .work .now) _ (rw (c .before .before .before .before .before .entry-counts .ensures) at (work-words-fit .ensures)) (c .before .before .needed .given .1)
 
 slice-aggregate-write : tie.Need-slice-aggregate-write
 slice-aggregate-write c =
-    let to = c .before .before .before .before .before .before .before .before .before .before .before .before .before .before .before .before .before .before .before .args in
+    let to = c .before .before .before .before .before .before .before .before .before .before .before .before .before .before .before .before .before .before .before .before .args in
     let work-words-fit = c .before .before .before .before .before .work-words-fit in
     let needed = c .before .before .before .needed in
     let s = draftOf version (to .nodes .now) (to .children .now) (to .named .now) (to .definitions .now) (to .items .now) (to .payload .now) (to .strings .now) in
-    lent-long (writeWords s) _ (to .work .now) _ (rw (c .before .entry-counts .ensures) at (work-words-fit .ensures)) (needed .given .1)
+    lent-long (writeWords s) _ (to .work .now) _ (rw (c .before .before .before .before .before .before .entry-counts .ensures) at (work-words-fit .ensures)) (needed .given .1)
 
 write-requires : tie.Need-write-requires
 write-requires c κs =
-    let to = c .before .before .before .before .before .before .before .before .before .before .before .before .before .before .before .before .before .before .before .args in
-    let ink-right = c .before .before .before .before .before .before .before .before .before .ink-right in
-    let if1 = c .before .before .before .before .before .before .before .before .if1 in
-    let tables-rule = c .before .before .before .before .before .before .before .tables-rule in
+    let to = c .before .before .before .before .before .before .before .before .before .before .before .before .before .before .before .before .before .before .before .before .args in
+    let ink-right = c .before .before .before .before .before .before .before .before .before .before .ink-right in
+    let if1 = c .before .before .before .before .before .before .before .before .before .if1 in
+    let tables-rule = c .before .before .before .before .before .before .before .before .tables-rule in
     let work-words-fit = c .before .before .before .before .before .work-words-fit in
     let needed = c .before .before .before .needed in
     let s = draftOf version (to .nodes .now) (to .children .now) (to .named .now) (to .definitions .now) (to .items .now) (to .payload .now) (to .strings .now) in (
       ((sym (ink-right .ensures) ∙ not-false _ (if1 .left)), (no-rule _ _ (tables-rule .ensures) (search needs))),
-      lent-needed (writeWords s) _ (to .work .now) _ (rw (c .before .entry-counts .ensures) at (work-words-fit .ensures)) (needed .given .1),
+      lent-needed (writeWords s) _ (to .work .now) _ (rw (c .before .before .before .before .before .before .entry-counts .ensures) at (work-words-fit .ensures)) (needed .given .1),
     )
 
 clear-requires : tie.Need-clear-requires
 clear-requires c κs =
-    let to = c .before .before .before .before .before .before .before .before .before .before .before .before .before .before .before .before .before .before .before .before .before .before .before .before .before .args in
+    let to = c .before .before .before .before .before .before .before .before .before .before .before .before .before .before .before .before .before .before .before .before .before .before .before .before .before .before .args in
     let work-words-fit = c .before .before .before .before .before .before .before .before .before .before .before .work-words-fit in
     let needed = c .before .before .before .before .before .before .before .before .before .needed in
     let write = c .before .before .before .before .before .write in
     let s = draftOf version (to .nodes .now) (to .children .now) (to .named .now) (to .definitions .now) (to .items .now) (to .payload .now) (to .strings .now) in
-    clear-fits (writeWords s) _ (to .work .now) _ (rw (c .before .entry-counts .ensures) at (work-words-fit .ensures)) (needed .given .1) (write .last .1 .1 .1 .1 .1 .1 .1 .1 .1 .0)
+    clear-fits (writeWords s) _ (to .work .now) _ (rw (c .before .before .before .before .before .before .before .before .before .before .before .before .entry-counts .ensures) at (work-words-fit .ensures)) (needed .given .1) (write .last .1 .1 .1 .1 .1 .1 .1 .1 .1 .0)
     (search needs)
 
 returns-3 : tie.Need-returns-3
 returns-3 c =
-    let to = c .before .before .before .before .before .before .before .before .before .before .before .before .before .before .before .before .args in
-    let ink-right = c .before .before .before .before .before .before .ink-right in
-    let if1 = c .before .before .before .before .before .if1 in
-    let tables-rule = c .before .before .before .before .tables-rule in
+    let to = c .before .before .before .before .before .before .before .before .before .before .before .before .before .before .before .before .before .args in
+    let ink-right = c .before .before .before .before .before .before .before .ink-right in
+    let if1 = c .before .before .before .before .before .before .if1 in
+    let tables-rule = c .before .before .before .before .before .tables-rule in
     let s = draftOf version (to .nodes .now) (to .children .now) (to .named .now) (to .definitions .now) (to .items .now) (to .payload .now) (to .strings .now) in
     ended _ _ _ _ _ _ _
     (encode-words (to .ink) s (to .out .now) (to .work .now) (sym (ink-right .ensures) ∙ not-false _ (if1 .left))
-    (no-rule _ _ (tables-rule .ensures) (search needs)) (few-words _ _ _ (rw (c .before .entry-counts .ensures) at (c .before .before .work-words-fit .ensures)) (c .enum-told .given .1)))
+    (no-rule _ _ (tables-rule .ensures) (search needs)) (few-words _ _ _ (rw (c .before .before .before .entry-counts .ensures) at (c .before .before .work-words-fit .ensures)) (c .enum-told .given .1)))
 
 same-length : tie.Need-same-length
 same-length c = search needs
@@ -100,24 +100,24 @@ same-length-2 c = search needs
 
 returns-4 : tie.Need-returns-4
 returns-4 c =
-    let right = sym (c .before .before .before .before .before .before .before .before .before .before .before .before .before .before .before .before .before .before .ink-right .ensures) ∙ not-false _ (c .before .before .before .before .before .before .before .before .before .before .before .before .before .before .before .before .before .if1 .left) in
-    let ruled = no-rule _ _ (c .before .before .before .before .before .before .before .before .before .before .before .before .before .before .before .before .tables-rule .ensures) (search needs) in
+    let right = sym (c .before .before .before .before .before .before .before .before .before .before .before .before .before .before .before .before .before .before .before .ink-right .ensures) ∙ not-false _ (c .before .before .before .before .before .before .before .before .before .before .before .before .before .before .before .before .before .before .if1 .left) in
+    let ruled = no-rule _ _ (c .before .before .before .before .before .before .before .before .before .before .before .before .before .before .before .before .before .tables-rule .ensures) (search needs) in
     let back =
-    let to = c .before .before .before .before .before .before .before .before .before .before .before .before .before .before .before .before .before .before .before .before .before .before .before .before .before .before .before .before .args in
+    let to = c .before .before .before .before .before .before .before .before .before .before .before .before .before .before .before .before .before .before .before .before .before .before .before .before .before .before .before .before .before .args in
     let work-words-fit = c .before .before .before .before .before .before .before .before .before .before .before .before .before .before .work-words-fit in
     let needed = c .before .before .before .before .before .before .before .before .before .before .before .before .needed in
     let write = c .before .before .before .before .before .before .before .before .write in
     let s = draftOf version (to .nodes .now) (to .children .now) (to .named .now) (to .definitions .now) (to .items .now) (to .payload .now) (to .strings .now) in
-    given-back (writeWords s) _ (to .work .now) _ (rw (c .before .entry-counts .ensures) at (work-words-fit .ensures)) (needed .given .1) (write .last .1 .1 .1 .1 .1 .1 .1 .1 .1 .0)
+    given-back (writeWords s) _ (to .work .now) _ (rw (c .before .before .before .before .before .before .before .before .before .before .before .before .before .before .before .entry-counts .ensures) at (work-words-fit .ensures)) (needed .given .1) (write .last .1 .1 .1 .1 .1 .1 .1 .1 .1 .0)
     (search needs) _ (c .before .before .clear .ensures) in
-    let to = c .before .before .before .before .before .before .before .before .before .before .before .before .before .before .before .before .before .before .before .before .before .before .before .before .before .before .before .before .args in
+    let to = c .before .before .before .before .before .before .before .before .before .before .before .before .before .before .before .before .before .before .before .before .before .before .before .before .before .before .before .before .before .args in
     let work-words-fit = c .before .before .before .before .before .before .before .before .before .before .before .before .before .before .work-words-fit in
     let needed = c .before .before .before .before .before .before .before .before .before .before .before .before .needed in
     let write = c .before .before .before .before .before .before .before .before .write in
     let s = draftOf version (to .nodes .now) (to .children .now) (to .named .now) (to .definitions .now) (to .items .now) (to .payload .now) (to .strings .now) in
     ended _ _ _ _ _ _ _
     (encode-written (to .ink) s (to .out .now) (to .work .now) right ruled
-    (lent (writeWords s) _ (to .work .now) _ (rw (c .before .entry-counts .ensures) at (work-words-fit .ensures)) (needed .given .1) .1) (write .last .1 .1 .1 .1 .1 .1 .1 .1 .0)
+    (lent (writeWords s) _ (to .work .now) _ (rw (c .before .before .before .before .before .before .before .before .before .before .before .before .before .before .before .entry-counts .ensures) at (work-words-fit .ensures)) (needed .given .1) .1) (write .last .1 .1 .1 .1 .1 .1 .1 .1 .0)
     (write .result) (write .ensures) _ back)
 
 pub encode-spec : {M : Type 1} → statement M

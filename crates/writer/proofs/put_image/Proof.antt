@@ -1,6 +1,7 @@
 -- `writer::put_image` meets its contract.
 use Rattle.draft.specs.Source.{draftOf}
 use Rattle.writer.proofs.ImageOutput.{offsets-room, put-long, put-short, fill-asks, put-done}
+use native.Mathlib.Omega.{arith}
 use borrow.Author.Needs.{needs}
 use Rattle.writer.proofs.put_image.Statement.{statement}
 use Rattle.writer.proofs.put_image.Tie as tie
@@ -22,27 +23,28 @@ cast-if1 c = search needs
 
 returns : tie.Need-returns
 returns c =
-    let to = c .before .before .before .before .before .before .before .before .before .before .before .before .before .before .args in
-    let asked = c .before .before .before .before .before .before .before .before .before .before .before .before .before .before .pre in
-    let entry-counts = c .before .entry-counts in
+    let to = c .before .before .before .before .before .before .before .before .before .before .before .before .before .before .before .args in
+    let asked = c .before .before .before .before .before .before .before .before .before .before .before .before .before .before .before .pre in
+    let entry-counts = c .before .before .before .before .before .entry-counts in
     let image-length = c .before .before .before .before .image-length in
     let s = draftOf (to .source .version) (to .nodes .now) (to .children .now) (to .named .now) (to .definitions .now) (to .items .now) (to .payload .now) (to .strings .now) in
     put-short (to .ink) s (to .work .now) (to .l) (to .uses) asked (to .out .now) _ (rw (entry-counts .ensures) at (image-length .ensures)) _
     (c .before .before .length .given .1) (c .if1 .taken)
 
-add-t29 : tie.Need-add-t29
-add-t29 c =
-    let to = c .before .before .before .before .before .before .before .before .before .before .before .before .before .before .before .args in
-    let asked = c .before .before .before .before .before .before .before .before .before .before .before .before .before .before .before .pre in
-    let entry-counts = c .before .entry-counts in
+add-t21 : tie.Need-add-t21
+add-t21 c =
+    let to = c .before .before .before .before .before .before .before .before .before .before .before .before .before .before .before .before .args in
+    let asked = c .before .before .before .before .before .before .before .before .before .before .before .before .before .before .before .before .pre in
+    let entry-counts = c .before .before .before .before .before .before .entry-counts in
     let s = draftOf (to .source .version) (to .nodes .now) (to .children .now) (to .named .now) (to .definitions .now) (to .items .now) (to .payload .now) (to .strings .now) in
-    let room = offsets-room (to .ink) s (to .work .now) (to .l) (to .uses) asked (to .out .now) in search needs
+    let room = offsets-room (to .ink) s (to .work .now) (to .l) (to .uses) asked (to .out .now) in
+    omega (arith, room, c .before .before .before .before .before .before .before .before .before .before .before .before .before .before .before .before .good .1 .1 .1 .1 .1 .1 .1 .1 .0)
 
 fill-requires : tie.Need-fill-requires
 fill-requires c κs =
-    let to = c .before .before .before .before .before .before .before .before .before .before .before .before .before .before .before .before .args in
-    let asked = c .before .before .before .before .before .before .before .before .before .before .before .before .before .before .before .before .pre in
-    let entry-counts = c .before .entry-counts in
+    let to = c .before .before .before .before .before .before .before .before .before .before .before .before .before .before .before .before .before .args in
+    let asked = c .before .before .before .before .before .before .before .before .before .before .before .before .before .before .before .before .before .pre in
+    let entry-counts = c .before .before .before .before .before .before .before .entry-counts in
     let image-length = c .before .before .before .before .before .before .image-length in
     let length = c .before .before .before .before .length in
     let s = draftOf (to .source .version) (to .nodes .now) (to .children .now) (to .named .now) (to .definitions .now) (to .items .now) (to .payload .now) (to .strings .now) in
@@ -52,9 +54,9 @@ fill-requires c κs =
 
 returns-2 : tie.Need-returns-2
 returns-2 c =
-    let to = c .before .before .before .before .before .before .before .before .before .before .before .before .args in
-    let asked = c .before .before .before .before .before .before .before .before .before .before .before .before .pre in
-    let entry-counts = c .before .entry-counts in
+    let to = c .before .before .before .before .before .before .before .before .before .before .before .before .before .args in
+    let asked = c .before .before .before .before .before .before .before .before .before .before .before .before .before .pre in
+    let entry-counts = c .before .before .before .entry-counts in
     let s = draftOf (to .source .version) (to .nodes .now) (to .children .now) (to .named .now) (to .definitions .now) (to .items .now) (to .payload .now) (to .strings .now) in
     put-long (to .ink) s (to .work .now) (to .l) (to .uses) asked (to .out .now) _ (rw (entry-counts .ensures) at (c .before .before .image-length .ensures))
     (c .enum-told .given .1)
@@ -64,9 +66,9 @@ same-length c = search needs
 
 returns-3 : tie.Need-returns-3
 returns-3 c =
-    let to = c .before .before .before .before .before .before .before .before .before .before .before .before .before .before .before .before .before .before .before .args in
-    let asked = c .before .before .before .before .before .before .before .before .before .before .before .before .before .before .before .before .before .before .before .pre in
-    let entry-counts = c .before .entry-counts in
+    let to = c .before .before .before .before .before .before .before .before .before .before .before .before .before .before .before .before .before .before .before .before .args in
+    let asked = c .before .before .before .before .before .before .before .before .before .before .before .before .before .before .before .before .before .before .before .before .pre in
+    let entry-counts = c .before .before .before .before .before .before .before .before .before .before .entry-counts in
     let image-length = c .before .before .before .before .before .before .before .before .before .image-length in
     let length = c .before .before .before .before .before .before .before .length in
     let if1 = c .before .before .before .before .before .if1 in
@@ -84,7 +86,7 @@ put-image-spec =
     enum-known-length
     cast-if1
     returns
-    add-t29
+    add-t21
     fill-requires
     returns-2
     same-length

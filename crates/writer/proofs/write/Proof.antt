@@ -11,16 +11,16 @@ entry-counts-requires c κs = search needs
 
 layout-of-requires : tie.Need-layout-of-requires
 layout-of-requires c κs =
-    let to = c .before .args in
-    let asked = c .before .pre in
+    let to = c .before .before .before .before .before .before .before .before .before .before .args in
+    let asked = c .before .before .before .before .before .before .before .before .before .before .pre in
     layout-asks (to .ink) (to .source .version) (to .nodes .now) (to .children .now) (to .named .now) (to .definitions .now) (to .items .now) (to .payload .now)
-    (to .strings .now) (asked .0 .0) (asked .0 .1) (to .out .now) (to .work .now) (asked .1) _ (c .before .entry-counts .ensures)
+    (to .strings .now) (asked .0 .0) (asked .0 .1) (to .out .now) (to .work .now) (asked .1) _ (c .entry-counts .ensures)
 
 prepare-requires : tie.Need-prepare-requires
 prepare-requires c κs =
-    let to = c .before .before .before .before .before .before .before .before .before .before .before .args in
-    let asked = c .before .before .before .before .before .before .before .before .before .before .before .pre in
-    let entry-counts = c .before .entry-counts in
+    let to = c .before .before .before .before .before .before .before .before .before .before .before .before .args in
+    let asked = c .before .before .before .before .before .before .before .before .before .before .before .before .pre in
+    let entry-counts = c .before .before .entry-counts in
     prepare-asks (to .ink) (to .source .version) (to .nodes .now) (to .children .now) (to .named .now) (to .definitions .now) (to .items .now) (to .payload .now)
     (to .strings .now) (asked .0 .0) (asked .0 .1) (to .out .now) (to .work .now) (asked .1) _ (entry-counts .ensures) _ (c .before .layout-of .ensures)
 
@@ -32,24 +32,25 @@ enum-known-uses c = search needs
 
 put-image-requires : tie.Need-put-image-requires
 put-image-requires c κs =
-    let to = c .before .before .before .before .before .before .before .before .before .before .before .before .before .before .before .before .before .before .before .args in
-    let asked = c .before .before .before .before .before .before .before .before .before .before .before .before .before .before .before .before .before .before .before .pre in
-    let entry-counts = c .before .entry-counts in
+    let kept : length (c .before .before .before .before .before .before .before .prepare .last .1 .1 .1 .1 .1 .1 .1 .0) ≡ length (c .before .before .before .before .before .before .before .before .before .before .before .before .before .before .before .before .before .before .before .before .args .work .now) = search needs in
+    let to = c .before .before .before .before .before .before .before .before .before .before .before .before .before .before .before .before .before .before .before .before .args in
+    let asked = c .before .before .before .before .before .before .before .before .before .before .before .before .before .before .before .before .before .before .before .before .pre in
+    let entry-counts = c .before .before .before .before .before .before .before .before .before .before .entry-counts in
     let layout-of = c .before .before .before .before .before .before .before .before .before .layout-of in
     let prepare = c .before .before .before .before .before .before .before .prepare in
     let uses = c .before .before .before .uses in
     image-asks (to .ink) (to .source .version) (to .nodes .now) (to .children .now) (to .named .now) (to .definitions .now) (to .items .now) (to .payload .now)
     (to .strings .now) (asked .0 .0) (asked .0 .1) (to .out .now) (to .work .now) (asked .1) _ (entry-counts .ensures) _ (layout-of .ensures)
-    (prepare .last .1 .1 .1 .1 .1 .1 .1 .0) (search needs) _ (prepare .ensures) _ (uses .given .1)
+    (prepare .last .1 .1 .1 .1 .1 .1 .1 .0) kept _ (prepare .ensures) _ (uses .given .1)
 
 same-length : tie.Need-same-length
 same-length c = search needs
 
 returns : tie.Need-returns
 returns c =
-    let to = c .before .before .before .before .before .before .before .before .before .before .before .before .before .before .before .before .before .args in
-    let asked = c .before .before .before .before .before .before .before .before .before .before .before .before .before .before .before .before .before .pre in
-    let entry-counts = c .before .entry-counts in
+    let to = c .before .before .before .before .before .before .before .before .before .before .before .before .before .before .before .before .before .before .args in
+    let asked = c .before .before .before .before .before .before .before .before .before .before .before .before .before .before .before .before .before .before .pre in
+    let entry-counts = c .before .before .before .before .before .before .before .before .entry-counts in
     let layout-of = c .before .before .before .before .before .before .before .layout-of in
     let prepare = c .before .before .before .before .before .prepare in
     write-refused (to .ink) (to .source .version) (to .nodes .now) (to .children .now) (to .named .now) (to .definitions .now) (to .items .now) (to .payload .now)
@@ -64,10 +65,10 @@ same-length-3 c = search needs
 
 returns-2 : tie.Need-returns-2
 returns-2 c =
-    let kept : length (c .before .prepare .last .1 .1 .1 .1 .1 .1 .1 .0) ≡ length (c .before .args .work .now) = search needs in
-    let to = c .before .before .before .before .before .before .before .before .before .before .before .before .before .before .before .before .before .before .before .before .before .before .args in
-    let asked = c .before .before .before .before .before .before .before .before .before .before .before .before .before .before .before .before .before .before .before .before .before .before .pre in
-    let entry-counts = c .before .entry-counts in
+    let kept : length (c .before .before .before .before .before .before .before .before .before .before .prepare .last .1 .1 .1 .1 .1 .1 .1 .0) ≡ length (c .before .before .before .before .before .before .before .before .before .before .before .before .before .before .before .before .before .before .before .before .before .before .before .args .work .now) = search needs in
+    let to = c .before .before .before .before .before .before .before .before .before .before .before .before .before .before .before .before .before .before .before .before .before .before .before .args in
+    let asked = c .before .before .before .before .before .before .before .before .before .before .before .before .before .before .before .before .before .before .before .before .before .before .before .pre in
+    let entry-counts = c .before .before .before .before .before .before .before .before .before .before .before .before .before .entry-counts in
     let layout-of = c .before .before .before .before .before .before .before .before .before .before .before .before .layout-of in
     let prepare = c .before .before .before .before .before .before .before .before .before .before .prepare in
     let uses = c .before .before .before .before .before .before .uses in
