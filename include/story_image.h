@@ -66,15 +66,16 @@ enum {
     STORY_IMAGE_BAD_ROOT = 8,        /* node 0 is not a container without parent and place */
     STORY_IMAGE_BAD_NODE = 9,        /* a node number is outside, or not a container where one is due, or a node is its
                                         own parent */
-    STORY_IMAGE_BAD_TEXT = 10,       /* a text is missing, outside the strings or not UTF-8 */
+    STORY_IMAGE_BAD_TEXT = 10,       /* a text of a node, a list value, the index or a definition is bad */
     STORY_IMAGE_BAD_RANGE = 11,      /* a range, a start or a list's length is wrong */
     STORY_IMAGE_BAD_TAG = 12,        /* unknown tag, flag, command or operator */
-    STORY_IMAGE_LEFT_OVER = 13,      /* entries are left over, or the path index has not one entry for each container */
+    STORY_IMAGE_LEFT_OVER = 13,      /* children, named entries or payload are left over, or the path index has not as
+                                        many entries as there are containers */
     STORY_IMAGE_BAD_CHILD = 14,      /* a child does not name its parent and place, or a named entry's text, order or
                                         parent is wrong */
     STORY_IMAGE_UNREACHED = 15,      /* a node is not reached from node 0 */
     STORY_IMAGE_BAD_INDEX = 16,      /* the path index is out of order, or a text does not fit its container */
-    STORY_IMAGE_BAD_DEFINITION = 17, /* definitions or items are out of order, have a bad text, or are left over */
+    STORY_IMAGE_BAD_DEFINITION = 17, /* definitions or items are out of order, an item's text is bad, or items are left over */
     /* of a query */
     STORY_IMAGE_NOT_FOUND = 18,      /* no such node, child, name, step or item */
     /* of a write */

@@ -1,36 +1,14 @@
 //! The proved library, as this program asks it: the one place that knows the binding.
 
 use crate::rules::names::{COMMANDS, OPERATORS};
-use story_image::ffi;
+use story_image::{Refusal, ffi};
 
 const NONE: u32 = u32::MAX;
 const VIEW_WORDS: usize = 17;
 
 /// What the table of numbers says of a refusal.
 pub fn words(number: u32) -> &'static str {
-    match number {
-        0 => "nothing is refused",
-        1 => "fewer than 88 bytes, or no BLINKIMG in front",
-        2 => "the format version is not 2",
-        3 => "the ink version is not 18 to 21",
-        4 => "the header's total length is not the number of bytes",
-        5 => {
-            "a section does not begin where the one before ends, runs past the end, leaves bytes over, or there is no node"
-        }
-        6 => "the checksum is wrong",
-        7 => "too few work words are lent",
-        8 => "node 0 is not a container without parent and place",
-        9 => "a node number is outside, or not a container where one is due, or a node is its own parent",
-        10 => "a text is missing, outside the strings or not UTF-8",
-        11 => "a range, a start or a list's length is wrong",
-        12 => "unknown tag, flag, command or operator",
-        13 => "entries are left over, or the path index has not one entry for each container",
-        14 => "a child does not name its parent and place, or a named entry's text, order or parent is wrong",
-        15 => "a node is not reached from node 0",
-        16 => "the path index is out of order, or a text does not fit its container",
-        17 => "definitions or items are out of order, have a bad text, or are left over",
-        _ => "unknown number",
-    }
+    if number == 0 { "nothing is refused" } else { Refusal(number).words() }
 }
 
 /// An accepted image.
