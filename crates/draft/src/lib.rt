@@ -1,4 +1,4 @@
-// A draft: how its entries are read out of word slices, its rules, and the numbering of its nodes.
+// A draft: how its entries are read out of word slices, the work words that it needs, and its rules 19 and 21.
 pub mod source; // source.rt: a draft's words and entries
 pub mod tables; // tables.rt: row 19
 pub mod shape; // shape.rt: row 21

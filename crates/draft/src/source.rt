@@ -1,4 +1,4 @@
-// A draft's words, nodes and entries. The writer reads a draft by these functions alone.
+// A draft's words, nodes and entries. The writer reads a draft's tables and payload by these functions alone; its texts are parts of the strings.
 ghost use mathlib.Core.Path.{_≡_};
 ghost use mathlib.Core.List.{[]};
 ghost use Prim.Native.Nat.{ℕ, _+_, _*_, _/_, _≤_, _<_};
