@@ -286,7 +286,8 @@ pub fn shape_rule(
     strings: &[u8],
     source: Source,
 ) -> u32
-    requires { ⌜ TablesPassed (draftOf (source .version) (now nodes) (now children) (now named) (now definitions) (now items) (now payload) (now strings)) ⌝ }
+    requires { ⌜ TablesPassed (draftOf (source .version) (now nodes) (now children) (now named) (now definitions) (now items)
+        (now payload) (now strings)) ⌝ }
     ensures { λ r. ⌜ (let s = draftOf (source .version) (now (nodes .entry)) (now (children .entry)) (now (named .entry)) (now (definitions .entry))
         (now (items .entry)) (now (payload .entry)) (now (strings .entry)) in
         r ≡ shapeRule s) ⌝ }

@@ -45,7 +45,7 @@ use Rattle.views.specs.Children.{namedEntry, namedQuery, textQuery, shownText}
 use Rattle.views.specs.Lists.{listPart, itemEntryWord, originEntryWord, listEntry, nameIn, listEntryName, listOrigin, definitionQuery, itemEntry, itemQuery}
 use Rattle.promises.specs.Answers.{Answer, given, refused, ofNode, ofNamed, ofText, ofEntry, ofDefinition, ofItem}
 use Rattle.promises.specs.Readers.{textsIn, viewTexts, viewLists}
-use Rattle.promises.specs.PartsInside.{InSlice, TextInSlice, ListInSlice, PartsInside, EntriesInside, AnyPartsInside, AnyEntriesInside}
+use Rattle.promises.specs.PartsInside.{InSlice, TextInSlice, ListInSlice, PartsInside, ListEntriesInside, AnyPartsInside, AnyListEntriesInside}
 use Rattle.promises.proofs.Answers.{given-equal, given-refused}
 use Rattle.promises.proofs.ViewParts.{All, all-none, kindAt, optional-all, FieldShows, view-texts, ListShows, view-lists}
 use Rattle.promises.proofs.Whole.{shown-part, shown-length}
@@ -303,9 +303,9 @@ module _ (payload strings : List ℕ) (j : ℕ) where
       (λ h. shown-inside (length strings) (originEntryWord payload j 0) (originEntryWord payload j 1) (both-true (first && second) last h .1))
       (sym (text-by (first && second && last) (span (originEntryWord payload j 0) (originEntryWord payload j 1))) ∙ q)
 
-  pub entries-inside : EntriesInside payload strings j
+  pub list-entries-inside : ListEntriesInside payload strings j
   unfolding listEntryName
-  entries-inside =
+  list-entries-inside =
       record {
         name = entry-answered (λ (e : ListEntry). InStrings (e .name)) name-inside;
         origin = entry-answered (λ (e : ListEntry). All InStrings (textsIn (e .origin)))
@@ -314,5 +314,5 @@ module _ (payload strings : List ℕ) (j : ℕ) where
         list-origin = origin-inside;
       }
 
-pub any-entries-inside : AnyEntriesInside
-any-entries-inside = entries-inside
+pub any-list-entries-inside : AnyListEntriesInside
+any-list-entries-inside = list-entries-inside

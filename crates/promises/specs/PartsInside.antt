@@ -51,7 +51,7 @@ pub record PartsInside (bs : List ℕ) (s : Sections) : Type 0 where
   pub definition-item : (d j : ℕ) (e : ItemView) → ofItem (itemQuery s d j) ≡ given e → TextInSlice bs s (e .name)
 
 -- the list reader on two lent slices: its texts are parts of the strings
-pub record EntriesInside (payload strings : List ℕ) (j : ℕ) : Type 0 where
+pub record ListEntriesInside (payload strings : List ℕ) (j : ℕ) : Type 0 where
   pub name : (e : ListEntry) → ofEntry (listEntry payload strings j) ≡ given e → e .name .offset + e .name .len ≤ length strings
   pub origin : (e : ListEntry) → ofEntry (listEntry payload strings j) ≡ given e → (t : Span) → List·Memᴰ t (textsIn (e .origin))
       → t .offset + t .len ≤ length strings
@@ -61,5 +61,5 @@ pub record EntriesInside (payload strings : List ℕ) (j : ℕ) : Type 0 where
 abbrev pub AnyPartsInside : Type 0
 AnyPartsInside = (bs : List ℕ) (v : ImageView) → PartsInside bs (sectionsBy bs v)
 
-abbrev pub AnyEntriesInside : Type 0
-AnyEntriesInside = (payload strings : List ℕ) (j : ℕ) → EntriesInside payload strings j
+abbrev pub AnyListEntriesInside : Type 0
+AnyListEntriesInside = (payload strings : List ℕ) (j : ℕ) → ListEntriesInside payload strings j

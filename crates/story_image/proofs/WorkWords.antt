@@ -26,8 +26,8 @@ use Rattle.draft_image.specs.Encode.{encodeRule, untouched}
 use Rattle.writer.proofs.Answers.{ink-wrong, tables-wrong, cleared}
 use Rattle.image.specs.Sections.{Sections, nodeCount, childCount, namedCount, definitionCount, itemCount}
 use Rattle.story_image.specs.Exported.{viewLength, lentWords}
-use Rattle.story_image.specs.Writing.{wordsFor}
-use Rattle.story_image.specs.Needed.{wordsToLoad, wordsToWrite, largestSize, mostWords, LoadWordsSuffice, WriteWordsSuffice}
+use Rattle.story_image.specs.Writing.{wordsWithLength}
+use Rattle.story_image.specs.Needed.{wordsToLoad, wordsToWrite, largestSize, longestSlice, LoadWordsSuffice, WriteWordsSuffice}
 
 -- ---- a load's
 
@@ -164,7 +164,7 @@ load-words-suffice bs = (load-quarter bs, λ work view l k e. never-seven bs wor
 
 -- ---- a writer's words suffice
 
-enough-to-write : (s : Sections) (work : ℕ) → work ≤ mostWords → wordsToWrite s ≤ work → writeWords s ≤ work
+enough-to-write : (s : Sections) (work : ℕ) → work ≤ longestSlice → wordsToWrite s ≤ work → writeWords s ≤ work
 unfolding wordsToWrite
 enough-to-write s work m l = by (leb (writeWords s) largestSize) refl l
   where
@@ -189,5 +189,5 @@ written-other ink s work room l e = by (inkRight ink) refl
 
 pub write-words-suffice : WriteWordsSuffice
 write-words-suffice ink s work written room m l k h =
-    let all : wordsFor written work ≡ work = ap (λ (b : Bool). cond b work 0) (le-leb 1 written k) in
+    let all : wordsWithLength written work ≡ work = ap (λ (b : Bool). cond b work 0) (le-leb 1 written k) in
     written-other ink s work room (enough-to-write s work m l) (ap (λ (w : ℕ). encodeRule ink s w room) (sym all) ∙ h)

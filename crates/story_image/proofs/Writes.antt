@@ -19,7 +19,7 @@ use Rattle.writer.specs.declared.Encoded.the-variants.{Written, Refused}
 use Rattle.writer.specs.Answer.{encodedBy, encodedOf, ofEncoded}
 use Rattle.writer.proofs.Numbers.{tables-leave}
 use Rattle.writer.proofs.Answers.{ink-wrong, tables-wrong, words-few}
-use Rattle.story_image.specs.Writing.{wordsFor, lengthAfter}
+use Rattle.story_image.specs.Writing.{wordsWithLength, lengthAfter}
 
 -- ---- what the writer answers
 
@@ -72,9 +72,9 @@ unfolding encodeWorkAfter
 work-left needed r work e = rw e refl
 
 pub no-length : (ink : ℕ) (s : Sections) (work written : List ℕ) (room needed long r : ℕ) → length written < 1 → r ≡ encodeRule ink s 0 room
-    → (r ≡ encodeRule ink s (wordsFor (length written) (length work)) room) × (work ≡ encodeWorkAfter needed r work) × (written ≡ lengthAfter r long written)
+    → (r ≡ encodeRule ink s (wordsWithLength (length written) (length work)) room) × (work ≡ encodeWorkAfter needed r work) × (written ≡ lengthAfter r long written)
 no-length ink s work written room needed long r h e =
-    let none : wordsFor (length written) (length work) ≡ 0 = ap (λ (b : Bool). cond b (length work) 0) (lt-leb 1 (length written) h) in
+    let none : wordsWithLength (length written) (length work) ≡ 0 = ap (λ (b : Bool). cond b (length work) 0) (lt-leb 1 (length written) h) in
     let left : untouched r ≡ true = ap untouched e ∙ left-by ink s room (inkRight ink) refl in
     (e ∙ ap (λ (m : ℕ). encodeRule ink s m room) (sym none), work-left needed r work left, length-left r long written (left-some r left))
 
@@ -86,10 +86,10 @@ length-set [] n long h e = absurd (not-suc-le-zero h)
 length-set (x ∷ written) n long h e = ap (λ (m : ℕ). m ∷ written) e
 
 module _ (ink : ℕ) (s : Sections) (work room : ℕ) (a : Encoded) (lent : ℕ) (h : 1 ≤ lent) (e : a ≡ encodedOf ink s work room) where
-  all : work ≡ wordsFor lent work
+  all : work ≡ wordsWithLength lent work
   all = sym (ap (λ (b : Bool). cond b work 0) (le-leb 1 lent h))
 
-  pub written-number : (n : ℕ) → a ≡ Written n → 0 ≡ encodeRule ink s (wordsFor lent work) room
+  pub written-number : (n : ℕ) → a ≡ Written n → 0 ≡ encodeRule ink s (wordsWithLength lent work) room
   unfolding encodedOf
   written-number n q = written-by (encodeRule ink s work room) n (length (imageFor ink s)) (sym q ∙ e) .0 ∙ ap (λ (m : ℕ). encodeRule ink s m room) all
 
@@ -97,7 +97,7 @@ module _ (ink : ℕ) (s : Sections) (work room : ℕ) (a : Encoded) (lent : ℕ)
   unfolding encodedOf
   written-length n q written k = length-set written n (length (imageFor ink s)) k (written-by (encodeRule ink s work room) n (length (imageFor ink s)) (sym q ∙ e) .1)
 
-  pub refused-number : (k : ℕ) → a ≡ Refused k → k ≡ encodeRule ink s (wordsFor lent work) room
+  pub refused-number : (k : ℕ) → a ≡ Refused k → k ≡ encodeRule ink s (wordsWithLength lent work) room
   unfolding encodedOf
   refused-number k q = refused-by (encodeRule ink s work room) k (length (imageFor ink s)) (sym q ∙ e) .0 ∙ ap (λ (m : ℕ). encodeRule ink s m room) all
 

@@ -11,7 +11,7 @@ use Rattle.load.specs.Load.{loadRule, loadWords}
 use Rattle.draft.specs.Draft.{writeWords}
 use Rattle.draft_image.specs.Encode.{encodeRule}
 use Rattle.story_image.specs.Exported.{viewLength, lentWords}
-use Rattle.story_image.specs.Writing.{wordsFor}
+use Rattle.story_image.specs.Writing.{wordsWithLength}
 
 -- of bytes whose header passes, as many as a load tests for; of others none, since a load refuses them before that test
 unfoldable pub wordsToLoad : List ℕ → ℕ
@@ -26,8 +26,8 @@ unfoldable pub wordsToWrite : Sections → ℕ
 wordsToWrite s = cond (leb (writeWords s) largestSize) (writeWords s) largestSize
 
 -- no slice of words has more
-abbrev pub mostWords : ℕ
-mostWords = 2305843009213693951
+abbrev pub longestSlice : ℕ
+longestSlice = 2305843009213693951
 
 -- ---- what is promised of them
 
@@ -40,5 +40,5 @@ LoadWordsSuffice =
 -- with so many work words, and a word for the length, the writer never answers 7
 abbrev pub WriteWordsSuffice : Type 0
 WriteWordsSuffice =
-    (ink : ℕ) (s : Sections) (work written room : ℕ) → work ≤ mostWords → wordsToWrite s ≤ work → 1 ≤ written
-    → encodeRule ink s (wordsFor written work) room ≡ 7 → ⊥
+    (ink : ℕ) (s : Sections) (work written room : ℕ) → work ≤ longestSlice → wordsToWrite s ≤ work → 1 ≤ written
+    → encodeRule ink s (wordsWithLength written work) room ≡ 7 → ⊥
