@@ -37,13 +37,14 @@ use Rattle.views.specs.View.{span}
 use Rattle.lookups.specs.declared.ListItem.{ListItem}
 use Rattle.lookups.specs.declared.ListItemAnswer.{ListItemAnswer}
 use Rattle.lookups.specs.declared.ListItemAnswer.the-variants as listed
+use Rattle.image.specs.Refusals.{notFound}
 
 -- ---- an answer in a lent slice: its words, where there are some and they fit
 
 -- 0, or 18, for a lent answer of so many words
 unfoldable pub numberOf : Option (List ℕ) → ℕ → ℕ
-numberOf none n = 18
-numberOf (some ws) n = cond (leb (length ws) n) 0 18
+numberOf none n = notFound
+numberOf (some ws) n = cond (leb (length ws) n) 0 notFound
 
 -- the lent answer on return: written at its start, or as it was
 unfoldable pub answerAfter : Option (List ℕ) → List ℕ → List ℕ

@@ -17,6 +17,7 @@ use Rattle.views.specs.declared.NodeView.{NodeView}
 use Rattle.views.specs.declared.NodeAnswer.{NodeAnswer}
 use Rattle.views.specs.declared.NodeAnswer.the-variants as node
 use Rattle.answers.specs.AnswerWords.{unsigned, wordOr, noSpan, spanOr, bitIf, spanThen}
+use Rattle.image.specs.Tags.{containerTag, choiceTag, commandTag, divertTag, glueTag, operatorTag, tagTag, boolTag, intTag, floatTag, stringTag, listTag, targetTag, pointerTag, assignmentTag, referenceTag, voidTag}
 
 -- the tag, text, variable, target, value, flags
 abbrev pub eightWords : ℕ → Span → Span → ℕ → ℕ → ℕ → List ℕ
@@ -42,27 +43,27 @@ abbrev pub assignmentFlags : Bool → Bool → ℕ
 assignmentFlags global new = bitIf global 1 + bitIf new 2
 
 abbrev pub valueWords : ValueView → List ℕ
-valueWords (value.Bool b) = valueWord 8 (bitIf b 1)
-valueWords (value.Int i) = valueWord 9 (unsigned i)
-valueWords (value.Float bits x) = valueWord 10 bits
-valueWords (value.String t) = textWords 11 t NONE 0 0
-valueWords (value.List t) = textWords 12 t NONE 0 0
-valueWords (value.DivertTarget t) = textWords 13 t NONE 0 0
-valueWords (value.VariablePointer t context) = textWords 14 t NONE (unsigned context) 0
+valueWords (value.Bool b) = valueWord boolTag (bitIf b 1)
+valueWords (value.Int i) = valueWord intTag (unsigned i)
+valueWords (value.Float bits x) = valueWord floatTag bits
+valueWords (value.String t) = textWords stringTag t NONE 0 0
+valueWords (value.List t) = textWords listTag t NONE 0 0
+valueWords (value.DivertTarget t) = textWords targetTag t NONE 0 0
+valueWords (value.VariablePointer t context) = textWords pointerTag t NONE (unsigned context) 0
 
 abbrev pub kindWords : NodeKindView → List ℕ
-kindWords (kind.Container flags name) = textWords 1 (spanOr name) NONE 0 (unsigned flags)
-kindWords (kind.ChoicePoint flags target) = textWords 2 noSpan (wordOr target) 0 (unsigned flags)
-kindWords (kind.ControlCommand c) = valueWord 3 (commandNumber c)
+kindWords (kind.Container flags name) = textWords containerTag (spanOr name) NONE 0 (unsigned flags)
+kindWords (kind.ChoicePoint flags target) = textWords choiceTag noSpan (wordOr target) 0 (unsigned flags)
+kindWords (kind.ControlCommand c) = valueWord commandTag (commandNumber c)
 kindWords (kind.Divert path target variable arguments conditional external pushes p) =
-    eightWords 4 (spanOr path) (spanOr variable) (wordOr target) arguments (divertFlags conditional external pushes p)
-kindWords kind.Glue = valueWord 5 0
-kindWords (kind.NativeFunction o) = valueWord 6 (operatorNumber o)
-kindWords (kind.Tag t) = textWords 7 t NONE 0 0
+    eightWords divertTag (spanOr path) (spanOr variable) (wordOr target) arguments (divertFlags conditional external pushes p)
+kindWords kind.Glue = valueWord glueTag 0
+kindWords (kind.NativeFunction o) = valueWord operatorTag (operatorNumber o)
+kindWords (kind.Tag t) = textWords tagTag t NONE 0 0
 kindWords (kind.Value v) = valueWords v
-kindWords (kind.VariableAssignment t global new) = textWords 16 t NONE 0 (assignmentFlags global new)
-kindWords (kind.VariableReference t target) = textWords 17 t (wordOr target) 0 0
-kindWords kind.Void = valueWord 18 0
+kindWords (kind.VariableAssignment t global new) = textWords assignmentTag t NONE 0 (assignmentFlags global new)
+kindWords (kind.VariableReference t target) = textWords referenceTag t (wordOr target) 0 0
+kindWords kind.Void = valueWord voidTag 0
 
 -- parent, place, then those of the kind
 abbrev pub nodeViewWords : NodeView → List ℕ

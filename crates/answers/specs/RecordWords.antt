@@ -8,6 +8,7 @@ use Rattle.words.specs.Words.{NONE}
 use Rattle.names.specs.declared.Number.{Number}
 use Rattle.names.specs.declared.Number.the-variants as number
 use Rattle.image.specs.declared.NodeRecord.{NodeRecord}
+use Rattle.image.specs.Tags.{listTag}
 use Rattle.views.specs.declared.Span.{Span}
 use Rattle.views.specs.declared.KindAnswer.{KindAnswer}
 use Rattle.views.specs.declared.KindAnswer.the-variants as kindly
@@ -50,7 +51,7 @@ placed place.NotFound = none
 
 -- of a record, beside a payload of so many bytes
 abbrev pub placeIn : ℕ → NodeRecord → Option Span
-placeIn payload r = cond (eqb (r .tag) 12) (cond (leb (r .f0 + r .f1) payload) (some (span (r .f0) (r .f1))) none) none
+placeIn payload r = cond (eqb (r .tag) listTag) (cond (leb (r .f0 + r .f1) payload) (some (span (r .f0) (r .f1))) none) none
 
 -- the fields that a kind made of a text may have, in a record whose other words are 0
 abbrev pub fieldsOf : ℕ → ℕ → ℕ → ℕ → ℕ → NodeRecord

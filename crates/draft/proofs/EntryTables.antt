@@ -11,14 +11,14 @@ use borrow.Author.Tests.{not-true, not-false, eqb-true, eq-eqb, ne-eqb}
 use Rattle.laws.specs.Refusal.{unless, _▸_, firstOf}
 use Rattle.laws.specs.Counted.{sumOf}
 use Rattle.laws.proofs.First.{both, second, pass, fail, passed, first-next}
+use Rattle.laws.proofs.Chains.{refused, first-broken, first-done}
+use Rattle.laws.proofs.Flags.{both-true}
 use Rattle.image.specs.declared.TextEntry.{TextEntry}
 use Rattle.image.specs.declared.Definition.{Definition}
 use Rattle.image.specs.Sections.{Sections, nodeWords, textEntryWords, definitionCount, childWord, goodIn, insideAmong}
 use Rattle.image.specs.Entries.{textEntryOf, definitionOf, definitionIn}
 use Rattle.image.proofs.Entries.{named-entry, item-entry, definition-entry}
 use Rattle.records.specs.Shown.{startsNext}
-use Rattle.records.proofs.Tests.{refused, first-broken, first-done}
-use Rattle.tree.proofs.Members.{both-true}
 use Rattle.index.specs.Definitions.{firstItem, numberOfItems, itemsBefore, itemsUsedUp}
 use Rattle.draft.specs.Source.{draftOf}
 use Rattle.draft.specs.Draft.{draftChildRule, draftNamedRule, draftDefinitionRule, draftItemRule}

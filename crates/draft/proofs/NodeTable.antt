@@ -10,6 +10,7 @@ use lib.Dec.{eqb}
 use borrow.Author.Tests.{eq-eqb, ne-eqb}
 use Rattle.laws.specs.Refusal.{unless, countsAs, _▸_, firstOf}
 use Rattle.laws.proofs.First.{both, second, pass, fail, as-zero, zero-as, first-next, first-all}
+use Rattle.laws.proofs.Chains.{refused, first-broken, first-done}
 use Rattle.image.specs.declared.NodeRecord.{NodeRecord}
 use Rattle.image.specs.Sections.{Sections, nodeWords, textEntryWords, nodeCount, nodeWord, parentOf, inside, insideAmong}
 use Rattle.image.specs.Entries.{nodeIn, recordOf}
@@ -19,7 +20,6 @@ use Rattle.records.specs.declared.Sums.{Sums}
 use Rattle.records.specs.Fields.{kindOf}
 use Rattle.records.specs.Records.{targetIn, fieldsRule, containersBefore, usedUp}
 use Rattle.records.specs.Shown.{Shows, countsOf, tagIn, sumsBefore}
-use Rattle.records.proofs.Tests.{refused, first-broken, first-done}
 use Rattle.records.proofs.PassedRules.{first-sums, within}
 use Rattle.draft.specs.Source.{NodesFrom, draftOf}
 use Rattle.draft.specs.Draft.{draftNodeRule}

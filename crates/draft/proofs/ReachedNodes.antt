@@ -5,9 +5,9 @@ use mathlib.Core.List.{List}
 use mathlib.Core.Bool.{true}
 use Rattle.laws.specs.Lists.{has}
 use Rattle.laws.proofs.First.{passed}
+use Rattle.laws.proofs.Members.{All, all-of}
 use Rattle.image.specs.Sections.{Sections, nodeCount}
 use Rattle.tree.specs.Tree.{readWalk, allSeen}
-use Rattle.tree.proofs.Members.{All, all-of}
 use Rattle.tree.proofs.Numbers.{EachOnce, read-once, read-inside}
 use Rattle.draft.specs.Draft.{reachRule}
 use Rattle.draft.specs.Numbering.{numbering}

@@ -10,17 +10,18 @@ use borrow.Author.Tests.{not-true, not-false, eq-eqb, ne-eqb}
 use Rattle.laws.specs.Refusal.{unless, passes, _▸_, firstOf}
 use Rattle.laws.specs.Counted.{allOf}
 use Rattle.laws.proofs.First.{pass, fail}
+use Rattle.laws.proofs.Flags.{both-true}
+use Rattle.laws.proofs.Chains.{stop, go}
 use Rattle.texts.specs.Text.{rising}
 use Rattle.image.specs.declared.NodeRecord.{NodeRecord}
 use Rattle.image.specs.declared.TextEntry.{TextEntry}
 use Rattle.image.specs.declared.Definition.{Definition}
 use Rattle.image.specs.Sections.{Sections, nodeWords, textEntryWords, definitionWords, insideAmong, nodeWord, childWord, parentOf, placeOf, tagOf, f, inside, isContainer, insideContainer, goodText, partAt}
-use Rattle.image.proofs.Tests.{both-true, inside-true}
+use Rattle.image.proofs.Tests.{inside-true}
 use Rattle.image.specs.Entries.{textEntryOf, definitionOf, entryTextFrom, definitionTextIn, nodeIn, namedIn}
 use Rattle.image.proofs.Entries.{IsNode, is-node, named-entry, item-entry, definition-entry}
 use Rattle.records.specs.Records.{numberOfChildren, numberOfNamed, parentRule}
 use Rattle.records.specs.Shown.{ShowsParent, tagIn}
-use Rattle.records.proofs.Tests.{stop, go}
 use Rattle.tree.specs.Tree.{childAt, namedAt, namedText, rightChild, childRule, namedRule, entriesRule}
 use Rattle.index.specs.Definitions.{definitionText, itemText, itemTextOf, firstItem, numberOfItems}
 use Rattle.draft.specs.Source.{draftOf, wordOf}

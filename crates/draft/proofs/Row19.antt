@@ -5,9 +5,9 @@ use mathlib.Core.List.{List, []}
 use mathlib.Core.Bool.{Bool, true, false, not}
 use Rattle.laws.specs.Refusal.{unless, _▸_, firstOf}
 use Rattle.laws.proofs.First.{second}
+use Rattle.laws.proofs.Chains.{stop, go, refused}
 use Rattle.image.specs.Sections.{Sections, nodeCount, childCount, namedCount, definitionCount, itemCount, childWord, namedWord, definitionWord, itemWord}
 use Rattle.records.specs.Records.{usedUp}
-use Rattle.records.proofs.Tests.{stop, go, refused}
 use Rattle.index.specs.Definitions.{itemsUsedUp}
 use Rattle.draft.specs.Source.{draftOf}
 use Rattle.draft.specs.Draft.{wholeEntries, draftNodeRule, draftChildRule, draftNamedRule, draftDefinitionRule, draftItemRule, tablesRule}

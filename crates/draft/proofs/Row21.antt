@@ -5,9 +5,9 @@ use mathlib.Core.List.{List, []}
 use mathlib.Core.Bool.{Bool, true, false, not}
 use Rattle.laws.specs.Refusal.{_▸_, firstOf}
 use Rattle.laws.proofs.First.{second}
+use Rattle.laws.proofs.Chains.{stop, go, refused}
 use Rattle.image.specs.Sections.{Sections, nodeCount, definitionCount, nodeWord, childWord, namedWord, definitionWord, itemWord}
 use Rattle.records.specs.Records.{numberOfChildren, numberOfNamed, parentRule, rootRight}
-use Rattle.records.proofs.Tests.{stop, go, refused}
 use Rattle.tree.specs.Tree.{childRule, namedRule, entriesRule}
 use Rattle.draft.specs.Source.{draftOf}
 use Rattle.draft.specs.Draft.{relationRule, orderRule, shapeRule}

@@ -8,13 +8,14 @@ use lib.ListN.{length}
 use lib.Dec.{eqb, leb}
 use borrow.Author.Tests.{eqb-true, eqb-false, leb-true, ne-eqb, not-true}
 use Rattle.laws.proofs.First.{both, passed, as-zero, first-all}
+use Rattle.laws.proofs.Flags.{both-true}
+use Rattle.laws.proofs.Members.{All}
 use Rattle.texts.specs.Text.{rising}
 use Rattle.image.specs.Sections.{Sections, nodeWords, textEntryWords, definitionWords, nodeCount, childCount, namedCount, definitionCount, itemCount, parentOf, f, childWord, namedWord, goodText, inside, isContainer}
 use Rattle.records.specs.Records.{numberOfChildren, numberOfNamed, fieldsRule, parentRule, rootRight, usedUp}
 use Rattle.records.proofs.PassedRules.{Node, node-of, ranges as fields-ranges}
 use Rattle.tree.specs.Tree.{childAt, namedAt, entryNodes, entriesRule}
 use Rattle.tree.specs.Parts.{EntriesOwned, Fit}
-use Rattle.tree.proofs.Members.{both-true, All}
 use Rattle.tree.proofs.Entries.{entry-each, child-container, named-container, counts}
 use Rattle.index.specs.Definitions.{goodDefinition, goodItem, firstItem, numberOfItems, itemsBefore, itemsRight, itemsUsedUp, definitionText, itemTextOf}
 use Rattle.draft.specs.Draft.{wholeEntries, draftNodeRule, draftChildRule, draftNamedRule, draftDefinitionRule, draftItemRule, tablesRule, relationRule, orderRule, shapeRule}

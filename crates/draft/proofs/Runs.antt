@@ -7,7 +7,7 @@ use native.Mathlib.Omega.{arith}
 use borrow.Author.Tests.{not-true, not-false, ne-eqb}
 use Rattle.laws.specs.Refusal.{unless, countsAs, passes, _▸_, firstOf}
 use Rattle.laws.specs.Counted.{allOf}
-use Rattle.image.proofs.Tests.{all-next, all-fails}
+use Rattle.laws.proofs.Flags.{all-next, all-fails}
 use Rattle.texts.specs.Text.{rising}
 
 -- ---- the loop

@@ -9,6 +9,7 @@ use Rattle.laws.specs.Counted.{allOf, counted}
 use Rattle.words.specs.Words.{isNone}
 use Rattle.texts.specs.Text.{same, rising, before, texts}
 use Rattle.image.specs.Sections.{Sections, nodeWords, textEntryWords, definitionWords, nodeCount, childCount, namedCount, definitionCount, itemCount, nodeWord, parentOf, placeOf, tagOf, childWord, namedWord, goodText, inside, isContainer}
+use Rattle.image.specs.Refusals.{badDraft, draftUnreached, draftShape, draftPaths}
 use Rattle.records.specs.Records.{fieldsRule, parentRule, rootRight, usedUp, records}
 use Rattle.tree.specs.Tree.{entriesRule, readWalk, allSeen, Walked, trees}
 use Rattle.index.specs.Paths.{nameless, canonicalPath, paths}
@@ -25,29 +26,29 @@ wholeEntries s =
 
 -- the record rules of a node, and that its parent is a node, the root aside
 unfoldable pub draftNodeRule : Sections → ℕ → ℕ
-draftNodeRule s i = countsAs 19 (fieldsRule s i) ▸ unless (eqb i 0 || inside s (parentOf s i)) 19
+draftNodeRule s i = countsAs badDraft (fieldsRule s i) ▸ unless (eqb i 0 || inside s (parentOf s i)) badDraft
 
 unfoldable pub draftChildRule : Sections → ℕ → ℕ
-draftChildRule s j = unless (inside s (childWord s j)) 19
+draftChildRule s j = unless (inside s (childWord s j)) badDraft
 
 unfoldable pub draftNamedRule : Sections → ℕ → ℕ
-draftNamedRule s j = unless (goodText s (namedWord s j 0) (namedWord s j 1)) 19 ▸ unless (inside s (namedWord s j 2)) 19
+draftNamedRule s j = unless (goodText s (namedWord s j 0) (namedWord s j 1)) badDraft ▸ unless (inside s (namedWord s j 2)) badDraft
 
 unfoldable pub draftDefinitionRule : Sections → ℕ → ℕ
-draftDefinitionRule s d = unless (goodDefinition s d) 19 ▸ unless (itemsRight s d) 19
+draftDefinitionRule s d = unless (goodDefinition s d) badDraft ▸ unless (itemsRight s d) badDraft
 
 unfoldable pub draftItemRule : Sections → ℕ → ℕ
-draftItemRule s j = unless (goodItem s j) 19
+draftItemRule s j = unless (goodItem s j) badDraft
 
 unfoldable pub tablesRule : Sections → ℕ
 tablesRule s =
-    unless (wholeEntries s) 19
+    unless (wholeEntries s) badDraft
     ▸ firstOf (nodeCount s) (draftNodeRule s)
-    ▸ unless (usedUp s) 19
+    ▸ unless (usedUp s) badDraft
     ▸ firstOf (childCount s) (draftChildRule s)
     ▸ firstOf (namedCount s) (draftNamedRule s)
     ▸ firstOf (definitionCount s) (draftDefinitionRule s)
-    ▸ unless (itemsUsedUp s) 19
+    ▸ unless (itemsUsedUp s) badDraft
     ▸ firstOf (itemCount s) (draftItemRule s)
 
 -- ---- 7: the work words
@@ -58,18 +59,18 @@ writeWords s = wordsFor (entryCounts s)
 -- ---- 20: every node is reached by entries from the root
 
 unfoldable pub reachRule : Sections → ℕ
-reachRule s = unless (allSeen s (readWalk s .seen)) 20
+reachRule s = unless (allSeen s (readWalk s .seen)) draftUnreached
 
 -- ---- 21: root, parents, the tree's entries, order of definitions and items
 
 unfoldable pub relationRule : Sections → ℕ → ℕ
-relationRule s i = countsAs 21 (parentRule s i) ▸ countsAs 21 (entriesRule s i)
+relationRule s i = countsAs draftShape (parentRule s i) ▸ countsAs draftShape (entriesRule s i)
 
 unfoldable pub orderRule : Sections → ℕ → ℕ
-orderRule s d = unless (rising (definitionText s) d) 21 ▸ firstOf (numberOfItems s d) (λ j. unless (rising (itemTextOf s d) j) 21)
+orderRule s d = unless (rising (definitionText s) d) draftShape ▸ firstOf (numberOfItems s d) (λ j. unless (rising (itemTextOf s d) j) draftShape)
 
 unfoldable pub shapeRule : Sections → ℕ
-shapeRule s = unless (rootRight s) 21 ▸ firstOf (nodeCount s) (relationRule s) ▸ firstOf (definitionCount s) (orderRule s)
+shapeRule s = unless (rootRight s) draftShape ▸ firstOf (nodeCount s) (relationRule s) ▸ firstOf (definitionCount s) (orderRule s)
 
 -- ---- 22: canonical paths
 
@@ -82,7 +83,7 @@ unfoldable pub newPath : Sections → ℕ → Bool
 newPath s i = not (isContainer s i) || allOf i (λ j. not (isContainer s j) || not (same (canonicalPath s j) (canonicalPath s i)))
 
 unfoldable pub pathRule : Sections → ℕ → ℕ
-pathRule s i = unless (placed s i) 22 ▸ unless (newPath s i) 22
+pathRule s i = unless (placed s i) draftPaths ▸ unless (newPath s i) draftPaths
 
 unfoldable pub pathsRule : Sections → ℕ
 pathsRule s = firstOf (nodeCount s) (pathRule s)

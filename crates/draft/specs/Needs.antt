@@ -4,6 +4,7 @@ use mathlib.Core.Bool.{cond}
 use lib.Dec.{leb}
 use lib.ListN.{length}
 use Rattle.image.specs.Sections.{Sections, nodeCount, childCount, namedCount, definitionCount, itemCount}
+use Rattle.image.specs.Refusals.{tooFewWords}
 use Rattle.draft.specs.declared.EntryCounts.{EntryCounts}
 use Rattle.draft.specs.declared.Needed.{Needed}
 use Rattle.draft.specs.declared.Needed.the-variants.{Words, TooMany}
@@ -29,4 +30,4 @@ neededOf needed work = cond (leb needed work) (Words needed) TooMany
 -- FORMAT.md's number for an answer
 abbrev pub neededNumber : Needed → ℕ
 neededNumber (Words n) = 0
-neededNumber TooMany = 7
+neededNumber TooMany = tooFewWords

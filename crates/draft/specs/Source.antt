@@ -25,10 +25,6 @@ draftOf version nodes children named definitions items payload strings =
 abbrev pub nodesOnly : ℕ → List ℕ → List ℕ → Sections
 nodesOnly version nodes payload = draftOf version nodes [] [] [] [] payload []
 
--- the words of a node that every version has: parent, place, tag, f0 to f6
-abbrev pub commonWords : ℕ
-commonWords = 10
-
 -- word k of node n, in the nodes' words: 0 past the end
 abbrev pub wordOf : ℕ → List ℕ → ℕ → ℕ → ℕ
 wordOf version nodes n k = getD nodes (n * nodeWords version + k) 0

@@ -4,10 +4,10 @@ ghost use mathlib.Core.List.{[]};
 ghost use Prim.Native.Nat.{ℕ, _+_, _*_, _/_, _≤_, _<_};
 ghost use lib.ListN.{length, getD};
 ghost use Rattle.words.specs.Words.{wordAt, wordIn};
-ghost use Rattle.image.specs.Sections.{nodeWords, textEntryWords, definitionWords};
+ghost use Rattle.image.specs.Sections.{commonWords, nodeWords, textEntryWords, definitionWords};
 ghost use Rattle.image.specs.Entries.{recordOf, textEntryOf, definitionOf};
 ghost use Rattle.records.specs.Shown.{tagIn};
-ghost use Rattle.draft.specs.Source.{draftOf, commonWords, wordOf};
+ghost use Rattle.draft.specs.Source.{draftOf, wordOf};
 use image::Definition;
 use image::ImageView;
 use image::NodeRecord;
@@ -65,7 +65,7 @@ pub fn word_of(nodes: &[u32], n: u32, k: usize, source: Source) -> u32
 
 // The node whose words begin at `at`.
 fn record_at(nodes: &[u32], at: usize) -> NodeRecord
-    requires { ⌜ at + 9 < length (now nodes) ⌝ }
+    requires { ⌜ at + commonWords ≤ length (now nodes) ⌝ }
     ensures { λ r. ⌜ ((version i : ℕ) → at ≡ i * nodeWords version → r ≡ recordOf version (now (nodes .entry)) i) ⌝ }
 {
     NodeRecord {

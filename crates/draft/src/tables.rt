@@ -5,6 +5,7 @@ ghost use Prim.Native.Nat.{ℕ};
 ghost use Rattle.laws.specs.Refusal.{unless, _▸_, firstOf};
 ghost use Rattle.image.specs.Sections.{Sections, insideAmong, nodeCount, childCount, namedCount, definitionCount, itemCount, goodIn};
 ghost use Rattle.image.specs.Entries.{nodeIn};
+ghost use Rattle.image.specs.Refusals.{badDraft};
 ghost use Rattle.records.specs.Records.{usedUp};
 ghost use Rattle.records.specs.Shown.{sumsBefore, startsNext};
 ghost use Rattle.index.specs.Definitions.{itemsUsedUp};
@@ -86,7 +87,7 @@ fn nodes_rule(
     ensures { λ r. ⌜ ((ds is : List ℕ)
         → (let s = draftOf (source .version) (now (nodes .entry)) (now (children .entry)) (now (named .entry)) ds is
         (now (payload .entry)) (now (strings .entry)) in
-        r ≡ (firstOf (nodeCount s) (draftNodeRule s) ▸ unless (usedUp s) 19))) ⌝ }
+        r ≡ (firstOf (nodeCount s) (draftNodeRule s) ▸ unless (usedUp s) badDraft))) ⌝ }
 {
     let counts = Counts {
         nodes: source::node_count(nodes, source),
@@ -133,8 +134,8 @@ fn children_rule(nodes: &[u32], children: &[u32], source: Source) -> u32
 
 // A named entry, where there are so many nodes: its text is good, and it names a node.
 fn entry_rule(entry: TextEntry, nodes: usize, strings: &[u8]) -> u32
-    ensures { λ r. ⌜ r ≡ (unless (goodIn (now (strings .entry)) (entry .offset) (entry .len)) 19
-        ▸ unless (insideAmong nodes (entry .value)) 19) ⌝ }
+    ensures { λ r. ⌜ r ≡ (unless (goodIn (now (strings .entry)) (entry .offset) (entry .len)) badDraft
+        ▸ unless (insideAmong nodes (entry .value)) badDraft) ⌝ }
 {
     if !image::good_text(strings, entry.offset, entry.len) {
         return BAD_DRAFT;
@@ -166,8 +167,8 @@ fn named_rule(nodes: &[u32], named: &[u32], strings: &[u8], source: Source) -> u
 
 // A definition, where the ones before it use so many of all the items: its text is good, and its items follow theirs.
 fn definition_rule(definition: Definition, used: usize, items: usize, strings: &[u8]) -> u32
-    ensures { λ r. ⌜ r ≡ (unless (goodIn (now (strings .entry)) (definition .offset) (definition .len)) 19
-        ▸ unless (startsNext (definition .first) (definition .count) used items) 19) ⌝ }
+    ensures { λ r. ⌜ r ≡ (unless (goodIn (now (strings .entry)) (definition .offset) (definition .len)) badDraft
+        ▸ unless (startsNext (definition .first) (definition .count) used items) badDraft) ⌝ }
 {
     if !image::good_text(strings, definition.offset, definition.len) {
         return BAD_DRAFT;
@@ -182,7 +183,7 @@ fn definition_rule(definition: Definition, used: usize, items: usize, strings: &
 // The rules of every definition, and that they use up the items.
 fn definitions_rule(definitions: &[u32], items: &[u32], strings: &[u8]) -> u32
     ensures { λ r. ⌜ (let s = draftOf 0 [] [] [] (now (definitions .entry)) (now (items .entry)) [] (now (strings .entry)) in
-        r ≡ (firstOf (definitionCount s) (draftDefinitionRule s) ▸ unless (itemsUsedUp s) 19)) ⌝ }
+        r ≡ (firstOf (definitionCount s) (draftDefinitionRule s) ▸ unless (itemsUsedUp s) badDraft)) ⌝ }
 {
     let count = definitions.len() / ImageView::DEFINITION_WORDS;
     let all = items.len() / ImageView::TEXT_ENTRY_WORDS;

@@ -8,12 +8,11 @@ use lib.ListN.{length, getD, replicate, length-append}
 use lib.Seq.{sets, length-sets}
 use Rattle.laws.specs.Counted.{sumOf}
 use Rattle.words.specs.Words.{NONE}
-use Rattle.image.specs.Sections.{Sections, nodeWords, textEntryWords, definitionWords, nodeCount, childCount, namedCount, definitionCount, itemCount, indexCount, nodeWord, childWord, namedWord, definitionWord, itemWord, indexWord}
+use Rattle.image.specs.Sections.{Sections, commonWords, nodeWords, textEntryWords, definitionWords, nodeCount, childCount, namedCount, definitionCount, itemCount, indexCount, nodeWord, childWord, namedWord, definitionWord, itemWord, indexWord}
 use Rattle.image.proofs.Widths.{words-some}
 use Rattle.records.specs.Fields.{Field}
 use Rattle.records.specs.Records.{fieldsAt, numberOfChildren, numberOfNamed}
 use Rattle.tree.specs.Tree.{childAt, namedAt, namedText}
-use Rattle.draft.specs.Source.{commonWords}
 use Rattle.draft.specs.Numbering.{oldOf, newOf}
 use Rattle.draft_image.specs.Strings.{byPath, textWords}
 use Rattle.draft_image.specs.Written.{fieldStart, fieldWords, putFields, moreWords, nodeOut, childrenOut, namedOut, definitionOut, itemOut, indexOut, writtenWith}

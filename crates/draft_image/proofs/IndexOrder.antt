@@ -6,9 +6,9 @@ use mathlib.Core.Bool.{Bool, true, false, cond}
 use native.Mathlib.Omega.{arith}
 use lib.ListN.{length, getD}
 use Rattle.laws.specs.Counted.{those}
+use Rattle.laws.proofs.Members.{All, all-append, all-map}
 use Rattle.texts.specs.Text.{before}
 use Rattle.image.specs.Sections.{Sections, nodeCount, isContainer}
-use Rattle.tree.proofs.Members.{All, all-append, all-map}
 use Rattle.draft.specs.Numbering.{oldOf}
 use Rattle.draft_image.specs.Strings.{insertBy, sortBy, byPath, pathOf}
 use Rattle.draft_image.proofs.Joins.{all-nth}

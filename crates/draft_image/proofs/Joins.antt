@@ -8,7 +8,7 @@ use native.Mathlib.Decide.{ℕ-discrete}
 use lib.ListN.{length, getD, take, drop, length-append, length-drop, List·getD-append}
 use lib.Seq.{getD-append-add, take-append-le, drop-append-le, drop-at, take-length}
 use Rattle.laws.specs.Counted.{sumOf, joinOf}
-use Rattle.tree.proofs.Members.{All, sum-ext}
+use Rattle.laws.proofs.Members.{All, sum-ext}
 
 -- ---- every element
 

@@ -8,12 +8,12 @@ use lib.Dec.{eqb}
 use Rattle.laws.specs.Counted.{joinOf, sumOf, counted}
 use Rattle.laws.specs.Lists.{flatMap, placeIn, lists}
 use Rattle.words.specs.Words.{NONE, bytesOf, words}
-use Rattle.image.specs.Sections.{Sections, nodeWords, nodeCount, definitionCount, itemCount, nodeWord, parentOf, placeOf, tagOf, f, definitionWord, itemWord, textAt}
+use Rattle.image.specs.Sections.{Sections, commonWords, nodeWords, nodeCount, definitionCount, itemCount, nodeWord, parentOf, placeOf, tagOf, f, definitionWord, itemWord, textAt}
+use Rattle.image.specs.Tags.{listTag}
 use Rattle.records.specs.Fields.{Field, text, optional, command, operator, node, optionalNode, container, optionalContainer, plain, atMost, children, named, payload, wrong}
 use Rattle.records.specs.Records.{fieldsAt, numberOfChildren, numberOfNamed, payloadLengthOf, listItems, listOrigins, listWord, listItemWord, listOriginWord}
 use Rattle.tree.specs.Tree.{childAt, namedAt, namedText}
 use Rattle.index.specs.Definitions.{definitionText, itemText}
-use Rattle.draft.specs.Source.{commonWords}
 use Rattle.draft.specs.Numbering.{numbering, oldOf, newOf, numberings}
 use Rattle.draft_image.specs.Strings.{byPath, pathOf, storedTexts, offsetOf, textWords, optionalWords, strings}
 
@@ -86,7 +86,7 @@ module _ (s : Sections) (order : List ℕ) (kept : List (List ℕ)) where
   listOut at = (listItems s at ∷ listOrigins s at ∷ []) ++ joinOf (listItems s at) (listItemOut at) ++ joinOf (listOrigins s at) (listOriginOut at)
 
   unfoldable pub payloadOut : ℕ → List ℕ
-  payloadOut i = cond (eqb (tagOf s i) 12) (bytesOf (listOut (f s i 0))) []
+  payloadOut i = cond (eqb (tagOf s i) listTag) (bytesOf (listOut (f s i 0))) []
 
   unfoldable pub definitionOut : ℕ → List ℕ
   definitionOut d = textWords kept (definitionText s d) ++ (definitionWord s d 2 ∷ definitionWord s d 3 ∷ [])

@@ -12,11 +12,11 @@ use Rattle.laws.specs.Lists.{Below}
 use Rattle.laws.proofs.First.{both, passed, pass}
 use Rattle.words.proofs.Words.{word-below}
 use Rattle.laws.specs.Counted.{allOf}
+use Rattle.laws.proofs.Flags.{both-true, all-at, all-of}
 use Rattle.words.specs.Words.{wordAt}
 use Rattle.texts.specs.Text.{same}
 use Rattle.image.specs.Header.{magic, headerLength, versionRight, sectionAt, viewOf, sizes, startBy, sectionRight, laidOut, inkRight, headed, headerRule}
 use Rattle.image.proofs.Views.{Within, Inside, SectionCounts, counts}
-use Rattle.image.proofs.Tests.{both-true, all-at, all-of}
 use Rattle.image.proofs.Rows.{start-next, headed-by, row-layout}
 
 pub record Opens (bs : List ℕ) : Type 0 where

@@ -11,6 +11,7 @@ use lib.Dec.{leb, eqb}
 use lib.ListN.{length, getD, take}
 use Rattle.laws.specs.Refusal.{unless, _▸_}
 use Rattle.laws.specs.Counted.{sumOf, allOf}
+use Rattle.laws.proofs.Flags.{both-true, and-false, all-next, all-fails}
 use Rattle.words.specs.Words.{NONE, wordAt}
 use Rattle.texts.specs.Text.{same}
 use Rattle.image.specs.declared.Section.{Section}
@@ -18,7 +19,6 @@ use Rattle.image.specs.declared.ImageView.{ImageView}
 use Rattle.image.specs.declared.Opened.the-variants.{View, Refused}
 use Rattle.image.specs.Header.{magic, headerLength, versionRight, sectionAt, viewOf, sizes, startBy, sectionRight, laidOut, inkRight, headed, headerRule, openedBy, openedOf}
 use Rattle.image.specs.Sections.{nodeWords}
-use Rattle.image.proofs.Tests.{both-true, and-false, all-next, all-fails}
 use Rattle.image.proofs.Widths.{width}
 
 -- ---- where sections begin

@@ -7,24 +7,24 @@ use native.Mathlib.Nat.{mul-comm, mul-assoc, mul-le-mul-left}
 use lib.ListN.{length}
 use Rattle.words.specs.Words.{wordsOf, NONE}
 use Rattle.words.proofs.Words.{length-words}
-use Rattle.image.specs.Sections.{nodeWords}
+use Rattle.image.specs.Sections.{commonWords, nodeWords, nodeSize}
 use Rattle.image.proofs.Parts.{entry-inside}
 
 pub record Width (w : ℕ) : Type 0 where
-  pub least : 10 ≤ w
-  pub most : w ≤ 11
+  pub least : commonWords ≤ w
+  pub most : w ≤ commonWords + 1
 
 pub width : (version : ℕ) → Width (nodeWords version)
 unfolding nodeWords
 width version = record { least = omega arith; most = omega arith }
 
-pub words-some : (version : ℕ) → 10 ≤ nodeWords version
+pub words-some : (version : ℕ) → commonWords ≤ nodeWords version
 words-some version = width version .least
 
--- what `image` alone reads: its constants
-pub is-ten : (version : ℕ) → nodeWords version ≡ 10
+-- a node has the common words and no others: for the code that reads, writes or counts those alone
+pub only-common : (version : ℕ) → nodeWords version ≡ commonWords
 unfolding nodeWords
-is-ten version = refl
+only-common version = refl
 
 -- ---- numbers of nodes and of words
 
@@ -32,8 +32,12 @@ is-ten version = refl
 pub size-words : (n version : ℕ) → n * (4 * nodeWords version) ≡ 4 * (n * nodeWords version)
 size-words n version = sym (mul-assoc n 4 (nodeWords version)) ∙ ap (λ (x : ℕ). x * nodeWords version) (mul-comm n 4) ∙ mul-assoc 4 n (nodeWords version)
 
+-- n nodes have at least the bytes of their common words
+pub least-size : (n version : ℕ) → n * (4 * commonWords) ≤ n * nodeSize version
+least-size n version = mul-le-mul-left n (omega (arith, words-some version))
+
 -- the words before a node whose number is a word
-pub number-words : (i version : ℕ) → i ≤ NONE → i * nodeWords version ≤ NONE * 11
+pub number-words : (i version : ℕ) → i ≤ NONE → i * nodeWords version ≤ NONE * (commonWords + 1)
 unfolding nodeWords
 number-words i version h = omega arith
 
@@ -60,8 +64,8 @@ count-of ws n version e = ap (λ (x : ℕ). x / nodeWords version) e ∙ whole-c
 -- the words of a node below the count lie among the words
 pub record NodeWithin (ws : List ℕ) (version i : ℕ) : Type 0 where
   pub words : i * nodeWords version + nodeWords version ≤ length ws
-  pub least : 10 ≤ nodeWords version
-  pub most : nodeWords version ≤ 11
+  pub least : commonWords ≤ nodeWords version
+  pub most : nodeWords version ≤ commonWords + 1
 
 pub node-within : (ws : List ℕ) (version i : ℕ) → i < length ws / nodeWords version → NodeWithin ws version i
 unfolding nodeWords
@@ -70,8 +74,8 @@ node-within ws version i h = record { words = omega arith; least = omega arith; 
 -- its bytes lie in the nodes' bytes
 pub record NodeInside (part : List ℕ) (version i : ℕ) : Type 0 where
   pub bytes : 4 * (i * nodeWords version) + 4 * nodeWords version ≤ length part
-  pub least : 10 ≤ nodeWords version
-  pub most : nodeWords version ≤ 11
+  pub least : commonWords ≤ nodeWords version
+  pub most : nodeWords version ≤ commonWords + 1
 
 pub node-inside : (part : List ℕ) (version i : ℕ) → i < length (wordsOf part) / nodeWords version → NodeInside part version i
 node-inside part version i h =
@@ -79,7 +83,7 @@ node-inside part version i h =
     record { bytes = omega (arith, n .words, length-words part); least = n .least; most = n .most }
 
 -- how many nodes there are, by the bytes
-pub count-bytes : (part : List ℕ) (version : ℕ) → length part / 40 ≡ length (wordsOf part) / nodeWords version
+pub count-bytes : (part : List ℕ) (version : ℕ) → length part / (4 * commonWords) ≡ length (wordsOf part) / nodeWords version
 unfolding nodeWords
 count-bytes part version = rw (length-words part) (omega arith)
 

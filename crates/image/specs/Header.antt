@@ -8,6 +8,7 @@ use Rattle.laws.specs.Refusal.{unless, _▸_, refusals}
 use Rattle.laws.specs.Counted.{sumOf, allOf, counted}
 use Rattle.words.specs.Words.{wordAt, wordsOf, words}
 use Rattle.texts.specs.Text.{ascii, same, texts}
+use Rattle.image.specs.Refusals.{badHeader, badVersion, badInkVersion, badLength, badSections}
 use Rattle.image.specs.declared.Section.{Section}
 use Rattle.image.specs.declared.ImageView.{ImageView}
 use Rattle.image.specs.declared.Opened.{Opened}
@@ -100,11 +101,11 @@ headed bs = leb headerLength (length bs) && same (take 8 bs) magic
 
 unfoldable pub headerRule : List ℕ → ℕ
 headerRule bs =
-    unless (headed bs) 1
-    ▸ unless (versionRight (wordAt bs 8)) 2
-    ▸ unless (inkRight (wordAt bs 12)) 3
-    ▸ unless (eqb (wordAt bs 16) (length bs)) 4
-    ▸ unless (laidOut bs) 5
+    unless (headed bs) badHeader
+    ▸ unless (versionRight (wordAt bs 8)) badVersion
+    ▸ unless (inkRight (wordAt bs 12)) badInkVersion
+    ▸ unless (eqb (wordAt bs 16) (length bs)) badLength
+    ▸ unless (laidOut bs) badSections
 
 -- ---- opening an image
 

@@ -6,12 +6,17 @@ use lib.ListN.{length, getD, take, drop}
 use lib.Dec.{leb, ltb, eqb}
 use Rattle.words.specs.Words.{isNone}
 use Rattle.utf8.specs.Utf8.{utf8, utf8s}
+use Rattle.image.specs.Tags.{containerTag}
 
 -- ---- the width of an entry
 
--- words a node, by format version: parent, place, tag, f0 to f6
+-- the words of a node that every version has: parent, place, tag, f0 to f6
+abbrev pub commonWords : ℕ
+commonWords = 10
+
+-- words a node, by format version: version 2 has no others
 unfoldable pub nodeWords : ℕ → ℕ
-nodeWords version = 10
+nodeWords version = commonWords
 
 -- words a named entry, an item, an index entry
 abbrev pub textEntryWords : ℕ
@@ -160,9 +165,6 @@ insideAmong count n = ltb n count && not (isNone n)
 
 abbrev pub inside : Sections → ℕ → Bool
 inside s n = insideAmong (nodeCount s) n
-
-abbrev pub containerTag : ℕ
-containerTag = 1
 
 abbrev pub isContainer : Sections → ℕ → Bool
 isContainer s n = eqb (tagOf s n) containerTag

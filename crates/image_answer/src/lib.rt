@@ -26,6 +26,7 @@ fn work_words() -> [u32; 16354]
     [0; 16354]
 }
 
+// The answer of a load that is lent these work words.
 fn answer_with(bytes: &[u8], work: &mut [u32]) -> Answer
     requires { ⌜ mostWords ≤ length (now work) ⌝ }
     ensures { λ r. ⌜ r ≡ answerOf (now (bytes .entry)) ⌝ }

@@ -1,5 +1,4 @@
 pub mod Suffix
-pub mod RuleRuns
 pub mod Paths
 pub mod Index
 pub mod Definitions

@@ -7,6 +7,7 @@ use Rattle.laws.specs.Refusal.{unless, _▸_, firstOf, refusals}
 use Rattle.laws.specs.Counted.{sumOf, counted}
 use Rattle.texts.specs.Text.{rising, before, texts}
 use Rattle.image.specs.Sections.{Sections, definitionCount, itemCount, definitionWord, itemWord, textAt, goodText, sections}
+use Rattle.image.specs.Refusals.{badText, badRange, badDefinition}
 
 abbrev pub definitionText : Sections → ℕ → List ℕ
 definitionText s d = textAt s (definitionWord s d 0) (definitionWord s d 1)
@@ -40,7 +41,7 @@ itemsRight s d = leb (firstItem s d + numberOfItems s d) (itemCount s) && eqb (f
 
 -- the rule of the j-th item from the first one of a definition on
 unfoldable pub itemRuleFrom : Sections → ℕ → ℕ → ℕ
-itemRuleFrom s first j = unless (goodItem s (first + j)) 17 ▸ unless (rising (λ k. itemText s (first + k)) j) 17
+itemRuleFrom s first j = unless (goodItem s (first + j)) badDefinition ▸ unless (rising (λ k. itemText s (first + k)) j) badDefinition
 
 -- the rule of the j-th item of definition d
 abbrev pub itemRule : Sections → ℕ → ℕ → ℕ
@@ -48,16 +49,16 @@ itemRule s d j = itemRuleFrom s (firstItem s d) j
 
 unfoldable pub definitionRule : Sections → ℕ → ℕ
 definitionRule s d =
-    unless (goodDefinition s d) 10
-    ▸ unless (rising (definitionText s) d) 17
-    ▸ unless (itemsRight s d) 11
+    unless (goodDefinition s d) badText
+    ▸ unless (rising (definitionText s) d) badDefinition
+    ▸ unless (itemsRight s d) badRange
     ▸ firstOf (numberOfItems s d) (itemRule s d)
 
 unfoldable pub itemsUsedUp : Sections → Bool
 itemsUsedUp s = eqb (itemsBefore s (definitionCount s)) (itemCount s)
 
 unfoldable pub definitionsRule : Sections → ℕ
-definitionsRule s = firstOf (definitionCount s) (definitionRule s) ▸ unless (itemsUsedUp s) 17
+definitionsRule s = firstOf (definitionCount s) (definitionRule s) ▸ unless (itemsUsedUp s) badDefinition
 
 -- names on an `unfolding` line what a computation with this module needs
 unfoldable pub definitions : Unit {0}

@@ -4,6 +4,7 @@ use mathlib.Core.List.{List}
 use Rattle.laws.specs.Refusal.{unless, _▸_, firstOf, refusals}
 use Rattle.texts.specs.Text.{rising, before}
 use Rattle.image.specs.Sections.{Sections, nodeWord, tagOf, indexWord, indexCount, nodeCount, textAt, goodText, inside, isContainer, insideContainer, sections}
+use Rattle.image.specs.Refusals.{badNode, badText, badIndex}
 use Rattle.index.specs.Paths.{fits, paths}
 
 abbrev pub indexText : Sections → ℕ → List ℕ
@@ -11,10 +12,10 @@ indexText s j = textAt s (indexWord s j 0) (indexWord s j 1)
 
 unfoldable pub indexEntryRule : Sections → ℕ → ℕ
 indexEntryRule s j =
-    unless (goodText s (indexWord s j 0) (indexWord s j 1)) 10
-    ▸ unless (insideContainer s (indexWord s j 2)) 9
-    ▸ unless (rising (indexText s) j) 16
-    ▸ unless (fits s (indexWord s j 2) (indexText s j)) 16
+    unless (goodText s (indexWord s j 0) (indexWord s j 1)) badText
+    ▸ unless (insideContainer s (indexWord s j 2)) badNode
+    ▸ unless (rising (indexText s) j) badIndex
+    ▸ unless (fits s (indexWord s j 2) (indexText s j)) badIndex
 
 unfoldable pub indexRule : Sections → ℕ
 indexRule s = firstOf (indexCount s) (indexEntryRule s)

@@ -12,7 +12,6 @@ use borrow.Author.Tests.{eqb-true, eqb-false, eq-eqb}
 use Rattle.laws.specs.Counted.{sumOf, allOf, joinOf}
 use Rattle.laws.specs.Lists.{has}
 use Rattle.laws.proofs.Flags as Flags
-pub use Rattle.laws.proofs.Flags.{both-true}
 
 -- ---- tests
 

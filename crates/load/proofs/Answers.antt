@@ -9,6 +9,7 @@ use lib.Dec.{eqb, leb}
 use borrow.Author.Tests.{eq-eqb, ne-eqb, le-leb, lt-leb}
 use Rattle.laws.specs.Refusal.{unless, _▸_}
 use Rattle.laws.proofs.First.{second, pass, fail}
+use Rattle.laws.proofs.Chains.{refused}
 use Rattle.words.specs.Words.{wordAt}
 use Rattle.checksum.specs.Crc.{checksumOf}
 use Rattle.image.specs.declared.ImageView.{ImageView}
@@ -17,7 +18,6 @@ use Rattle.image.specs.declared.Opened.the-variants as Opened
 use Rattle.image.specs.Header.{headerRule, openedBy, openedOf, viewOf, sectionsBy, sectionsOf}
 use Rattle.image.proofs.OpenedHeader.{Opens, opens, view-counts}
 use Rattle.image.proofs.Views.{SectionCounts}
-use Rattle.records.proofs.Tests.{refused}
 use Rattle.load.specs.declared.Loaded.{Loaded}
 use Rattle.load.specs.declared.Loaded.the-variants.{View, Refused}
 use Rattle.load.specs.Load.{checksumRule, sectionsRule, loadRule, loadWords, loadedBy, loadedOf, workAfter, early}

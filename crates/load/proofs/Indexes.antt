@@ -4,12 +4,12 @@ use mathlib.Core.Path.{_≡_, sym, ap, _∙_}
 use mathlib.Core.List.{List}
 use Rattle.laws.specs.Refusal.{_▸_}
 use Rattle.laws.proofs.First.{second}
+use Rattle.laws.proofs.Chains.{refused}
 use Rattle.words.specs.Words.{wordsOf}
 use Rattle.image.specs.declared.ImageView.{ImageView}
 use Rattle.image.specs.Sections.{nodeSize, textEntrySize, definitionSize}
 use Rattle.image.specs.Header.{sectionBytes, sectionsBy}
 use Rattle.image.proofs.Views.{version-by, nodes-by, index-by, definitions-by, items-by, strings-by}
-use Rattle.records.proofs.Tests.{refused}
 use Rattle.index.specs.Index.{indexRule}
 use Rattle.index.specs.Definitions.{definitionsRule}
 use Rattle.index.specs.Parts.{indexParts, definitionParts}

@@ -9,7 +9,7 @@ use lib.Dec.{eqb, leb}
 use borrow.Author.Tests.{lt-leb}
 use Rattle.laws.specs.Refusal.{unless, _▸_, firstOf}
 use Rattle.laws.specs.Lists.{has}
-use Rattle.image.proofs.Tests.{and-false}
+use Rattle.laws.proofs.Flags.{and-false}
 use Rattle.image.specs.Sections.{Sections, nodeCount, indexCount, definitionCount}
 use Rattle.records.specs.Fields.{Field, text, optional, command, operator, node, optionalNode, container, optionalContainer, plain, atMost, children, named, payload, wrong}
 use Rattle.records.specs.Records.{fieldRule, firstField, fieldsAt, parentRule, nodeRule, payloadRule, listItemRule, listOriginRule}

@@ -12,6 +12,8 @@ use lib.Dec.{eqb}
 use borrow.Author.Tests.{eq-eqb, ne-eqb, eqb-true, not-true, not-false}
 use Rattle.laws.specs.Refusal.{unless, _▸_, firstOf}
 use Rattle.laws.proofs.First.{both, then, second, pass, passed, fail}
+use Rattle.laws.proofs.Flags.{both-true}
+use Rattle.laws.proofs.Chains.{refused}
 use Rattle.words.specs.Words.{wordsOf}
 use Rattle.image.specs.declared.ImageView.{ImageView}
 use Rattle.image.specs.declared.Section.{Section}
@@ -19,12 +21,10 @@ use Rattle.image.specs.Sections.{Sections, nodeWords, nodeSize, childSize, text
 use Rattle.image.specs.Header.{sectionBytes, sectionsBy}
 use Rattle.image.proofs.Parts.{section-length, section-outside, entry-count}
 use Rattle.image.proofs.Widths.{words-some}
-use Rattle.image.proofs.Tests.{both-true}
 use Rattle.image.proofs.Views.{Within, version-by, nodes-by, children-by, named-by, strings-by}
 use Rattle.records.specs.declared.Sums.{Sums}
 use Rattle.records.specs.Records.{nodeRule, rootRight, usedUp, containersBefore}
 use Rattle.records.specs.Shown.{sumsBefore}
-use Rattle.records.proofs.Tests.{refused}
 use Rattle.tree.specs.Tree.{treeRule}
 use Rattle.index.specs.Index.{indexRule}
 use Rattle.index.specs.Definitions.{definitionsRule}

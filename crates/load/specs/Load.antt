@@ -11,6 +11,7 @@ use Rattle.checksum.specs.Crc.{checksumOf, crcs}
 use Rattle.image.specs.Sections.{Sections, nodeCount, indexCount}
 use Rattle.image.specs.declared.ImageView.{ImageView}
 use Rattle.image.specs.Header.{headerRule, viewOf, sectionsOf, headers}
+use Rattle.image.specs.Refusals.{badHeader, badChecksum, tooFewWords, badRoot, leftOver}
 use Rattle.records.specs.Records.{nodeRule, rootRight, usedUp, containersBefore, records}
 use Rattle.tree.specs.Work.{treeWords}
 use Rattle.tree.specs.Tree.{treeRule, trees}
@@ -21,15 +22,15 @@ use Rattle.load.specs.declared.Loaded.the-variants.{View, Refused}
 
 -- row 6
 unfoldable pub checksumRule : List ℕ → ℕ
-checksumRule bs = unless (eqb (wordAt bs 84) (checksumOf bs)) 6
+checksumRule bs = unless (eqb (wordAt bs 84) (checksumOf bs)) badChecksum
 
 -- row 13
 unfoldable pub leftoverRule : Sections → ℕ
-leftoverRule s = unless (usedUp s && eqb (containersBefore s (nodeCount s)) (indexCount s)) 13
+leftoverRule s = unless (usedUp s && eqb (containersBefore s (nodeCount s)) (indexCount s)) leftOver
 
 -- rows 8 to 13
 unfoldable pub recordsRule : Sections → ℕ
-recordsRule s = unless (rootRight s) 8 ▸ firstOf (nodeCount s) (nodeRule s) ▸ leftoverRule s
+recordsRule s = unless (rootRight s) badRoot ▸ firstOf (nodeCount s) (nodeRule s) ▸ leftoverRule s
 
 -- rows 8 to 17
 unfoldable pub sectionsRule : Sections → ℕ
@@ -41,7 +42,7 @@ loadWords s = treeWords s
 
 -- a load of bytes with a count of work words
 unfoldable pub loadRule : List ℕ → ℕ → ℕ
-loadRule bs work = headerRule bs ▸ checksumRule bs ▸ unless (leb (loadWords (sectionsOf bs)) work) 7 ▸ sectionsRule (sectionsOf bs)
+loadRule bs work = headerRule bs ▸ checksumRule bs ▸ unless (leb (loadWords (sectionsOf bs)) work) tooFewWords ▸ sectionsRule (sectionsOf bs)
 
 -- the answer: the view that the header gives, or the number
 abbrev pub loadedBy : ℕ → ImageView → Loaded
@@ -57,7 +58,7 @@ Accepted bs = (headerRule bs ▸ checksumRule bs ▸ sectionsRule (sectionsOf bs
 
 -- refusals 1 to 7 leave the work words untouched
 abbrev pub early : ℕ → Bool
-early r = leb 1 r && leb r 7
+early r = leb badHeader r && leb r tooFewWords
 
 -- the work words on return: otherwise as many as are needed are zero, and those past them stay
 unfoldable pub workAfter : ℕ → ℕ → List ℕ → List ℕ

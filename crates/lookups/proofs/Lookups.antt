@@ -27,6 +27,7 @@ use Rattle.image.specs.Entries.{textEntryOf, definitionOf, definitionIn}
 use Rattle.image.specs.Header.{sectionBytes, sectionsBy}
 use Rattle.image.proofs.Entries.{definition-entry}
 use Rattle.image.proofs.Views.{named-by, strings-by}
+use Rattle.image.proofs.Parts.{text-entry-count, definition-count}
 use Rattle.index.specs.Definitions.{firstItem, numberOfItems}
 use Rattle.views.specs.declared.Found.{Found}
 use Rattle.views.specs.declared.Found.the-variants as found
@@ -40,7 +41,7 @@ use Rattle.views.specs.View.{signed}
 use Rattle.views.specs.Found.{containerFound}
 use Rattle.lookups.specs.Lookup.{placed, entryText, searched, namedBy, findNamed, itemIn, definitionName, placeIn, answers, listItemAt, listItemIn, lastItem, listItem}
 use Rattle.index.specs.Parts.{definitionParts}
-use Rattle.views.proofs.Reading.{text-entry-count, definition-count, no-container, a-container}
+use Rattle.views.proofs.Reading.{no-container, a-container}
 use Rattle.lookups.proofs.HalvingSearch.{Searching, search-start, search-above, search-below, search-here, search-end, found-there}
 
 -- ---- the place of a name among entries

@@ -9,11 +9,11 @@ use native.Mathlib.Nat.{add-zero, not-suc-le-zero}
 use native.Mathlib.Decide.{ℕ-discrete}
 use borrow.Author.Tests.{le-leb}
 use Rattle.laws.specs.Counted.{lastOf}
+use Rattle.laws.proofs.Flags.{both-true}
 use Rattle.texts.specs.Text.{same, rising}
 use Rattle.texts.proofs.Text.{same-equal, equal-same}
 use Rattle.image.specs.Sections.{Sections, textEntryWords, nodeCount, namedCount, definitionCount, itemCount, f, namedWord, definitionWord, itemWord, textOrEmpty, isContainer, inside, insideContainer}
 use Rattle.image.proofs.Parts.{good-part}
-use Rattle.image.proofs.Tests.{both-true}
 use Rattle.records.specs.Records.{numberOfNamed}
 use Rattle.tree.specs.Tree.{namedAt, namedText, entriesRule, treeRule}
 use Rattle.tree.specs.Parts.{Fit}

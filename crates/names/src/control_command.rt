@@ -171,6 +171,7 @@ const BY_HASH: [u8; 58] = [
     20,
 ];
 
+// The number of a command: its place in FORMAT.md's table.
 pub fn number_of(command: CommandType) -> u8
     ensures { λ r. ⌜ r ≡ commandNumber command ⌝ }
 {
@@ -204,6 +205,7 @@ pub fn number_of(command: CommandType) -> u8
     }
 }
 
+// The command of a number.
 pub fn command_of(number: u8) -> Command
     ensures { λ r. ⌜ knownCommand r ≡ elementAt commandTypes number ⌝ }
 {
@@ -230,6 +232,7 @@ fn name_at(number: u8) -> Name
     )
 }
 
+// How a command is spelled.
 pub fn get_name(command: CommandType) -> Name
     ensures { λ r. ⌜ r ≡ nameOf (getD commands (commandNumber command) []) ⌝ }
 {
@@ -244,6 +247,7 @@ fn only(text: &[u8]) -> u8
     BY_HASH[at]
 }
 
+// The number of the command that a text names.
 pub fn command_number(text: &[u8]) -> Number
     ensures { λ r. ⌜ numbered r ≡ numberIn commands (now (text .entry)) ⌝ }
 {
@@ -255,6 +259,7 @@ pub fn command_number(text: &[u8]) -> Number
     }
 }
 
+// The command that a text names.
 pub fn new_from_name(text: &[u8]) -> Command
     ensures { λ r. ⌜ knownCommand r ≡ commandNamed (now (text .entry)) ⌝ }
 {

@@ -20,12 +20,14 @@ pub enum Number {
     Unknown,
 }
 
+// A byte as an index.
 fn wide(b: u8) -> usize
     ensures { λ r. ⌜ (r ≡ b) × (r < 256) ⌝ }
 {
     b as usize
 }
 
+// The name that has these bytes.
 fn name_of(text: &[u8]) -> Name
     requires { ⌜ length (now text) ≤ 11 ⌝ }
     ensures { λ r. ⌜ r ≡ nameOf (now (text .entry)) ⌝ }

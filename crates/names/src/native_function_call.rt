@@ -182,6 +182,7 @@ const BY_HASH: [u8; 54] = [
     1,
 ];
 
+// The number of an operator: its place in FORMAT.md's table.
 pub fn number_of(op: Op) -> u8
     ensures { λ r. ⌜ r ≡ operatorNumber op ⌝ }
 {
@@ -220,6 +221,7 @@ pub fn number_of(op: Op) -> u8
     }
 }
 
+// The operator of a number.
 pub fn operator_of(number: u8) -> Operator
     ensures { λ r. ⌜ knownOperator r ≡ elementAt ops number ⌝ }
 {
@@ -246,6 +248,7 @@ fn name_at(number: u8) -> Name
     )
 }
 
+// How an operator is spelled.
 pub fn get_name(op: Op) -> Name
     ensures { λ r. ⌜ r ≡ nameOf (getD operators (operatorNumber op) []) ⌝ }
 {
@@ -260,6 +263,7 @@ fn only(text: &[u8]) -> u8
     BY_HASH[at]
 }
 
+// The number of the operator that a text names.
 pub fn operator_number(text: &[u8]) -> Number
     ensures { λ r. ⌜ numbered r ≡ numberIn operators (now (text .entry)) ⌝ }
 {
@@ -271,6 +275,7 @@ pub fn operator_number(text: &[u8]) -> Number
     }
 }
 
+// The operator that a text names.
 pub fn new_from_name(text: &[u8]) -> Operator
     ensures { λ r. ⌜ knownOperator r ≡ operatorNamed (now (text .entry)) ⌝ }
 {

@@ -8,11 +8,11 @@ use lib.Dec.{eqb, leb}
 use borrow.Author.Tests.{eq-eqb, le-leb, eqb-true, leb-true}
 use Rattle.laws.specs.Refusal.{unless, firstOf}
 use Rattle.laws.proofs.First.{both, then, passed, pass, first-all, first-of}
+use Rattle.laws.proofs.Flags.{both-true}
 use Rattle.words.specs.Words.{wordAt}
 use Rattle.texts.proofs.Text.{same-equal, equal-same}
 use Rattle.image.specs.Sections.{Sections, nodeCount, indexCount, tagOf, inside}
 use Rattle.image.specs.Header.{headerRule, sectionsOf}
-use Rattle.image.proofs.Tests.{both-true}
 use Rattle.image.proofs.OpenedHeader.{Opens, opens, opens-of, view-counts, view-node}
 use Rattle.records.specs.Records.{containersBefore, nodeRule, parentRule, fieldsRule, rootRight, usedUp}
 use Rattle.records.proofs.PassedRules.{root, used-up, used-up-of}

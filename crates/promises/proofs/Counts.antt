@@ -9,7 +9,7 @@ use native.Mathlib.Decide.{ℕ-discrete, decLt}
 use lib.Dec.{eqb}
 use borrow.Author.Tests.{eq-eqb, ne-eqb}
 use Rattle.laws.specs.Counted.{sumOf}
-use Rattle.tree.proofs.Members.{sum-point}
+use Rattle.laws.proofs.Members.{sum-point}
 
 -- ---- owners
 

@@ -8,9 +8,9 @@ use native.Mathlib.Omega.{arith}
 use native.Mathlib.Decide.{ℕ-discrete}
 use borrow.Author.Tests.{eq-eqb, ne-eqb, le-leb, lt-ltb, eqb-true}
 use Rattle.laws.proofs.First.{then, pass, first-of}
+use Rattle.laws.proofs.Flags.{both-true}
 use Rattle.words.specs.Words.{NONE, isNone}
 use Rattle.image.specs.Sections.{Sections, nodeCount, parentOf, tagOf, f, present, goodText, goodOptional, inside, isContainer, insideContainer}
-use Rattle.image.proofs.Tests.{both-true}
 use Rattle.image.proofs.Parts.{good, good-inside, optional-present, optional-absent, optional-half}
 use Rattle.records.specs.Fields.{Field, text, optional, command, operator, node, optionalNode, container, optionalContainer, plain, atMost, children, named, payload, wrong}
 use Rattle.records.specs.Records.{fieldsAt, listItems, listOrigins, listItemRule, listOriginRule, payloadRule, fieldRule, fieldsRule, parentRule}

@@ -5,12 +5,12 @@ use mathlib.Core.List.{List, []}
 use mathlib.Core.Bool.{Bool, true, false}
 use native.Mathlib.Omega.{arith}
 use native.Mathlib.Decide.{ℕ-discrete, decLt}
+use Rattle.laws.proofs.Flags.{both-true}
 use Rattle.texts.specs.Dots.{hasDot, beforeDot, afterDot}
 use Rattle.utf8.specs.White.{blank, blanks}
 use Rattle.image.specs.Sections.{Sections, nodeCount, definitionCount, namedCount, itemWord, f, inside, isContainer, insideContainer}
 use Rattle.image.specs.declared.ImageView.{ImageView}
 use Rattle.image.specs.Header.{viewOf, sectionsBy}
-use Rattle.image.proofs.Tests.{both-true}
 use Rattle.tree.specs.Tree.{treeRule}
 use Rattle.tree.proofs.PlainTree.{tree-right}
 use Rattle.index.specs.Definitions.{definitionText, firstItem, numberOfItems, itemTextOf, definitionsRule}

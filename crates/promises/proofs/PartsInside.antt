@@ -8,13 +8,13 @@ use lib.ListN.{length, take, drop}
 use lib.Seq.{take-take, drop-drop, take-length}
 use lib.Dec.{leb, ltb}
 use borrow.Author.Tests.{leb-true, leb-false}
+use Rattle.laws.proofs.Flags.{both-true}
 use Rattle.image.specs.Sections.{Sections, namedCount, definitionCount, itemCount, namedWord, definitionWord, itemWord, f, tagOf, inside, partAt, textOrEmpty, present, insideContainer}
 use Rattle.words.specs.Words.{wordAt}
 use Rattle.image.specs.declared.Section.{Section}
 use Rattle.image.specs.declared.ImageView.{ImageView}
 use Rattle.image.specs.Header.{sectionBytes, sectionsBy}
 use Rattle.image.specs.Entries.{nodeIn}
-use Rattle.image.proofs.Tests.{both-true}
 use Rattle.image.proofs.Parts.{part-length, section-inside, section-outside, text-inside, text-outside}
 use Rattle.image.proofs.Views.{strings-by, payload-by}
 use Rattle.records.specs.Fields.{Kind, kindOf, Field, text, optional, command, operator, node, optionalNode, container, optionalContainer, plain, atMost, children, named, payload, wrong}

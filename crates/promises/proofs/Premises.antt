@@ -1,15 +1,14 @@
 -- What all proofs about accepted images start from: the rules in plain words, and that NONE is no number of a node or a child.
-use Prim.Native.Nat.{ℕ, _*_, _≤_, _<_}
+use Prim.Native.Nat.{ℕ, _<_}
 use mathlib.Core.Path.{_≡_}
 use mathlib.Core.List.{List}
 use native.Mathlib.Omega.{arith}
-use native.Mathlib.Nat.{mul-le-mul-left}
 use lib.ListN.{length}
 use Rattle.laws.specs.Lists.{Below}
 use Rattle.words.specs.Words.{NONE}
-use Rattle.image.specs.Sections.{Sections, nodeWords, nodeCount, childCount}
+use Rattle.image.specs.Sections.{Sections, nodeCount, childCount}
 use Rattle.image.specs.Header.{sectionsOf, viewOf}
-use Rattle.image.proofs.Widths.{words-some}
+use Rattle.image.proofs.Widths.{least-size}
 use Rattle.image.proofs.OpenedHeader.{view-inside, view-counts, length-word}
 use Rattle.load.specs.Load.{loadRule}
 use Rattle.promises.specs.Rules.{NodeRight, SectionsRight, BreaksNone}
@@ -21,10 +20,6 @@ pub record Kept (s : Sections) : Type 0 where
   pub nodes : nodeCount s < NONE
   pub children : childCount s < NONE
 
--- a node has ten words or more
-pub many : (n version : ℕ) → n * 40 ≤ n * (4 * nodeWords version)
-many n version = mul-le-mul-left n (omega (arith, words-some version))
-
 -- an image is shorter than a word can tell
 pub kept : (bs : List ℕ) → Below 256 bs → BreaksNone bs → Kept (sectionsOf bs)
 kept bs b r =
@@ -34,7 +29,7 @@ kept bs b r =
     record {
       rules = r .sections;
       some = some-node bs (right-header bs (r .header));
-      nodes = omega (arith, i .nodes, c .nodes, many (viewOf bs .nodes .count) (viewOf bs .version));
+      nodes = omega (arith, i .nodes, c .nodes, least-size (viewOf bs .nodes .count) (viewOf bs .version));
       children = omega (arith, i .children, c .children);
     }
 

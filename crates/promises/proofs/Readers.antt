@@ -6,13 +6,13 @@ use mathlib.Core.Bool.{Bool, true, false, cond}
 use native.Mathlib.Omega.{arith}
 use native.Mathlib.Decide.{ℕ-discrete}
 use borrow.Author.Tests.{eq-eqb, ne-eqb, lt-ltb}
+use Rattle.laws.proofs.Flags.{both-true}
 use Rattle.words.specs.Words.{NONE}
 use Rattle.image.specs.Sections.{Sections, nodeCount, childCount, namedCount, definitionCount, itemCount, definitionWord, itemWord, parentOf, placeOf, tagOf, f, inside, isContainer, insideContainer}
 use Rattle.image.specs.declared.ImageView.{ImageView}
 use Rattle.image.specs.Header.{viewOf, sectionsBy}
 use Rattle.load.specs.declared.Loaded.the-variants.{View}
 use Rattle.load.specs.Load.{loadRule, loadedBy, loadedOf}
-use Rattle.image.proofs.Tests.{both-true}
 use Rattle.records.specs.Fields.{kindOf}
 use Rattle.index.specs.Definitions.{firstItem, numberOfItems}
 use Rattle.tree.specs.Tree.{childAt, namedAt}

@@ -8,10 +8,10 @@ use native.Mathlib.Omega.{arith}
 use lib.ListN.{length}
 use lib.Dec.{leb}
 use borrow.Author.Tests.{eq-eqb, le-leb, lt-ltb, leb-true}
+use Rattle.laws.proofs.Flags.{both-true}
 use Rattle.words.specs.Words.{NONE, wordAt}
 use Rattle.words.proofs.Words.{word-part}
 use Rattle.image.specs.Sections.{Sections, f, partAt, present}
-use Rattle.image.proofs.Tests.{both-true}
 use Rattle.image.proofs.Parts.{part-length, text-inside}
 use Rattle.records.specs.Fields.{Kind, ListValue, fields, Field, text, optional, command, operator, node, optionalNode, container, optionalContainer, plain, atMost, children, named, payload, wrong}
 use Rattle.records.specs.Records.{listWord, listItems, listOrigins, listItemWord, listOriginWord}

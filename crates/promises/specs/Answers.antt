@@ -4,6 +4,7 @@ use mathlib.Core.Option.{Option, none, some}
 use Rattle.image.specs.declared.ImageView.{ImageView}
 use Rattle.image.specs.declared.Opened.{Opened}
 use Rattle.image.specs.declared.Opened.the-variants as opened
+use Rattle.image.specs.Refusals.{notFound}
 use Rattle.load.specs.declared.Loaded.{Loaded}
 use Rattle.load.specs.declared.Loaded.the-variants as loaded
 use Rattle.views.specs.declared.Span.{Span}
@@ -56,36 +57,36 @@ ofLoaded (loaded.Refused n) = refused n
 
 abbrev pub ofNode : NodeAnswer → Answer NodeView
 ofNode (node.View v) = given v
-ofNode node.NotFound = refused 18
+ofNode node.NotFound = refused notFound
 
 abbrev pub ofFound : Found → Answer ℕ
 ofFound (found.Node n) = given n
-ofFound found.NotFound = refused 18
+ofFound found.NotFound = refused notFound
 
 abbrev pub ofCount : Count → Answer ℕ
 ofCount (count.Of n) = given n
-ofCount count.NotFound = refused 18
+ofCount count.NotFound = refused notFound
 
 abbrev pub ofNamed : NamedAnswer → Answer NamedChildView
 ofNamed (named.Named c) = given c
-ofNamed named.NotFound = refused 18
+ofNamed named.NotFound = refused notFound
 
 abbrev pub ofText : TextAnswer → Answer Span
 ofText (text.Text t) = given t
-ofText text.NotFound = refused 18
+ofText text.NotFound = refused notFound
 
 abbrev pub ofEntry : EntryAnswer → Answer ListEntry
 ofEntry (entry.Entry e) = given e
-ofEntry entry.NotFound = refused 18
+ofEntry entry.NotFound = refused notFound
 
 abbrev pub ofDefinition : DefinitionAnswer → Answer DefinitionView
 ofDefinition (definition.Definition d) = given d
-ofDefinition definition.NotFound = refused 18
+ofDefinition definition.NotFound = refused notFound
 
 abbrev pub ofItem : ItemAnswer → Answer ItemView
 ofItem (item.Item i) = given i
-ofItem item.NotFound = refused 18
+ofItem item.NotFound = refused notFound
 
 abbrev pub ofListItem : ListItemAnswer → Answer ListItem
 ofListItem (listed.Item i) = given i
-ofListItem listed.NotFound = refused 18
+ofListItem listed.NotFound = refused notFound

@@ -9,8 +9,9 @@ use Rattle.words.specs.Words.{NONE, wordAt}
 use Rattle.texts.specs.Text.{holds, rising}
 use Rattle.names.specs.Names.{commands, operators}
 use Rattle.checksum.specs.Crc.{checksumOf}
-use Rattle.image.specs.Sections.{Sections, goodBytes, nodeCount, childCount, namedCount, definitionCount, itemCount, indexCount, parentOf, placeOf, tagOf, f, definitionWord, itemWord, indexWord, textAt}
+use Rattle.image.specs.Sections.{Sections, listHeadSize, listItemSize, listOriginSize, goodBytes, nodeCount, childCount, namedCount, definitionCount, itemCount, indexCount, parentOf, placeOf, tagOf, f, definitionWord, itemWord, indexWord, textAt}
 use Rattle.image.specs.Header.{magic, headerLength, version, sectionAt, startBy, sectionsOf}
+use Rattle.image.specs.Tags.{containerTag}
 use Rattle.records.specs.Fields.{Field, text, optional, command, operator, node, optionalNode, container, optionalContainer, plain, atMost, children, named, payload, wrong}
 use Rattle.records.specs.Records.{fieldsAt, numberOfChildren, numberOfNamed, childrenBefore, namedBefore, payloadBefore, containersBefore, listItems, listOrigins, listItemWord, listOriginWord}
 use Rattle.tree.specs.Tree.{childAt, namedAt, namedText}
@@ -39,15 +40,15 @@ pub record NodeRight (s : Sections) (n : ℕ) : Type 0 where
 
 pub record ContainerRight (s : Sections) (n : ℕ) : Type 0 where
   pub node : NodeRight s n
-  pub container : tagOf s n ≡ 1
+  pub container : tagOf s n ≡ containerTag
 
 -- ---- the fields of a node
 
 -- a list value whose payload starts at `at`
 pub record PayloadRight (s : Sections) (at len : ℕ) : Type 0 where
   pub inside : at + len ≤ length (s .payload)
-  pub long : 8 ≤ len
-  pub exact : len ≡ 8 + listItems s at * 20 + listOrigins s at * 8
+  pub long : listHeadSize ≤ len
+  pub exact : len ≡ listHeadSize + listItems s at * listItemSize + listOrigins s at * listOriginSize
   pub item-origin : (j : ℕ) → j < listItems s at → OptionalRight s (listItemWord s at j 0) (listItemWord s at j 1)
   pub item-name : (j : ℕ) → j < listItems s at → TextRight s (listItemWord s at j 2) (listItemWord s at j 3)
   pub origin : (j : ℕ) → j < listOrigins s at → TextRight s (listOriginWord s at j 0) (listOriginWord s at j 1)
@@ -110,7 +111,7 @@ pub record DefinitionRight (s : Sections) (d : ℕ) : Type 0 where
 pub record SectionsRight (s : Sections) : Type 0 where
   pub root-parent : parentOf s 0 ≡ NONE
   pub root-place : placeOf s 0 ≡ NONE
-  pub root-container : tagOf s 0 ≡ 1
+  pub root-container : tagOf s 0 ≡ containerTag
   pub parents : (i : ℕ) → i < nodeCount s → 0 < i → ParentRight s i
   pub fields : (i : ℕ) → i < nodeCount s → (x : Field) → List·Memᴰ x (fieldsAt s i) → FieldRight s i x
   -- nothing is left over

@@ -48,6 +48,7 @@ fn print_found(answer: Found) {
     print(b"\n");
 }
 
+// Items by name.
 fn items(bytes: &[u8], view: ImageView) {
     print_item(b"low", lookups::list_item(bytes, view, b"low"));
     print_item(b"red.low", lookups::list_item(bytes, view, b"red.low"));
@@ -56,6 +57,7 @@ fn items(bytes: &[u8], view: ImageView) {
     print_item(b" ", lookups::list_item(bytes, view, b" "));
 }
 
+// Walks and children.
 fn walk(bytes: &[u8], view: ImageView) {
     let path = [1u32, 0u32, 0u32];
     print(b"relative, no components, from the glue");
@@ -68,6 +70,7 @@ fn walk(bytes: &[u8], view: ImageView) {
     print_found(views::children::child_at(bytes, view, 0, 1));
 }
 
+// Every query on an image.
 fn both(bytes: &[u8], view: ImageView) {
     items(bytes, view);
     walk(bytes, view);
@@ -79,6 +82,7 @@ fn print_refusal(number: u32) {
     print(b"\n");
 }
 
+// Loads an image and asks it, or prints why it is refused.
 fn run(bytes: &[u8]) {
     let mut work = [7u32; 64];
     match load::load(bytes, &mut work) {

@@ -13,16 +13,17 @@ use borrow.Author.Tests.{eq-eqb, ne-eqb, eqb-true, not-true, not-false}
 use Rattle.laws.proofs.Flags.{up}
 use Rattle.laws.specs.Refusal.{unless, _▸_, firstOf}
 use Rattle.laws.proofs.First.{first-all, passed}
+use Rattle.laws.proofs.Chains.{skip, last}
 use Rattle.words.specs.Words.{NONE, isNone}
 use Rattle.image.specs.declared.NodeRecord.{NodeRecord}
 use Rattle.image.specs.Entries.{nodeIn}
-use Rattle.image.specs.Sections.{Sections, nodeCount, tagOf, parentOf, f, inside, isContainer, containerTag}
+use Rattle.image.specs.Sections.{Sections, nodeCount, tagOf, parentOf, f, inside, isContainer}
+use Rattle.image.specs.Tags.{containerTag}
 use Rattle.records.specs.declared.Counts.{Counts}
 use Rattle.records.specs.declared.Sums.{Sums}
 use Rattle.records.specs.Fields.{Kind, Container, Choice, Command, Divert, Glue, Operator, Tag, BoolValue, IntValue, FloatValue, StringValue, ListValue, TargetValue, PointerValue, Assignment, Reference, Void, Unknown, kinds, kindOf, fields, targetAmong}
 use Rattle.records.specs.Records.{fieldWord, targetIn, targetOf, fieldRule, firstField, fieldsRule, parentRule, rootRight, usedUp, payloadRule, listItemRule, listOriginRule, listWord}
 use Rattle.records.specs.Shown.{countsOf, sumsBefore, tagIn, Shows, ShowsParent, containerAmong, containerRule, choiceRule, divertRule, textRule, targetRule, assignmentRule, referenceRule, listRule, fieldsBy, parentBy, rootBy, sumsAfter, usedUpBy}
-use Rattle.records.proofs.Tests.{skip, last}
 
 -- ---- kinds and targets
 

@@ -9,11 +9,11 @@ use lib.Dec.{leb, eqb}
 use borrow.Author.Tests.{le-leb, lt-leb, eq-eqb, ne-eqb}
 use Rattle.laws.specs.Refusal.{unless, _▸_, firstOf}
 use Rattle.laws.proofs.First.{first, second, pass, fail}
+use Rattle.laws.proofs.Chains.{refused, stop, go, stop-last, go-last}
 use Rattle.words.specs.Words.{wordAt}
 use Rattle.image.specs.Sections.{listHeadSize, listItemSize, listOriginSize, goodIn, optionalIn}
 use Rattle.records.specs.Records.{listWord, listItems, listOrigins, listItemWord, listOriginWord, listItemRule, listOriginRule, payloadRule}
 use Rattle.records.specs.Shown.{bytesOnly}
-use Rattle.records.proofs.Tests.{refused, stop, go, stop-last, go-last}
 
 module _ (ps ts : List ℕ) (at : ℕ) where
   -- ---- items and origins, whose words begin at `from`

@@ -13,18 +13,18 @@ use borrow.Author.Tests.{leb-true, ltb-true, eqb-true, eq-eqb, ne-eqb, not-true}
 use Rattle.laws.specs.Refusal.{unless, firstOf}
 use Rattle.laws.specs.Counted.{sumOf}
 use Rattle.laws.proofs.First.{both, then, second, passed, first-all}
+use Rattle.laws.proofs.Flags.{both-true}
+use Rattle.laws.proofs.Chains.{refused}
 use Rattle.words.specs.Words.{NONE, isNone}
 use Rattle.texts.specs.Text.{holds}
 use Rattle.names.specs.Names.{commands, operators}
 use Rattle.image.specs.declared.NodeRecord.{NodeRecord}
 use Rattle.image.specs.Entries.{nodeIn}
 use Rattle.image.specs.Sections.{listHeadSize, listItemSize, listOriginSize, Sections, nodeCount, childCount, namedCount, parentOf, placeOf, tagOf, f, textAt, goodText, goodOptional, inside, isContainer, insideContainer}
-use Rattle.image.proofs.Tests.{both-true}
 use Rattle.records.specs.declared.Sums.{Sums}
 use Rattle.records.specs.Fields.{Kind, Container, Choice, Command, Divert, Glue, Operator, Tag, BoolValue, IntValue, FloatValue, StringValue, ListValue, TargetValue, PointerValue, Assignment, Reference, Void, Unknown, Field, text, optional, command, operator, node, optionalNode, container, optionalContainer, atMost, children, named, payload, kinds, kindOf, fields, targetAmong}
 use Rattle.records.specs.Records.{fieldWord, targetIn, targetOf, numberOfChildren, numberOfNamed, payloadLengthOf, containerOf, childrenBefore, namedBefore, payloadBefore, containersBefore, listItems, listOrigins, listItemWord, listOriginWord, listItemRule, listOriginRule, payloadRule, fieldRule, firstField, fieldsRule, parentRule, nodeRule, rootRight, usedUp}
 use Rattle.records.specs.Shown.{sumsBefore, sumsAfter}
-use Rattle.records.proofs.Tests.{refused}
 
 -- ---- node numbers
 

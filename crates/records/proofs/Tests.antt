@@ -1,4 +1,4 @@
--- Tests of a field, by the test that the code made; chains of rules are passed on.
+-- Tests of a field, by the test that the code made.
 use Prim.Native.Nat.{ℕ, _+_, _≤_, _<_}
 use mathlib.Core.Path.{_≡_, sym, _∙_}
 use mathlib.Core.Bool.{Bool, true, false, _||_}
@@ -6,11 +6,11 @@ use lib.Dec.{leb, eqb}
 use borrow.Author.Tests.{le-leb, lt-leb, eq-eqb, ne-eqb}
 use Rattle.laws.specs.Refusal.{unless}
 use Rattle.laws.proofs.First.{pass, fail}
-pub use Rattle.laws.proofs.Chains.{stop, go, stop-last, go-last, stop-unequal, go-equal, skip, last, refused, first-broken, first-done}
-pub use Rattle.image.proofs.Tests.{none-inside, some-inside}
+use Rattle.laws.proofs.Chains.{stop, go, stop-last, go-last}
+use Rattle.laws.proofs.Flags.{false-and, true-and}
 use Rattle.words.specs.Words.{NONE, isNone}
-use Rattle.image.specs.Sections.{insideAmong, containerTag}
-use Rattle.image.proofs.Tests.{false-and, true-and}
+use Rattle.image.specs.Sections.{insideAmong}
+use Rattle.image.specs.Tags.{containerTag}
 use Rattle.records.specs.Shown.{containerAmong, startsNext}
 
 pub ruleset rules = (stop, go, stop-last, go-last)

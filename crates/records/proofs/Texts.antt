@@ -7,6 +7,7 @@ use lib.Dec.{eqb}
 use borrow.Author.Tests.{eq-eqb, ne-eqb, not-false}
 use Rattle.laws.specs.Refusal.{unless}
 use Rattle.laws.proofs.First.{second, pass}
+use Rattle.laws.proofs.Chains.{stop}
 use Rattle.texts.specs.Text.{holds}
 use Rattle.names.specs.Names.{commands, operators, numberIn}
 use Rattle.names.specs.Spelling.{numbered}
@@ -16,7 +17,6 @@ use Rattle.names.proofs.Distinct.{number-held}
 use Rattle.image.specs.Sections.{partAt, goodIn, textOrEmpty}
 use Rattle.image.proofs.Parts.{good-part}
 use Rattle.records.specs.Shown.{textRule}
-use Rattle.records.proofs.Tests.{stop}
 
 -- ---- a name is known if it has a number
 

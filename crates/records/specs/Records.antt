@@ -12,14 +12,13 @@ use Rattle.names.specs.Names.{commands, operators, names}
 use Rattle.image.specs.declared.NodeRecord.{NodeRecord}
 use Rattle.image.specs.Entries.{nodeIn}
 use Rattle.image.specs.Sections.{Sections, listHeadSize, listItemSize, listOriginSize, nodeCount, childCount, namedCount, parentOf, placeOf, tagOf, f, textAt, goodText, goodOptional, inside, isContainer, insideContainer, sections}
+use Rattle.image.specs.Refusals.{badNode, badText, badRange, badTag}
+use Rattle.image.specs.Tags.{listTag}
 use Rattle.records.specs.Fields.{Kind, Container, Choice, Command, Divert, Glue, Operator, Tag, BoolValue, IntValue, FloatValue, StringValue, ListValue, TargetValue, PointerValue, Assignment, Reference, Void, Unknown, Field, targetPlace, text, optional, command, operator, node, optionalNode, container, optionalContainer, plain, atMost, children, named, payload, wrong, fields, kindOf, schema}
 
 -- the fields of node i
 abbrev pub fieldsAt : Sections → ℕ → List Field
 fieldsAt s i = fields (kindOf (tagOf s i))
-
-abbrev pub listTag : ℕ
-listTag = 12
 
 -- ---- the target of a node
 
@@ -91,37 +90,37 @@ listOriginWord s at j k = listWord s at (listHeadSize + listItems s at * listIte
 
 unfoldable pub listItemRule : Sections → ℕ → ℕ → ℕ
 listItemRule s at j =
-    unless (goodOptional s (listItemWord s at j 0) (listItemWord s at j 1)) 10 ▸ unless (goodText s (listItemWord s at j 2) (listItemWord s at j 3)) 10
+    unless (goodOptional s (listItemWord s at j 0) (listItemWord s at j 1)) badText ▸ unless (goodText s (listItemWord s at j 2) (listItemWord s at j 3)) badText
 
 unfoldable pub listOriginRule : Sections → ℕ → ℕ → ℕ
-listOriginRule s at j = unless (goodText s (listOriginWord s at j 0) (listOriginWord s at j 1)) 10
+listOriginRule s at j = unless (goodText s (listOriginWord s at j 0) (listOriginWord s at j 1)) badText
 
 -- the length is exact
 unfoldable pub payloadRule : Sections → ℕ → ℕ → ℕ
 payloadRule s at len =
-    unless (leb (at + len) (length (s .payload)) && leb listHeadSize len && eqb len (listHeadSize + listItems s at * listItemSize + listOrigins s at * listOriginSize)) 11
+    unless (leb (at + len) (length (s .payload)) && leb listHeadSize len && eqb len (listHeadSize + listItems s at * listItemSize + listOrigins s at * listOriginSize)) badRange
     ▸ firstOf (listItems s at) (listItemRule s at)
     ▸ firstOf (listOrigins s at) (listOriginRule s at)
 
 -- ---- the rule of a field of node i
 
 unfoldable pub fieldRule : Sections → ℕ → Field → ℕ
-fieldRule s i (text k) = unless (goodText s (f s i k) (f s i (k + 1))) 10
-fieldRule s i (optional k) = unless (goodOptional s (f s i k) (f s i (k + 1))) 10
+fieldRule s i (text k) = unless (goodText s (f s i k) (f s i (k + 1))) badText
+fieldRule s i (optional k) = unless (goodOptional s (f s i k) (f s i (k + 1))) badText
 fieldRule s i (command k) =
-    unless (goodText s (f s i k) (f s i (k + 1))) 10 ▸ unless (holds commands (textAt s (f s i k) (f s i (k + 1)))) 12
+    unless (goodText s (f s i k) (f s i (k + 1))) badText ▸ unless (holds commands (textAt s (f s i k) (f s i (k + 1)))) badTag
 fieldRule s i (operator k) =
-    unless (goodText s (f s i k) (f s i (k + 1))) 10 ▸ unless (holds operators (textAt s (f s i k) (f s i (k + 1)))) 12
-fieldRule s i (node k) = unless (mayTarget false false s (f s i k)) 9
-fieldRule s i (optionalNode k) = unless (mayTarget true false s (f s i k)) 9
-fieldRule s i (container k) = unless (mayTarget false true s (f s i k)) 9
-fieldRule s i (optionalContainer k) = unless (mayTarget true true s (f s i k)) 9
+    unless (goodText s (f s i k) (f s i (k + 1))) badText ▸ unless (holds operators (textAt s (f s i k) (f s i (k + 1)))) badTag
+fieldRule s i (node k) = unless (mayTarget false false s (f s i k)) badNode
+fieldRule s i (optionalNode k) = unless (mayTarget true false s (f s i k)) badNode
+fieldRule s i (container k) = unless (mayTarget false true s (f s i k)) badNode
+fieldRule s i (optionalContainer k) = unless (mayTarget true true s (f s i k)) badNode
 fieldRule s i (plain k) = 0
-fieldRule s i (atMost k n) = unless (leb (f s i k) n) 12
-fieldRule s i children = unless (leb (f s i 3 + f s i 4) (childCount s) && eqb (f s i 3) (childrenBefore s i)) 11
-fieldRule s i named = unless (leb (f s i 5 + f s i 6) (namedCount s) && eqb (f s i 5) (namedBefore s i)) 11
-fieldRule s i payload = unless (eqb (f s i 0) (payloadBefore s i)) 11 ▸ payloadRule s (f s i 0) (f s i 1)
-fieldRule s i wrong = 12
+fieldRule s i (atMost k n) = unless (leb (f s i k) n) badTag
+fieldRule s i children = unless (leb (f s i 3 + f s i 4) (childCount s) && eqb (f s i 3) (childrenBefore s i)) badRange
+fieldRule s i named = unless (leb (f s i 5 + f s i 6) (namedCount s) && eqb (f s i 5) (namedBefore s i)) badRange
+fieldRule s i payload = unless (eqb (f s i 0) (payloadBefore s i)) badRange ▸ payloadRule s (f s i 0) (f s i 1)
+fieldRule s i wrong = badTag
 
 unfoldable pub firstField : Sections → ℕ → List Field → ℕ
 firstField s i [] = 0
@@ -133,7 +132,7 @@ fieldsRule s i = firstField s i (fieldsAt s i)
 
 -- a parent is a container and another node; the root has none
 unfoldable pub parentRule : Sections → ℕ → ℕ
-parentRule s i = cond (eqb i 0) 0 (unless (insideContainer s (parentOf s i) && not (eqb (parentOf s i) i)) 9)
+parentRule s i = cond (eqb i 0) 0 (unless (insideContainer s (parentOf s i) && not (eqb (parentOf s i) i)) badNode)
 
 unfoldable pub nodeRule : Sections → ℕ → ℕ
 nodeRule s i = parentRule s i ▸ fieldsRule s i

@@ -12,11 +12,13 @@ use Rattle.names.specs.Names.{commands, operators}
 use Rattle.image.specs.declared.NodeRecord.{NodeRecord}
 use Rattle.image.specs.Entries.{nodeIn}
 use Rattle.image.specs.Header.{version}
-use Rattle.image.specs.Sections.{Sections, nodeCount, childCount, namedCount, parentOf, tagOf, inside, insideAmong, containerTag, partAt, goodIn, optionalIn}
+use Rattle.image.specs.Sections.{Sections, nodeCount, childCount, namedCount, parentOf, tagOf, inside, insideAmong, partAt, goodIn, optionalIn}
+use Rattle.image.specs.Refusals.{badNode, badText, badRange, badTag}
+use Rattle.image.specs.Tags.{containerTag, commandTag, operatorTag, tagTag, stringTag, listTag, pointerTag}
 use Rattle.records.specs.declared.Counts.{Counts}
 use Rattle.records.specs.declared.Sums.{Sums}
 use Rattle.records.specs.Fields.{Kind, Container, Choice, Command, Divert, Glue, Operator, Tag, BoolValue, IntValue, FloatValue, StringValue, ListValue, TargetValue, PointerValue, Assignment, Reference, Void, Unknown, kindOf}
-use Rattle.records.specs.Records.{targetOf, childrenBefore, namedBefore, payloadBefore, containersBefore, payloadRule, listTag, records}
+use Rattle.records.specs.Records.{targetOf, childrenBefore, namedBefore, payloadBefore, containersBefore, payloadRule, records}
 
 abbrev pub countsOf : Sections → Counts
 countsOf s = record { nodes = nodeCount s; children = childCount s; named = namedCount s }
@@ -64,67 +66,67 @@ bytesOnly payload strings =
 
 unfoldable pub containerRule : NodeRecord → Counts → Sums → List ℕ → ℕ
 containerRule r c u strings =
-    unless (optionalIn strings (r .f0) (r .f1)) 10
-    ▸ unless (startsNext (r .f3) (r .f4) (u .children) (c .children)) 11
-    ▸ unless (startsNext (r .f5) (r .f6) (u .named) (c .named)) 11
+    unless (optionalIn strings (r .f0) (r .f1)) badText
+    ▸ unless (startsNext (r .f3) (r .f4) (u .children) (c .children)) badRange
+    ▸ unless (startsNext (r .f5) (r .f6) (u .named) (c .named)) badRange
 
 unfoldable pub choiceRule : NodeRecord → ℕ → ℕ → List ℕ → ℕ
-choiceRule r nodes tag strings = unless (optionalIn strings (r .f0) (r .f1)) 10 ▸ unless (containerAmong nodes (r .f2) tag) 9
+choiceRule r nodes tag strings = unless (optionalIn strings (r .f0) (r .f1)) badText ▸ unless (containerAmong nodes (r .f2) tag) badNode
 
 unfoldable pub divertRule : NodeRecord → ℕ → List ℕ → ℕ
 divertRule r nodes strings =
-    unless (optionalIn strings (r .f0) (r .f1)) 10
-    ▸ unless (isNone (r .f2) || insideAmong nodes (r .f2)) 9
-    ▸ unless (optionalIn strings (r .f3) (r .f4)) 10
-    ▸ unless (leb (r .f6) 23) 12
+    unless (optionalIn strings (r .f0) (r .f1)) badText
+    ▸ unless (isNone (r .f2) || insideAmong nodes (r .f2)) badNode
+    ▸ unless (optionalIn strings (r .f3) (r .f4)) badText
+    ▸ unless (leb (r .f6) 23) badTag
 
 -- a text alone, by the tag, which says whether it is the known name of a command or an operator
 unfoldable pub textRule : ℕ → ℕ → ℕ → List ℕ → ℕ
 textRule tag at len strings =
-    unless (goodIn strings at len) 10
-    ▸ cond (eqb tag 3) (unless (holds commands (partAt strings at len)) 12) (cond (eqb tag 6) (unless (holds operators (partAt strings at len)) 12) 0)
+    unless (goodIn strings at len) badText
+    ▸ cond (eqb tag commandTag) (unless (holds commands (partAt strings at len)) badTag) (cond (eqb tag operatorTag) (unless (holds operators (partAt strings at len)) badTag) 0)
 
 unfoldable pub targetRule : NodeRecord → ℕ → List ℕ → ℕ
-targetRule r nodes strings = unless (goodIn strings (r .f0) (r .f1)) 10 ▸ unless (insideAmong nodes (r .f2)) 9
+targetRule r nodes strings = unless (goodIn strings (r .f0) (r .f1)) badText ▸ unless (insideAmong nodes (r .f2)) badNode
 
 unfoldable pub assignmentRule : NodeRecord → List ℕ → ℕ
-assignmentRule r strings = unless (goodIn strings (r .f0) (r .f1)) 10 ▸ unless (leb (r .f2) 3) 12
+assignmentRule r strings = unless (goodIn strings (r .f0) (r .f1)) badText ▸ unless (leb (r .f2) 3) badTag
 
 unfoldable pub referenceRule : NodeRecord → ℕ → ℕ → List ℕ → ℕ
 referenceRule r nodes tag strings =
-    unless (goodIn strings (r .f0) (r .f1)) 10
-    ▸ unless (optionalIn strings (r .f2) (r .f3)) 10
-    ▸ unless (isNone (r .f4) || containerAmong nodes (r .f4) tag) 9
+    unless (goodIn strings (r .f0) (r .f1)) badText
+    ▸ unless (optionalIn strings (r .f2) (r .f3)) badText
+    ▸ unless (isNone (r .f4) || containerAmong nodes (r .f4) tag) badNode
 
 unfoldable pub listRule : NodeRecord → Sums → List ℕ → List ℕ → ℕ
-listRule r u payload strings = unless (eqb (r .f0) (u .payload)) 11 ▸ payloadRule (bytesOnly payload strings) (r .f0) (r .f1)
+listRule r u payload strings = unless (eqb (r .f0) (u .payload)) badRange ▸ payloadRule (bytesOnly payload strings) (r .f0) (r .f1)
 
 -- of a node of a kind: its record, the counts, the sums before it, the tag of its target, payload and strings
 unfoldable pub fieldsBy : Kind → NodeRecord → Counts → Sums → ℕ → List ℕ → List ℕ → ℕ
 fieldsBy Container r c u tag payload strings = containerRule r c u strings
 fieldsBy Choice r c u tag payload strings = choiceRule r (c .nodes) tag strings
-fieldsBy Command r c u tag payload strings = textRule 3 (r .f0) (r .f1) strings
+fieldsBy Command r c u tag payload strings = textRule commandTag (r .f0) (r .f1) strings
 fieldsBy Divert r c u tag payload strings = divertRule r (c .nodes) strings
 fieldsBy Glue r c u tag payload strings = 0
-fieldsBy Operator r c u tag payload strings = textRule 6 (r .f0) (r .f1) strings
-fieldsBy Tag r c u tag payload strings = textRule 7 (r .f0) (r .f1) strings
-fieldsBy BoolValue r c u tag payload strings = unless (leb (r .f0) 1) 12
+fieldsBy Operator r c u tag payload strings = textRule operatorTag (r .f0) (r .f1) strings
+fieldsBy Tag r c u tag payload strings = textRule tagTag (r .f0) (r .f1) strings
+fieldsBy BoolValue r c u tag payload strings = unless (leb (r .f0) 1) badTag
 fieldsBy IntValue r c u tag payload strings = 0
 fieldsBy FloatValue r c u tag payload strings = 0
-fieldsBy StringValue r c u tag payload strings = textRule 11 (r .f0) (r .f1) strings
+fieldsBy StringValue r c u tag payload strings = textRule stringTag (r .f0) (r .f1) strings
 fieldsBy ListValue r c u tag payload strings = listRule r u payload strings
 fieldsBy TargetValue r c u tag payload strings = targetRule r (c .nodes) strings
-fieldsBy PointerValue r c u tag payload strings = textRule 14 (r .f0) (r .f1) strings
+fieldsBy PointerValue r c u tag payload strings = textRule pointerTag (r .f0) (r .f1) strings
 fieldsBy Assignment r c u tag payload strings = assignmentRule r strings
 fieldsBy Reference r c u tag payload strings = referenceRule r (c .nodes) tag strings
 fieldsBy Void r c u tag payload strings = 0
-fieldsBy Unknown r c u tag payload strings = 12
+fieldsBy Unknown r c u tag payload strings = badTag
 
 -- ---- the parent, the root, sums and what is left over
 
 -- of node i by its record, among so many nodes, with the tag of its parent
 unfoldable pub parentBy : ℕ → NodeRecord → ℕ → ℕ → ℕ
-parentBy i r nodes tag = cond (eqb i 0) 0 (unless (containerAmong nodes (r .parent) tag && not (eqb (r .parent) i)) 9)
+parentBy i r nodes tag = cond (eqb i 0) 0 (unless (containerAmong nodes (r .parent) tag && not (eqb (r .parent) i)) badNode)
 
 -- the root by its record
 unfoldable pub rootBy : NodeRecord → Bool

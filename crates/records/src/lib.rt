@@ -19,6 +19,7 @@ ghost use Rattle.words.specs.Words.{isNone};
 ghost use Rattle.texts.specs.Text.{holds};
 ghost use Rattle.names.specs.Names.{commands, operators};
 ghost use Rattle.image.specs.Sections.{insideAmong};
+ghost use Rattle.image.specs.Refusals.{badTag};
 ghost use Rattle.records.specs.Fields.{kindOf};
 ghost use Rattle.records.specs.Records.{targetIn};
 ghost use Rattle.records.specs.Shown.{containerAmong, startsNext};
@@ -96,7 +97,7 @@ fn is_next(start: u32, count: u32, before: usize, all: usize) -> bool
 
 // A word that is at most so much.
 fn at_most(word: u32, most: u32) -> u32
-    ensures { λ r. ⌜ r ≡ unless (leb word most) 12 ⌝ }
+    ensures { λ r. ⌜ r ≡ unless (leb word most) badTag ⌝ }
 {
     if word <= most { 0 } else { BAD_TAG }
 }

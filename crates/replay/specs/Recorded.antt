@@ -9,6 +9,7 @@ use Rattle.words.specs.Words.{wordIn, wordsOf}
 use Rattle.texts.specs.Text.{same}
 use Rattle.image.specs.declared.Section.{Section}
 use Rattle.image.specs.Header.{sectionBytes}
+use Rattle.image.specs.Refusals.{notFound, draftShape}
 use Rattle.load.specs.declared.Loaded.{Loaded}
 use Rattle.promises.specs.Answers.{ofLoaded}
 use Rattle.writer.specs.declared.Encoded.{Encoded}
@@ -16,7 +17,7 @@ use Rattle.writer.specs.declared.Encoded.the-variants.{Written, Refused}
 
 -- whether a record has the answer at `at`: 0 and then `count` words, which are these, or 18 for none
 unfoldable pub recorded : List ℕ → ℕ → ℕ → Option (List ℕ) → Bool
-recorded r at count none = eqb (wordIn r at) 18
+recorded r at count none = eqb (wordIn r at) notFound
 recorded r at count (some ws) =
     cond (eqb (wordIn r at) 0) (same (wordsOf (sectionBytes r (record { offset = at + 4; count = count }) 4)) ws) false
 
@@ -26,7 +27,7 @@ recordedLoad r a = eqb (ofLoaded a .number) (wordIn r 0)
 
 -- whether a refusal is the recorded one: 0 is none, 21 stands for any
 unfoldable pub refusedAlike : ℕ → ℕ → Bool
-refusedAlike ours theirs = cond (eqb theirs 0) false (cond (eqb theirs 21) true (eqb ours theirs))
+refusedAlike ours theirs = cond (eqb theirs 0) false (cond (eqb theirs draftShape) true (eqb ours theirs))
 
 -- whether a draft's answer and output are as recorded: the number 0 and the image, or a refusal
 unfoldable pub sameWritten : Encoded → List ℕ → ℕ → List ℕ → Bool

@@ -76,6 +76,7 @@ fn same(answer: Encoded, out: &[u8], number: u32, image: &[u8]) -> bool
     }
 }
 
+// Whether writing the draft gives what was recorded.
 fn write_agrees(
     head: Head,
     nodes: &[u32],

@@ -27,6 +27,7 @@ fn agrees_with(fields: &[u8], bytes: &[u8], work: &mut [u32]) -> bool
     number_with(bytes, work) == words::get(fields, 0)
 }
 
+// The same, with 2,048 work words.
 fn agrees(fields: &[u8], bytes: &[u8]) -> bool {
     let mut work = [0u32; 2048];
     agrees_with(fields, bytes, &mut work)
@@ -82,11 +83,13 @@ fn put_word(room: &mut [u8], n: u32, at: u32, word: u32) {
     words::put(room, CHECKSUM_AT, sum);
 }
 
+// The byte with one of its bits turned.
 fn turned(byte: u8, place: u32) -> u8 {
     let bits = [1u8, 2, 4, 8, 16, 32, 64, 128];
     byte ^ bits[(place % 8) as usize]
 }
 
+// Turns a bit of the room.
 fn turn_bit(room: &mut [u8], bit: u32) {
     let at = (bit / 8) as usize;
     if at < room.len() {

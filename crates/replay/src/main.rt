@@ -39,6 +39,7 @@ fn print_number(number: u32) {
     io::print_decimal(STDOUT_FILENO, number as u64);
 }
 
+// One more, as far as a word holds it.
 fn one_more(n: u32) -> u32 {
     if n < 4294967295 { n + 1 } else { n }
 }

@@ -22,6 +22,7 @@ pub fn agrees(kind: u32, fields: &[u8], image: &[u8]) -> bool {
     }
 }
 
+// Whether the query of a kind is answered as recorded.
 fn answers(kind: u32, fields: &[u8], image: &[u8], view: ImageView) -> bool {
     match kind {
         10 => node_view(fields, image, view),
@@ -161,6 +162,7 @@ fn list_item(fields: &[u8], image: &[u8], view: ImageView) -> bool {
     }
 }
 
+// Whether the item found is the recorded one.
 fn item_agrees(fields: &[u8], item: ListItem) -> bool {
     let mut words = [0u32; 3];
     if answers::lists::put_item_numbers(item, &mut words) != 0 {

@@ -11,12 +11,12 @@ use borrow.Author.Tests.{le-leb, leb-true, eqb-true}
 use Rattle.laws.specs.Lists.{Below}
 use Rattle.laws.specs.Counted.{lastOf}
 use Rattle.laws.proofs.First.{both}
+use Rattle.laws.proofs.Flags.{both-true}
 use Rattle.words.specs.Words.{NONE, wordAt}
 use Rattle.image.specs.declared.ImageView.{ImageView}
 use Rattle.image.specs.Sections.{Sections, definitionCount, itemCount, present}
 use Rattle.image.specs.Header.{version, headerRule, viewOf, sectionsBy, sectionsOf}
 use Rattle.image.proofs.OpenedHeader.{Opens, opens, view-inside, view-counts, length-word}
-use Rattle.image.proofs.Tests.{both-true}
 use Rattle.index.specs.Definitions.{firstItem, numberOfItems}
 use Rattle.load.specs.Load.{loadRule}
 use Rattle.views.specs.declared.Span.{Span}

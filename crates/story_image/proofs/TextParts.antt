@@ -9,12 +9,12 @@ use lib.ListN.{length, take, drop}
 use lib.Seq.{take-take, drop-drop}
 use lib.Dec.{leb}
 use borrow.Author.Tests.{leb-true, leb-false}
+use Rattle.laws.proofs.Flags.{both-true}
 use Rattle.words.specs.Words.{NONE}
 use Rattle.image.specs.declared.ImageView.{ImageView}
 use Rattle.image.specs.Sections.{partAt, present}
 use Rattle.image.specs.Header.{sectionBytes, sectionsBy}
 use Rattle.image.proofs.Parts.{section-inside, section-outside, section-length}
-use Rattle.image.proofs.Tests.{both-true}
 use Rattle.views.specs.declared.Span.{Span}
 use Rattle.views.specs.declared.TextAnswer.the-variants as place
 use Rattle.views.specs.View.{shown}

@@ -10,6 +10,7 @@ use lib.ListN.{length}
 use Rattle.laws.specs.Lists.{Below}
 use Rattle.image.specs.Sections.{Sections, definitionCount}
 use Rattle.image.specs.Header.{viewOf, sectionsOf}
+use Rattle.image.specs.Refusals.{notFound}
 use Rattle.load.specs.Load.{loadRule}
 use Rattle.views.specs.declared.Span.{Span}
 use Rattle.views.specs.declared.TextAnswer.{TextAnswer}
@@ -47,7 +48,7 @@ wordsOfListItem listed.NotFound = none
 pub record Answers (k : ℕ) (exported inner : Option (List ℕ)) : Type 0 where
   pub words : exported ≡ inner
   pub found : (ws : List ℕ) → inner ≡ some ws → (length ws ≡ k) × ((n : ℕ) → k ≤ n → numberOf exported n ≡ 0)
-  pub missing : inner ≡ none → (n : ℕ) → numberOf exported n ≡ 18
+  pub missing : inner ≡ none → (n : ℕ) → numberOf exported n ≡ notFound
 
 -- the words of a view as a load wrote them, in a lent slice that was long enough
 pub record ViewOf (bs view : List ℕ) : Type 0 where

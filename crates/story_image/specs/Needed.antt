@@ -7,6 +7,7 @@ use lib.ListN.{length}
 use lib.Dec.{leb, eqb}
 use Rattle.image.specs.Sections.{Sections}
 use Rattle.image.specs.Header.{headerRule, sectionsOf}
+use Rattle.image.specs.Refusals.{tooFewWords}
 use Rattle.load.specs.Load.{loadRule, loadWords}
 use Rattle.draft.specs.Draft.{writeWords}
 use Rattle.draft_image.specs.Encode.{encodeRule}
@@ -35,10 +36,10 @@ longestSlice = 2305843009213693951
 abbrev pub LoadWordsSuffice : Type 0
 LoadWordsSuffice =
     (bs : List ℕ) → (wordsToLoad bs ≤ length bs / 4)
-    × ((work view : ℕ) → wordsToLoad bs ≤ work → viewLength ≤ view → loadRule bs (lentWords view work) ≡ 7 → ⊥)
+    × ((work view : ℕ) → wordsToLoad bs ≤ work → viewLength ≤ view → loadRule bs (lentWords view work) ≡ tooFewWords → ⊥)
 
 -- with so many work words, and a word for the length, the writer never answers 7
 abbrev pub WriteWordsSuffice : Type 0
 WriteWordsSuffice =
     (ink : ℕ) (s : Sections) (work written room : ℕ) → work ≤ longestSlice → wordsToWrite s ≤ work → 1 ≤ written
-    → encodeRule ink s (wordsWithLength written work) room ≡ 7 → ⊥
+    → encodeRule ink s (wordsWithLength written work) room ≡ tooFewWords → ⊥

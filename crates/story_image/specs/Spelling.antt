@@ -8,11 +8,12 @@ use lib.ListN.{length, drop}
 use lib.Dec.{leb}
 use Rattle.story_image.specs.Exported.{writtenAfter}
 use Rattle.story_image.specs.Writing.{lengthAfter}
+use Rattle.image.specs.Refusals.{notFound, noRoom}
 
 -- 0; 18 for a number that is none; 23 where the text, or its length, has no room
 abbrev pub spelledNumber : Option (List ℕ) → ℕ → ℕ → ℕ
-spelledNumber none room lent = 18
-spelledNumber (some t) room lent = cond (leb 1 lent && leb (length t) room) 0 23
+spelledNumber none room lent = notFound
+spelledNumber (some t) room lent = cond (leb 1 lent && leb (length t) room) 0 noRoom
 
 abbrev pub textOr : Option (List ℕ) → List ℕ
 textOr none = []

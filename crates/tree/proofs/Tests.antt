@@ -10,14 +10,16 @@ use lib.Dec.{eqb}
 use borrow.Author.Tests.{eq-eqb, ne-eqb}
 use Rattle.laws.specs.Refusal.{unless, _▸_}
 use Rattle.laws.proofs.First.{pass, fail}
+use Rattle.laws.proofs.Flags.{both-true}
 use Rattle.words.specs.Words.{wordsOf}
 use Rattle.words.proofs.Words.{length-words}
 use Rattle.texts.specs.Text.{rising}
 use Rattle.image.specs.declared.TextEntry.{TextEntry}
 use Rattle.image.specs.Entries.{textEntryOf, entryTextFrom}
-use Rattle.image.proofs.Tests.{both-true, inside-true}
+use Rattle.image.proofs.Tests.{inside-true}
 use Rattle.image.proofs.RisingTexts.{rising-like}
-use Rattle.image.specs.Sections.{Sections, nodeWords, childSize, textEntrySize, nodeCount, nodeWord, parentOf, inside, insideAmong, containerTag, insideContainer, goodText, goodIn, f, childWord, namedWord, childCount, namedCount}
+use Rattle.image.specs.Sections.{Sections, nodeWords, childSize, textEntrySize, nodeCount, nodeWord, parentOf, inside, insideAmong, insideContainer, goodText, goodIn, f, childWord, namedWord, childCount, namedCount}
+use Rattle.image.specs.Tags.{containerTag}
 use Rattle.tree.specs.Tree.{childAt, namedAt, namedText, rightChild, childRule, namedRule}
 use Rattle.tree.specs.Parts.{partsOf, namedNode}
 

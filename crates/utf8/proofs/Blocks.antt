@@ -13,10 +13,10 @@ use lib.Bits.{bitOr, bitAnd, bitXor, or-add-and, and-le-l, and-le-r}
 use lib.ListN.{length, drop, getD, drop-of-length-le}
 use lib.Seq.{drop-cons}
 use Rattle.laws.specs.Counted.{allOf}
+use Rattle.laws.proofs.Flags.{both-true, and-false}
 use Rattle.utf8.specs.Runs.{Passes}
 use Rattle.utf8.specs.Utf8.{rows, sizeIn, utf8}
 use Rattle.utf8.specs.Places.{flag, differ, due, wrong, rightAt, starts, ends, Passed, AsciiTo}
-use Rattle.utf8.proofs.Table.{both-true, and-false}
 use Rattle.utf8.proofs.Ascii.{or-ascii, asciiAt, ascii-passes}
 use Rattle.utf8.proofs.Places.{right-ascii, placed, utf8-placed}
 

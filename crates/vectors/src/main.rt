@@ -17,6 +17,7 @@ fn print_byte(byte: u8) {
     io::print_hex(STDOUT_FILENO, byte as u64, 2);
 }
 
+// A line for the CRC-32 of these bytes.
 fn crc(bytes: &[u8]) {
     print(b"crc ");
     print_bytes(bytes);
@@ -25,6 +26,7 @@ fn crc(bytes: &[u8]) {
     print(b"\n");
 }
 
+// A line that says whether they are UTF-8.
 fn utf8(bytes: &[u8]) {
     print(b"utf8 ");
     print_bytes(bytes);
@@ -35,6 +37,7 @@ fn utf8(bytes: &[u8]) {
     }
 }
 
+// A line that says whether they are White_Space only.
 fn blank(bytes: &[u8]) {
     print(b"blank ");
     print_bytes(bytes);

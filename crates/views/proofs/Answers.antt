@@ -9,13 +9,13 @@ use lib.ListN.{length}
 use lib.IntN.{ℤ}
 use lib.Dec.{leb}
 use borrow.Author.Tests.{eq-eqb, ne-eqb, lt-ltb, le-ltb, le-leb, lt-leb, leb-true, not-true, not-false}
+use Rattle.laws.proofs.Flags.{both-true}
 use Rattle.words.specs.Words.{wordAt, NONE}
 use Rattle.image.specs.declared.NodeRecord.{NodeRecord}
 use Rattle.image.specs.declared.TextEntry.{TextEntry}
 use Rattle.image.specs.declared.Definition.{Definition}
 use Rattle.image.specs.Sections.{listHeadSize, listItemSize, listOriginSize, Sections, f, namedWord, definitionWord, itemWord, inside, insideContainer, present, textOrEmpty}
 use Rattle.image.specs.Entries.{nodeIn, definitionIn}
-use Rattle.image.proofs.Tests.{both-true}
 use Rattle.image.specs.declared.ImageView.{ImageView}
 use Rattle.image.specs.Header.{sectionBytes, sectionsBy}
 use Rattle.image.proofs.Parts.{text-inside}

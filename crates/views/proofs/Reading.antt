@@ -7,6 +7,7 @@ use native.Mathlib.Omega.{arith}
 use lib.ListN.{length, getD}
 use lib.Dec.{ltb}
 use borrow.Author.Tests.{lt-ltb, le-ltb, eq-eqb, ne-eqb, not-true, not-false}
+use Rattle.laws.proofs.Flags.{and-false}
 use Rattle.words.specs.Words.{wordsOf}
 use Rattle.words.proofs.Words.{length-words}
 use Rattle.image.specs.declared.NodeRecord.{NodeRecord}
@@ -16,10 +17,10 @@ use Rattle.image.specs.declared.ImageView.{ImageView}
 use Rattle.image.specs.Sections.{Sections, nodeWords, textEntryWords, definitionWords, nodeSize, childSize, textEntrySize, definitionSize, childCount, namedCount, definitionCount, itemCount, tagOf, childWord, inside, insideAmong, insideContainer}
 use Rattle.image.specs.Header.{sectionBytes, sectionsBy}
 use Rattle.image.specs.Entries.{recordOf, textEntryOf, definitionOf, nodeIn, namedIn, itemIn, definitionIn}
-use Rattle.image.proofs.Tests.{and-false, inside-true}
-pub use Rattle.image.proofs.Parts.{word-count, text-entry-count, definition-count}
+use Rattle.image.proofs.Tests.{inside-true}
 use Rattle.image.proofs.Entries.{node-record, named-entry, item-entry, definition-entry}
 use Rattle.image.proofs.Views.{version-by, nodes-by, children-by, named-by, definitions-by, items-by}
+use Rattle.image.proofs.Parts.{text-entry-count, definition-count}
 use Rattle.views.specs.declared.Found.the-variants as found
 use Rattle.views.specs.declared.entries.RecordFound.{RecordFound}
 use Rattle.views.specs.declared.entries.RecordFound.the-variants as node

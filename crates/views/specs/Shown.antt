@@ -7,6 +7,7 @@ use Rattle.names.specs.ControlCommand.{commandNamed}
 use Rattle.names.specs.NativeFunctionCall.{operatorNamed}
 use Rattle.image.specs.declared.NodeRecord.{NodeRecord}
 use Rattle.image.specs.Sections.{textOrEmpty}
+use Rattle.image.specs.Tags.{commandTag, operatorTag, tagTag, stringTag, targetTag, pointerTag, assignmentTag}
 use Rattle.views.specs.declared.Span.{Span}
 use Rattle.views.specs.declared.ValueView.the-variants as value
 use Rattle.views.specs.declared.NodeKindView.the-variants as kind
@@ -37,13 +38,13 @@ listView payload start len = cond (leb (start + len) payload) (kindly.Kind (kind
 -- the kinds that are made of a text, by the tag
 unfoldable pub withName : ℕ → List ℕ → NodeRecord → Span → KindAnswer
 withName tag strings r t =
-    cond (eqb tag 3) (commandView (textOrEmpty strings (t .offset) (t .len)))
-    (cond (eqb tag 6) (operatorView (textOrEmpty strings (t .offset) (t .len)))
-    (cond (eqb tag 7) (kindly.Kind (kind.Tag t))
-    (cond (eqb tag 11) (kindly.Kind (kind.Value (value.String t)))
-    (cond (eqb tag 13) (kindly.Kind (kind.Value (value.DivertTarget t)))
-    (cond (eqb tag 14) (kindly.Kind (kind.Value (value.VariablePointer t (signed (r .f2)))))
-    (cond (eqb tag 16) (kindly.Kind (kind.VariableAssignment t (odd (r .f2)) (odd (r .f2 / 2))))
+    cond (eqb tag commandTag) (commandView (textOrEmpty strings (t .offset) (t .len)))
+    (cond (eqb tag operatorTag) (operatorView (textOrEmpty strings (t .offset) (t .len)))
+    (cond (eqb tag tagTag) (kindly.Kind (kind.Tag t))
+    (cond (eqb tag stringTag) (kindly.Kind (kind.Value (value.String t)))
+    (cond (eqb tag targetTag) (kindly.Kind (kind.Value (value.DivertTarget t)))
+    (cond (eqb tag pointerTag) (kindly.Kind (kind.Value (value.VariablePointer t (signed (r .f2)))))
+    (cond (eqb tag assignmentTag) (kindly.Kind (kind.VariableAssignment t (odd (r .f2)) (odd (r .f2 / 2))))
     (kindly.Kind (kind.VariableReference t (optionalWord (r .f4))))))))))
 
 unfoldable pub textKind : ℕ → List ℕ → NodeRecord → KindAnswer

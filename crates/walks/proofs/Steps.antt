@@ -8,10 +8,10 @@ use native.Mathlib.Nat.{add-sub-cancel-left}
 use lib.ListN.{length, getD, take, drop, length-drop, drop-of-length-le}
 use lib.Seq.{drop-cons}
 use borrow.Author.Tests.{eq-eqb, ne-eqb, le-leb, lt-leb, not-true, not-false}
+use Rattle.laws.proofs.Flags.{and-false}
 use Rattle.words.specs.Words.{NONE}
 use Rattle.image.specs.declared.NodeRecord.{NodeRecord}
 use Rattle.image.specs.Sections.{Sections, parentOf, tagOf, partAt, inside}
-use Rattle.image.proofs.Tests.{and-false}
 use Rattle.views.specs.declared.Found.{Found}
 use Rattle.views.specs.declared.Found.the-variants.{Node, NotFound}
 use Rattle.views.specs.declared.entries.RecordFound.{RecordFound}

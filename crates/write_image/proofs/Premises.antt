@@ -8,6 +8,7 @@ use lib.ListN.{length, getD, take, length-append, length-map}
 use lib.Seq.{take-suc, take-all}
 use Rattle.laws.specs.Counted.{sumOf, joinOf}
 use Rattle.laws.specs.Lists.{placeIn}
+use Rattle.laws.proofs.Members.{sum-ext}
 use Rattle.words.specs.Words.{bytesOf}
 use Rattle.words.proofs.Words.{length-bytes}
 use Rattle.image.specs.Sections.{Sections, nodeWords, textEntryWords, definitionWords, nodeSize, childSize, textEntrySize, definitionSize, nodeCount, childCount, namedCount, definitionCount, itemCount, nodeWord, definitionWord, tagOf}
@@ -19,7 +20,6 @@ use Rattle.records.specs.Fields.{kindOf}
 use Rattle.records.specs.Records.{numberOfChildren, numberOfNamed, payloadLengthOf}
 use Rattle.records.proofs.PassedRules.{used-up}
 use Rattle.tree.specs.Tree.{namedText}
-use Rattle.tree.proofs.Members.{sum-ext}
 use Rattle.tree.proofs.Numbers.{get-below, place-of-get}
 use Rattle.draft.specs.Source.{draftOf}
 use Rattle.draft.specs.Draft.{tablesRule, reachRule}

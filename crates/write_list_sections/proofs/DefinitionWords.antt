@@ -6,6 +6,7 @@ use native.Mathlib.Omega.{arith}
 use native.Mathlib.Nat.{mul-one}
 use lib.ListN.{length, getD}
 use Rattle.laws.specs.Counted.{sumOf, joinOf}
+use Rattle.laws.proofs.Members.{sum-ext}
 use Rattle.image.specs.Sections.{Sections, definitionCount, itemCount, definitionWord, itemWord}
 use Rattle.index.specs.Definitions.{definitionText, firstItem, numberOfItems, itemTextOf, itemsBefore as itemsSum}
 use Rattle.draft.specs.Draft.{tablesRule}
@@ -15,7 +16,6 @@ use Rattle.draft_image.specs.Ready.{OffsetsAt, definitionUses}
 use Rattle.draft_image.specs.Written.{definitionOut, itemOut}
 use Rattle.draft_image.proofs.Joins.{sum-const, join-same, join-length}
 use Rattle.draft_image.proofs.Offsets.{offset-first, offsets-right, offsets-part}
-use Rattle.tree.proofs.Members.{sum-ext}
 use Rattle.write_numbering.proofs.DraftWords.{text-length}
 use Rattle.write_list_sections.specs.Entered.{textsBefore, itemsBefore, definitionEntry, itemWords, itemsWords}
 

@@ -8,10 +8,10 @@ use native.Mathlib.Numerals.{add-one}
 use lib.ListN.{length, getD, length-append, take-append-drop}
 use borrow.Author.Tests.{eq-eqb, ne-eqb}
 use Rattle.laws.specs.Counted.{sumOf, joinOf}
+use Rattle.laws.proofs.Members.{sum-add}
 use Rattle.words.specs.Words.{wordIn, bytesOf}
 use Rattle.image.specs.declared.NodeRecord.{NodeRecord}
 use Rattle.records.specs.Fields.{kindOf}
-use Rattle.tree.proofs.Members.{sum-add}
 use Rattle.draft_image.proofs.Joins.{sum-const, sum-below, even-len}
 use Rattle.words.specs.Output.{putAt}
 use Rattle.words.proofs.FilledOutput.{FilledWords, start, more-words, put-is}

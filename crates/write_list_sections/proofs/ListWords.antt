@@ -10,6 +10,7 @@ use lib.Dec.{eqb}
 use borrow.Author.Tests.{eqb-true}
 use Rattle.laws.specs.Counted.{sumOf, joinOf}
 use Rattle.laws.specs.Lists.{flatMap}
+use Rattle.laws.proofs.Members.{sum-ext}
 use Rattle.words.specs.Words.{wordIn, wordAt, bytesOf}
 use Rattle.words.proofs.Words.{word-in}
 use Rattle.image.specs.Entries.{nodeIn}
@@ -17,7 +18,6 @@ use Rattle.image.specs.Sections.{Sections, tagOf, f, textAt}
 use Rattle.records.specs.Fields.{kinds, kindOf, fields}
 use Rattle.records.specs.Records.{fieldsRule, listWord, listItems, listOrigins, listItemWord, listOriginWord}
 use Rattle.records.proofs.PassedRules.{ListPassed, payload-range}
-use Rattle.tree.proofs.Members.{sum-ext}
 use Rattle.draft_image.specs.Strings.{textIf, listTexts, fieldTexts, nodeTexts, offsetOf}
 use Rattle.draft_image.specs.Ready.{OffsetsAt}
 use Rattle.draft_image.specs.Written.{listItemOut, listOriginOut, listOut, payloadOut}

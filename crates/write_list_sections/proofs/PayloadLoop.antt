@@ -6,6 +6,7 @@ use native.Mathlib.Omega.{arith}
 use native.Mathlib.Numerals.{add-one}
 use lib.ListN.{length, getD}
 use Rattle.laws.specs.Counted.{sumOf, joinOf}
+use Rattle.laws.proofs.Members.{sum-ext}
 use Rattle.words.specs.Words.{bytesOf}
 use Rattle.words.proofs.Words.{bytes-append, length-bytes}
 use Rattle.image.specs.declared.NodeRecord.{NodeRecord}
@@ -13,7 +14,6 @@ use Rattle.image.specs.Entries.{recordOf, nodeIn}
 use Rattle.image.specs.Sections.{Sections, nodeWords, nodeCount, tagOf}
 use Rattle.image.proofs.Entries.{node-record}
 use Rattle.records.specs.Fields.{kindOf}
-use Rattle.tree.proofs.Members.{sum-ext}
 use Rattle.draft.specs.Draft.{tablesRule}
 use Rattle.draft.specs.Numbering.{oldOf}
 use Rattle.draft.proofs.Rules.{tables}

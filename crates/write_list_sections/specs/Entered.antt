@@ -11,6 +11,7 @@ use Rattle.words.specs.Words.{wordIn}
 use Rattle.image.specs.declared.NodeRecord.{NodeRecord}
 use Rattle.image.specs.Entries.{recordOf}
 use Rattle.image.specs.Sections.{textEntryWords, definitionWords, nodeWords, listHeadSize, listItemSize, listOriginSize}
+use Rattle.image.specs.Tags.{listTag}
 use Rattle.words.specs.Output.{putAt}
 use Rattle.write_tree_sections.specs.Encoded.{textCount, optionalOffset}
 use Rattle.write_tree_sections.specs.Summed.{usedBy}
@@ -69,7 +70,7 @@ listWords payload w text start =
 
 -- a node that is no list has none
 unfoldable pub nodeListWords : List ℕ → List ℕ → ℕ → NodeRecord → List ℕ
-nodeListWords payload w text r = cond (eqb (r .tag) 12) (listWords payload w text (r .f0)) []
+nodeListWords payload w text r = cond (eqb (r .tag) listTag) (listWords payload w text (r .f0)) []
 
 -- those of the image's node j: the draft's numbers of the nodes lie from word `order` on, the offsets of their texts from `offsets` on
 unfoldable pub payloadWords : ℕ → List ℕ → List ℕ → List ℕ → ℕ → ℕ → ℕ → List ℕ

@@ -7,12 +7,13 @@ use lib.ListN.{length}
 use lib.Dec.{eqb, ltb}
 use borrow.Author.Tests.{ltb-true, eqb-false, not-true}
 use Rattle.laws.specs.Lists.{has, placeIn}
+use Rattle.laws.proofs.Flags.{both-true}
+use Rattle.laws.proofs.Members.{All, all-map, all-of, pigeon, cover}
 use Rattle.words.specs.Words.{NONE}
 use Rattle.image.specs.Sections.{Sections, nodeCount, childWord, namedWord, f, inside, isContainer}
 use Rattle.records.specs.Records.{numberOfChildren, numberOfNamed}
 use Rattle.tree.specs.Tree.{childAt, namedAt, entryNodes, readWalk, allSeen}
 use Rattle.tree.specs.Parts.{Fit}
-use Rattle.tree.proofs.Members.{both-true, All, all-map, all-of, pigeon, cover}
 use Rattle.tree.proofs.Entries.{entry-each, child-container, named-container}
 use Rattle.tree.proofs.Numbers.{read-keeps, read-distinct, EachOnce, read-once, get-below, place-below, get-of-place, place-of-get}
 use Rattle.draft.specs.Numbering.{numbering, oldOf}

@@ -9,12 +9,12 @@ use lib.Dec.{eqb}
 use lib.Seq.{drop-set-lt}
 use Rattle.laws.specs.Counted.{sumOf, allOf}
 use Rattle.laws.specs.Lists.{has}
+use Rattle.laws.proofs.Members.{All, all-ext}
 use Rattle.words.specs.Words.{NONE}
 use Rattle.image.specs.Sections.{Sections, nodeCount}
 use Rattle.tree.specs.Tree.{entryNodes, Walked, walk, turns, readWalk, allSeen}
 use Rattle.tree.specs.Work.{marked, markIn, treeWords}
 use Rattle.tree.specs.Parts.{Fit}
-use Rattle.tree.proofs.Members.{All, all-ext}
 use Rattle.tree.proofs.Entries.{entries-counted}
 use Rattle.tree.proofs.LoadWalk.{pushedEntries}
 use Rattle.tree.proofs.Machine.{Setting, Walking, turnsLeft, walk-start, seen-start, walk-end, walk-marked, seen-marked, top-below, mark-has, mark-few, push-room, walk-less, walk-entered, seen-entered}

@@ -10,13 +10,13 @@ use lib.ListN.{length, getD, List·getD-append}
 use lib.Seq.{getD-append-seam, ext-getD}
 use lib.Dec.{eqb}
 use Rattle.laws.specs.Counted.{allOf, joinOf, those}
+use Rattle.laws.proofs.Members.{All, all-join, length-join}
 use Rattle.texts.specs.Text.{before}
 use Rattle.image.specs.Sections.{Sections, nodeCount, nodeWord, isContainer}
 use Rattle.draft.specs.Numbering.{oldOf}
 use Rattle.draft_image.specs.Strings.{pathOf, byPath, sortBy}
 use Rattle.draft_image.specs.Ready.{OldsAt}
 use Rattle.draft.specs.Draft.{placed, pathsRule}
-use Rattle.tree.proofs.Members.{All, all-join, length-join}
 use Rattle.write_sorting.specs.Sorted.{upFrom, insert, isort, byKey, Rises, Unlike, Twice}
 use Rattle.write_sorting.proofs.NumberedWords.{upFrom-length, upFrom-at, upFrom-append}
 use Rattle.write_sorting.proofs.KeyOrder.{rises-unlike, level-twice, isort-sortBy}

@@ -13,14 +13,13 @@ use Rattle.draft.specs.Numbering.{oldOf}
 use Rattle.draft_image.specs.Strings.{byPath, pathOf, offsetOf}
 use Rattle.draft_image.specs.Written.{indexOut}
 use Rattle.draft_image.specs.Ready.{NewsAt, OffsetsAt}
-use Rattle.draft_image.proofs.Joins.{even-len}
+use Rattle.draft_image.proofs.Joins.{even-len, join-same}
 use Rattle.draft_image.proofs.IndexOrder.{path-node}
 use Rattle.words.specs.Output.{over}
 use Rattle.words.proofs.EntryLoop.{Running, run-start, run-front}
 use Rattle.write_numbering.specs.declared.numbers.Numbers.{Numbers}
 use Rattle.write_paths.specs.declared.path_index.Paths.{Paths}
 use Rattle.write_paths.specs.PathIndex.{PathsAt, LengthsAt, indexWords}
-use Rattle.write_numbering.proofs.DraftWords.{join-same}
 
 pub begin : (w : List ℕ) (n : Numbers) (p : Paths) (out : List ℕ) → textEntrySize * p .count ≤ length out → Running 0 (p .count) (indexWords w n p) out out 0 0
 begin w n p out h = run-start 0 (p .count) (indexWords w n p) out (omega (arith, even-len (p .count) 3 (indexWords w n p) (λ m q. refl))) 0 refl

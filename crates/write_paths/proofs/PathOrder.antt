@@ -8,6 +8,7 @@ use lib.ListN.{length, getD, take, drop, length-map, length-append}
 use lib.Seq.{sets, getD-take, getD-drop, length-sets}
 use lib.Dec.{eqb}
 use Rattle.laws.specs.Counted.{allOf, those}
+use Rattle.laws.proofs.Members.{All, all-of, all-append, all-map}
 use Rattle.texts.specs.Text.{before, rising}
 use Rattle.image.specs.Sections.{Sections, nodeCount, f, isContainer, goodOptional}
 use Rattle.index.specs.Paths.{canonicalPath}
@@ -15,7 +16,6 @@ use Rattle.draft.specs.Draft.{placed, pathsRule}
 use Rattle.draft.specs.Numbering.{oldOf}
 use Rattle.draft_image.specs.Strings.{pathOf, byPath}
 use Rattle.draft_image.specs.Ready.{OldsAt}
-use Rattle.tree.proofs.Members.{All, all-of, all-append, all-map}
 use Rattle.write_sorting.specs.Sorted.{upFrom, isort, byKey, Rises}
 use Rattle.write_sorting.proofs.ListProperties.{length-isort}
 use Rattle.write_text_keys.specs.declared.Tables.{Tables}

@@ -12,6 +12,8 @@ use Rattle.laws.specs.Counted.{allOf, those}
 use Rattle.laws.specs.Lists.{placeIn}
 use Rattle.laws.specs.Refusal.{unless, _▸_, firstOf}
 use Rattle.laws.proofs.First.{pass, fail, then, first-of}
+use Rattle.laws.proofs.Flags.{all-fails}
+use Rattle.laws.proofs.Members.{all-of, all-so}
 use Rattle.texts.specs.Text.{same}
 use Rattle.texts.proofs.Text.{same-self, unlike-same}
 use Rattle.image.specs.Sections.{Sections, nodeCount, isContainer}
@@ -19,8 +21,6 @@ use Rattle.index.specs.Paths.{canonicalPath}
 use Rattle.draft.specs.Draft.{placed, newPath, pathRule, pathsRule}
 use Rattle.draft.specs.Numbering.{oldOf}
 use Rattle.draft_image.specs.Strings.{pathOf}
-use Rattle.image.proofs.Tests.{all-fails}
-use Rattle.tree.proofs.Members.{all-of, all-so}
 use Rattle.write_paths.specs.Listed.{containers, Renumbers}
 
 -- ---- the numbers below n that pass a test, by their places

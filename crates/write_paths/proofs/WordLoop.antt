@@ -8,7 +8,7 @@ use native.Mathlib.Numerals.{add-one}
 use lib.ListN.{length, getD, set, take, drop, length-set, length-append}
 use lib.Seq.{sets, length-sets, getD-set-other, getD-set-same, drop-set-lt}
 use Rattle.laws.specs.Counted.{joinOf}
-use Rattle.tree.proofs.Members.{length-join}
+use Rattle.laws.proofs.Members.{length-join}
 
 -- ---- a run of stores
 

@@ -10,13 +10,14 @@ use Rattle.laws.specs.Lists.{placeIn}
 use Rattle.words.specs.Words.{isNone}
 use Rattle.image.specs.declared.NodeRecord.{NodeRecord}
 use Rattle.image.specs.Sections.{Sections, nodeCount, isContainer}
+use Rattle.image.specs.Tags.{containerTag}
 use Rattle.draft.specs.Source.{wordOf}
 use Rattle.draft.specs.Numbering.{oldOf}
 
 -- node i is the root, no container, or a container that has a name or a place, by its record
 unfoldable pub placedIn : NodeRecord → ℕ → Bool
 placedIn r i =
-    cond (eqb (r .tag) 1)
+    cond (eqb (r .tag) containerTag)
     (cond (eqb i 0) true (cond (isNone (r .place)) (cond (eqb (r .f1) 0) false (cond (isNone (r .f1)) (cond (isNone (r .f0)) false true) true)) true))
     true
 

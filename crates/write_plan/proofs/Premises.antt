@@ -1,11 +1,11 @@
 -- What the rules have shown of a draft, in the form that each step asks for.
 use Prim.Native.Nat.{_-_}
 use mathlib.Core.Path.{_≡_}
+use Rattle.laws.proofs.Members.{all-at}
 use Rattle.image.specs.Sections.{Sections, nodeCount}
 use Rattle.records.proofs.PassedRules.{ranges}
 use Rattle.tree.specs.Tree.{readWalk}
 use Rattle.tree.specs.Reach.{Reached}
-use Rattle.tree.proofs.Members.{all-at}
 use Rattle.tree.proofs.Numbers.{EachOnce, read-reached, get-below, place-below, get-of-place, place-of-get}
 use Rattle.tree.proofs.PlainTree.{right-tree}
 use Rattle.tree.proofs.ParentSteps.{tree-climbs}

@@ -8,6 +8,7 @@ use lib.Dec.{leb}
 use Rattle.laws.specs.Refusal.{unless, _▸_}
 use Rattle.words.specs.Words.{NONE}
 use Rattle.image.specs.Sections.{Sections, nodeCount}
+use Rattle.image.specs.Refusals.{noRoom}
 use Rattle.draft.specs.Draft.{tablesRule, writeWords, reachRule, shapeRule, pathsRule}
 use Rattle.draft.specs.declared.EntryCounts.{EntryCounts}
 use Rattle.draft.specs.Needs.{entryCounts}
@@ -37,7 +38,7 @@ layoutOf s = layoutBy (entryCounts s) (writeWords s)
 -- the rules that are tested on the way. An image with more uses of texts than a word can count, or longer texts, is too long
 unfoldable pub planRule : Sections → ℕ
 planRule s =
-    reachRule s ▸ shapeRule s ▸ pathsRule s ▸ unless (leb (length (uses s (numbering s))) NONE) 23 ▸ unless (leb (length (storedBytes s)) NONE) 23
+    reachRule s ▸ shapeRule s ▸ pathsRule s ▸ unless (leb (length (uses s (numbering s))) NONE) noRoom ▸ unless (leb (length (storedBytes s)) NONE) noRoom
 
 -- what the work words hold in the end
 pub record Prepared (s : Sections) (w : List ℕ) (u : Uses) : Type 0 where
@@ -85,4 +86,4 @@ StoredPlan key texts paths w (Ready u) =
     × (length (joined (storedOf key (texts + paths))) ≤ NONE)
     × Offsets key (texts + paths) w
 StoredPlan key texts paths w (Refused k) =
-    (k ≡ 23) × ((NONE < texts + paths) ⊎ ((texts + paths ≤ NONE) × (NONE < length (joined (storedOf key (texts + paths))))))
+    (k ≡ noRoom) × ((NONE < texts + paths) ⊎ ((texts + paths ≤ NONE) × (NONE < length (joined (storedOf key (texts + paths))))))

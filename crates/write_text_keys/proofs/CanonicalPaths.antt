@@ -10,10 +10,10 @@ use lib.Dec.{leb}
 use lib.ListN.{length, getD, drop, length-append, length-take, length-drop, List·getD-eq-default}
 use lib.Seq.{take-length, getD-take, getD-drop}
 use borrow.Author.Tests.{eqb-true, leb-true}
+use Rattle.laws.proofs.Flags.{both-true}
 use Rattle.texts.specs.Decimal.{decimal}
 use Rattle.texts.specs.Dots.{dot}
 use Rattle.image.specs.Sections.{Sections, nodeWords, nodeCount, nodeWord, parentOf, f, partAt, absent, present, goodIn, optionalIn, goodOptional, isContainer}
-use Rattle.image.proofs.Tests.{both-true}
 use Rattle.tree.specs.Reach.{climb, Climbs}
 use Rattle.index.specs.Paths.{noName, pieceOf, piece, joined, pathFrom, canonicalPath}
 use Rattle.index.proofs.Paths.{path-step, path-top, path-below}

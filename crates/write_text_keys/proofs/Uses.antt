@@ -8,10 +8,10 @@ use lib.Dec.{eqb, leb, ltb}
 use lib.ListN.{length, getD, take, drop, length-take, length-drop}
 use lib.Seq.{take-all, getD-drop}
 use borrow.Author.Tests.{lt-ltb, le-ltb, le-leb, leb-true, eqb-true}
+use Rattle.laws.proofs.Flags.{both-true}
 use Rattle.texts.specs.Text.{before}
 use Rattle.texts.proofs.Text.{before-self}
 use Rattle.image.specs.Sections.{partAt, textOrEmpty}
-use Rattle.image.proofs.Tests.{both-true}
 use Rattle.write_text_keys.specs.declared.Cursor.{Cursor}
 use Rattle.write_text_keys.specs.Keys.{textIn, onePart, atEnd, lastByte, stepBack, readBack, back, decided, alike, nodeOf, longOf, keyOf, keyLength, endOf}
 use Rattle.write_text_keys.proofs.Comparison.{decided-last, decided-self, before-shorter, before-longer}

@@ -11,13 +11,13 @@ use lib.Dec.{eqb}
 use borrow.Author.Tests.{eqb-true, ne-eqb}
 use Rattle.laws.specs.Counted.{sumOf, joinOf}
 use Rattle.laws.specs.Lists.{flatMap}
+use Rattle.laws.proofs.Members.{sum-add, sum-ext}
 use Rattle.image.specs.Sections.{Sections, nodeCount, namedCount, definitionCount, itemCount, tagOf, f, partAt, textAt, absent}
 use Rattle.records.specs.Fields.{Kind, Unknown, kinds, kindOf, fields}
 use Rattle.records.specs.Records.{numberOfNamed, payloadLengthOf, containerOf, listItems, listOrigins, listItemWord, listOriginWord}
 use Rattle.records.proofs.ByKind.{past-kinds}
 use Rattle.records.proofs.PassedRules.{payload-range, used-up}
 use Rattle.tree.specs.Tree.{namedText}
-use Rattle.tree.proofs.Members.{sum-add, sum-ext}
 use Rattle.index.specs.Definitions.{definitionText, numberOfItems, itemTextOf}
 use Rattle.draft.specs.Draft.{tablesRule}
 use Rattle.draft.specs.Numbering.{oldOf}

@@ -9,7 +9,7 @@ use lib.Dec.{eqb}
 use borrow.Author.Tests.{eq-eqb, ne-eqb}
 use Rattle.laws.specs.Counted.{sumOf}
 use Rattle.laws.specs.Lists.{has}
-use Rattle.tree.proofs.Members.{All, Distinct, sum-ext, sum-point}
+use Rattle.laws.proofs.Members.{All, Distinct, sum-ext, sum-point}
 use Rattle.draft.specs.Numbering.{oldOf}
 use Rattle.draft.proofs.ReachedNodes.{Numbered}
 

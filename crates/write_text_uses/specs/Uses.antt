@@ -8,6 +8,7 @@ use Rattle.laws.specs.Counted.{joinOf, counted}
 use Rattle.laws.specs.Lists.{flatMap, lists}
 use Rattle.words.specs.Words.{wordAt}
 use Rattle.image.specs.Sections.{Sections, nodeWords, textEntryWords, nodeCount, namedCount, definitionCount, itemCount, tagOf, f, absent, definitionWord, itemWord, sections, listHeadSize, listItemSize, listOriginSize}
+use Rattle.image.specs.Tags.{listTag}
 use Rattle.records.specs.Fields.{Field, text, optional, command, operator, node, optionalNode, container, optionalContainer, plain, atMost, children, named, payload, wrong}
 use Rattle.records.specs.Records.{fieldsAt, numberOfNamed, listItems, listOrigins, listItemWord, listOriginWord, records}
 use Rattle.tree.specs.Tree.{namedAt}
@@ -141,7 +142,7 @@ pub record Olds (n : ℕ) (order : List ℕ) : Type 0 where
 -- the numbers are nodes, and the lists lie inside
 pub record Readable (s : Sections) (order : List ℕ) : Type 0 where
   pub olds : Olds (nodeCount s) order
-  pub lists : (i : ℕ) → i < nodeCount s → tagOf s i ≡ 12 → ListInside s (f s i 0)
+  pub lists : (i : ℕ) → i < nodeCount s → tagOf s i ≡ listTag → ListInside s (f s i 0)
 
 -- what is asked of the work words and the draft: the numbers of the nodes lie from `order` on, and the uses have room below them
 pub record Collectable (version : ℕ) (nodes entries definitions items bytes w : List ℕ) (order at : ℕ) : Type 0 where

@@ -5,6 +5,7 @@ ghost use Prim.Native.Nat.{ℕ, _+_, _*_, _/_, _≤_, _<_};
 ghost use lib.ListN.{length};
 ghost use Rattle.laws.specs.Counted.{joinOf};
 ghost use Rattle.image.specs.Sections.{nodeWords, definitionWords, listHeadSize, listItemSize, listOriginSize, nodeCount, absent, tagOf, f};
+ghost use Rattle.image.specs.Tags.{listTag};
 ghost use Rattle.draft.specs.Source.{draftOf, nodesOnly};
 ghost use Rattle.write_text_uses.specs.Uses.{useIf, listItemPairs, listPairs, nodePairs, namedPairs, definitionPairs, allNodePairs};
 ghost use Rattle.write_text_uses.specs.Uses.{allNamedPairs, allDefinitionPairs, originPairs, entryPairs, wordsFrom, Room, Put, payloadOnly};
@@ -154,7 +155,7 @@ fn put_node(
 ) -> usize
     requires { ⌜ i < length (now nodes) / nodeWords (source .version) ⌝ }
     requires { ⌜ (let s = nodesOnly (source .version) (now nodes) (now payload) in
-        tagOf s i ≡ 12 → ListInside s (f s i 0)) ⌝ }
+        tagOf s i ≡ listTag → ListInside s (f s i 0)) ⌝ }
     requires { ⌜ Room (nodePairs (nodesOnly (source .version) (now nodes) (now payload)) i) (now w) at ⌝ }
     ensures { λ r. ⌜ (let s = nodesOnly (source .version) (now (nodes .entry)) (now (payload .entry)) in
         Put (nodePairs s i) (now (w .entry)) at (now (w .exit)) r) ⌝ }

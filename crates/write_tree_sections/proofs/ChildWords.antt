@@ -19,12 +19,12 @@ use Rattle.draft.specs.Numbering.{oldOf}
 use Rattle.draft.proofs.Rules.{tables, child-at}
 use Rattle.draft_image.specs.Written.{childrenOut}
 use Rattle.draft_image.specs.Ready.{OldsAt, NewsAt}
-use Rattle.draft_image.proofs.Joins.{join-len, ones-len}
+use Rattle.draft_image.proofs.Joins.{join-len, ones-len, join-same}
 use Rattle.words.specs.Output.{putAt, over}
 use Rattle.words.proofs.EntryLoop.{Running, run-start, run-room, run-next, run-front}
 use Rattle.write_tree_sections.specs.Held.{childWords, childWordsOf, childrenBy}
 use Rattle.write_numbering.specs.Numbers.{newIn}
-use Rattle.write_numbering.proofs.DraftWords.{join-same, retold, told, new-is}
+use Rattle.write_numbering.proofs.DraftWords.{retold, told, new-is}
 
 pub child-words-length : (children w : List ℕ) (new first count : ℕ) → length (childWords children w new first count) ≡ count
 child-words-length children w new first count = ones-len count (λ j. newIn w new (getD children (first + j) 0))

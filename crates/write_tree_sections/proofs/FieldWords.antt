@@ -10,11 +10,12 @@ use borrow.Author.Tests.{eq-eqb, ne-eqb}
 use Rattle.laws.specs.Counted.{joinOf, sumOf}
 use Rattle.laws.specs.Lists.{flatMap}
 use Rattle.laws.proofs.First.{both}
+use Rattle.laws.proofs.Flags.{both-true}
+use Rattle.laws.proofs.Members.{sum-ext, sum-add}
 use Rattle.words.specs.Words.{NONE, wordAt, wordIn}
 use Rattle.words.proofs.Words.{word-in}
 use Rattle.image.specs.Entries.{nodeIn}
 use Rattle.image.specs.Sections.{Sections, nodeCount, parentOf, placeOf, tagOf, f, textAt, absent, goodText, goodOptional, inside}
-use Rattle.image.proofs.Tests.{both-true}
 use Rattle.image.proofs.Parts.{optional-present, optional-half}
 use Rattle.records.specs.Fields.{Kind, Container, Choice, Command, Divert, Glue, Operator, Tag, BoolValue, IntValue, FloatValue, StringValue, ListValue, TargetValue, PointerValue, Assignment, Reference, Void, Unknown, fields}
 use Rattle.records.specs.Records.{numberOfChildren, numberOfNamed, payloadLengthOf, firstField, listWord, listItems, listOrigins, listItemWord, listOriginWord}
@@ -25,7 +26,6 @@ use Rattle.draft_image.specs.Written.{startIn, fieldWords, putFields}
 use Rattle.draft_image.specs.Ready.{NewsAt, OffsetsAt}
 use Rattle.draft_image.proofs.Joins.{join-length, sum-const}
 use Rattle.draft_image.proofs.Offsets.{offset-first, offsets-left, offsets-right}
-use Rattle.tree.proofs.Members.{sum-ext, sum-add}
 use Rattle.write_numbering.specs.Numbers.{newIn}
 use Rattle.write_numbering.proofs.DraftWords.{new-is, new-none, text-length}
 use Rattle.write_tree_sections.specs.declared.kinds.Starts.{Starts}

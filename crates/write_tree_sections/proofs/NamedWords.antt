@@ -9,13 +9,13 @@ use native.Mathlib.Numerals.{add-one}
 use lib.ListN.{length, getD}
 use lib.Dec.{eqb}
 use Rattle.laws.specs.Counted.{joinOf, sumOf}
+use Rattle.laws.proofs.Members.{sum-ext}
 use Rattle.words.specs.Words.{bytesOf}
 use Rattle.image.specs.declared.NodeRecord.{NodeRecord}
 use Rattle.image.specs.Entries.{recordOf}
 use Rattle.image.specs.Sections.{Sections, nodeWords, textEntryWords, textEntrySize, nodeCount, nodeWord, namedWord, f}
 use Rattle.records.specs.Records.{numberOfNamed}
 use Rattle.tree.specs.Tree.{namedAt, namedText}
-use Rattle.tree.proofs.Members.{sum-ext}
 use Rattle.draft.specs.Draft.{tablesRule}
 use Rattle.draft.specs.Source.{nodesOnly}
 use Rattle.draft.specs.Numbering.{oldOf, newOf}
@@ -23,14 +23,14 @@ use Rattle.draft.proofs.Rules.{tables, named-at, named-text-at}
 use Rattle.draft_image.specs.Strings.{namedTexts, offsetOf}
 use Rattle.draft_image.specs.Written.{namedOut}
 use Rattle.draft_image.specs.Ready.{OldsAt, NewsAt, OffsetsAt, namedUses}
-use Rattle.draft_image.proofs.Joins.{join-len, join-length, even-len, sum-const, sum-scale, sum-below}
+use Rattle.draft_image.proofs.Joins.{join-len, join-length, even-len, sum-const, sum-scale, sum-below, join-same}
 use Rattle.draft_image.proofs.Offsets.{offsets-part, offsets-each}
 use Rattle.words.specs.Output.{over, putAt}
 use Rattle.words.proofs.EntryLoop.{Running, run-start, run-room, run-next, run-front}
 use Rattle.write_tree_sections.specs.Held.{namedWords, namedWordsOf, namedBy, NamedFit}
 use Rattle.write_numbering.specs.Numbers.{newIn}
 use Rattle.write_numbering.specs.declared.numbers.Numbers.{Numbers}
-use Rattle.write_numbering.proofs.DraftWords.{join-same, retold, told, new-is, text-length}
+use Rattle.write_numbering.proofs.DraftWords.{retold, told, new-is, text-length}
 
 -- entry j of one node
 abbrev pub named-entry : List ℕ → List ℕ → ℕ → ℕ → ℕ → ℕ → List ℕ

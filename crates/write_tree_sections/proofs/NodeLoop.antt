@@ -12,6 +12,7 @@ use lib.Dec.{eqb}
 use borrow.Author.Tests.{eq-eqb, ne-eqb}
 use Rattle.laws.specs.Counted.{joinOf, sumOf}
 use Rattle.laws.specs.Lists.{placeIn}
+use Rattle.laws.proofs.Members.{sum-ext}
 use Rattle.words.specs.Words.{NONE, bytesOf}
 use Rattle.image.specs.declared.NodeRecord.{NodeRecord}
 use Rattle.image.specs.Entries.{recordOf, nodeIn}
@@ -28,14 +29,13 @@ use Rattle.draft.proofs.Rules.{tables, parent-node, shape}
 use Rattle.draft_image.specs.Strings.{nodeTexts}
 use Rattle.draft_image.specs.Written.{startIn, nodeOut, putFields}
 use Rattle.draft_image.specs.Ready.{OldsAt, NewsAt, OffsetsAt, nodeUses}
-use Rattle.draft_image.proofs.Joins.{sum-below, join-length, even-len}
+use Rattle.draft_image.proofs.Joins.{sum-below, join-length, even-len, join-same}
 use Rattle.draft_image.proofs.Offsets.{offsets-part}
-use Rattle.tree.proofs.Members.{sum-ext}
 use Rattle.words.specs.Output.{over, putAt}
 use Rattle.words.proofs.EntryLoop.{Running, run-start, run-room, run-next, run-front}
 use Rattle.write_numbering.specs.declared.numbers.Numbers.{Numbers}
 use Rattle.write_numbering.specs.Numbers.{newIn}
-use Rattle.write_numbering.proofs.DraftWords.{join-same, retold, told, new-is, new-none}
+use Rattle.write_numbering.proofs.DraftWords.{retold, told, new-is, new-none}
 use Rattle.write_tree_sections.specs.declared.kinds.Starts.{Starts}
 use Rattle.write_tree_sections.specs.Encoded.{recordWords, encodedBy, textsBy}
 use Rattle.write_tree_sections.specs.Summed.{childrenIn, namedIn, payloadIn, StartsFit, startsAfter, textsAt, startsBy, usedBy, NodesFit}

@@ -9,6 +9,7 @@ use Rattle.words.specs.Words.{NONE}
 use Rattle.image.specs.Sections.{nodeWords}
 use Rattle.image.specs.declared.NodeRecord.{NodeRecord}
 use Rattle.image.specs.Entries.{recordOf}
+use Rattle.image.specs.Tags.{containerTag, listTag}
 use Rattle.records.specs.Fields.{kindOf}
 use Rattle.write_numbering.specs.declared.numbers.Numbers.{Numbers}
 use Rattle.write_tree_sections.specs.Held.{OrderFits, childrenBy, namedBy, payloadBy}
@@ -19,13 +20,13 @@ use Rattle.write_tree_sections.specs.Encoded.{textsBy}
 
 -- what a record adds to each start
 abbrev pub childrenIn : NodeRecord → ℕ
-childrenIn r = cond (eqb (r .tag) 1) (r .f4) 0
+childrenIn r = cond (eqb (r .tag) containerTag) (r .f4) 0
 
 abbrev pub namedIn : NodeRecord → ℕ
-namedIn r = cond (eqb (r .tag) 1) (r .f6) 0
+namedIn r = cond (eqb (r .tag) containerTag) (r .f6) 0
 
 abbrev pub payloadIn : NodeRecord → ℕ
-payloadIn r = cond (eqb (r .tag) 12) (r .f1) 0
+payloadIn r = cond (eqb (r .tag) listTag) (r .f1) 0
 
 pub record StartsFit (st : Starts) (r : NodeRecord) : Type 0 where
   pub children : st .children + childrenIn r ≤ NONE

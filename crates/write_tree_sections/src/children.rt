@@ -7,6 +7,7 @@ ghost use lib.Dec.{eqb};
 ghost use Rattle.words.specs.Output.{putAt};
 ghost use Rattle.write_tree_sections.specs.Held.{childWords, OrderFits, childrenBy};
 ghost use Rattle.image.specs.Sections.{nodeWords, childSize};
+ghost use Rattle.image.specs.Tags.{containerTag};
 ghost use Rattle.write_tree_sections.specs.Put.{ChildrenPut};
 use draft::source::Source;
 use draft::source::node_at;
@@ -21,7 +22,7 @@ use write_numbering::numbers::new_number;
 
 // How many ordered children a node has.
 fn child_count(node: NodeRecord) -> u32
-    ensures { λ r. ⌜ r ≡ cond (eqb (node .tag) 1) (node .f4) 0 ⌝ }
+    ensures { λ r. ⌜ r ≡ cond (eqb (node .tag) containerTag) (node .f4) 0 ⌝ }
 {
     if node.tag == tag::CONTAINER {
         node.f4

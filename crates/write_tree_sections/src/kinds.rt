@@ -55,6 +55,7 @@ pub fn optional_offset(work: &[u32], at: usize, offset: u32) -> u32
     word(work, at)
 }
 
+// A container: name, flags, where its ordered and its named children start, and their counts.
 fn container(node: NodeRecord, work: &[u32], new: usize, at: usize, starts: Starts) -> NodeRecord
     requires { ⌜ new ≤ length (now work) ⌝ }
     ensures { λ r. ⌜ r ≡ encodedBy (now (work .entry)) new at starts node Container ⌝ }
@@ -70,6 +71,7 @@ fn container(node: NodeRecord, work: &[u32], new: usize, at: usize, starts: Star
     r
 }
 
+// A choice: path, target, flags.
 fn choice(node: NodeRecord, work: &[u32], new: usize, at: usize, starts: Starts) -> NodeRecord
     requires { ⌜ new ≤ length (now work) ⌝ }
     ensures { λ r. ⌜ r ≡ encodedBy (now (work .entry)) new at starts node Choice ⌝ }
@@ -82,6 +84,7 @@ fn choice(node: NodeRecord, work: &[u32], new: usize, at: usize, starts: Starts)
     r
 }
 
+// A divert: path, target, variable, arguments, flags.
 fn divert(node: NodeRecord, work: &[u32], new: usize, at: usize, starts: Starts) -> NodeRecord
     requires { ⌜ (new ≤ length (now work)) × (at ≤ length (now work)) ⌝ }
     ensures { λ r. ⌜ r ≡ encodedBy (now (work .entry)) new at starts node Divert ⌝ }
@@ -97,6 +100,7 @@ fn divert(node: NodeRecord, work: &[u32], new: usize, at: usize, starts: Starts)
     r
 }
 
+// A reference: name, path of its read count, and that count's container.
 fn reference(node: NodeRecord, work: &[u32], new: usize, at: usize, starts: Starts) -> NodeRecord
     requires { ⌜ (new ≤ length (now work)) × (at ≤ length (now work)) ⌝ }
     ensures { λ r. ⌜ r ≡ encodedBy (now (work .entry)) new at starts node Reference ⌝ }

@@ -7,6 +7,7 @@ ghost use lib.Dec.{eqb};
 ghost use Rattle.words.specs.Output.{putAt};
 ghost use Rattle.write_tree_sections.specs.Held.{namedWords, NamedFit, namedBy};
 ghost use Rattle.image.specs.Sections.{nodeWords, textEntrySize};
+ghost use Rattle.image.specs.Tags.{containerTag};
 ghost use Rattle.write_tree_sections.specs.Put.{NamedPut};
 use draft::source::Source;
 use draft::source::node_at;
@@ -21,7 +22,7 @@ use write_numbering::numbers::new_number;
 
 // How many named children a node has.
 fn named_count(node: NodeRecord) -> u32
-    ensures { λ r. ⌜ r ≡ cond (eqb (node .tag) 1) (node .f6) 0 ⌝ }
+    ensures { λ r. ⌜ r ≡ cond (eqb (node .tag) containerTag) (node .f6) 0 ⌝ }
 {
     if node.tag == tag::CONTAINER {
         node.f6

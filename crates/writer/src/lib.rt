@@ -8,6 +8,7 @@ ghost use mathlib.Core.Bool.{true};
 ghost use Rattle.draft.specs.Draft.{tablesRule, writeWords};
 ghost use Rattle.draft.specs.Needs.{wordsFor};
 ghost use Rattle.image.specs.Header.{inkRight, version};
+ghost use Rattle.image.specs.Refusals.{noRoom};
 ghost use Rattle.draft_image.specs.Encode.{imageFor, encodeRule, outAfter, encodeWorkAfter};
 ghost use Rattle.laws.specs.Refusal.{unless};
 ghost use Rattle.write_plan.specs.Planned.{layoutBy};
@@ -72,7 +73,7 @@ fn put_image(
     ensures { λ r. ⌜ (let s =
         draftOf (source .version) (now (nodes .entry)) (now (children .entry)) (now (named .entry)) (now (definitions .entry)) (now (items .entry))
         (now (payload .entry)) (now (strings .entry)) in
-        Answered ink s (unless (fitsOutput ink s (length (now (out .entry)))) 23) (now (out .entry)) (now (out .exit)) r) ⌝ }
+        Answered ink s (unless (fitsOutput ink s (length (now (out .entry)))) noRoom) (now (out .entry)) (now (out .exit)) r) ⌝ }
 {
     let counts = draft::entry_counts(nodes, children, named, definitions, items, payload, source);
     let entries = Entries {

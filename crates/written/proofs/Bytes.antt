@@ -7,6 +7,7 @@ use lib.ListN.{take, drop}
 use lib.Dec.{eqb}
 use Rattle.laws.specs.Counted.{joinOf}
 use Rattle.laws.specs.Lists.{Below, flatMap}
+use Rattle.laws.proofs.Members.{All, all-append}
 use Rattle.words.specs.Words.{bytesOf}
 use Rattle.words.proofs.Words.{below-head, below-tail, bytes-below}
 use Rattle.texts.specs.Text.{ascii, holds}
@@ -19,7 +20,6 @@ use Rattle.image.specs.Encoding.{sectionOut, bodyOf, headerWith, imageOf}
 use Rattle.records.specs.Fields.{Field, text, optional, command, operator, node, optionalNode, container, optionalContainer, plain, atMost, children, named, payload, wrong}
 use Rattle.records.specs.Records.{fieldsAt, numberOfNamed, listItems, listOrigins, listItemWord, listOriginWord}
 use Rattle.tree.specs.Tree.{namedText}
-use Rattle.tree.proofs.Members.{All, all-append}
 use Rattle.index.specs.Paths.{nameless, pieceOf, piece, joined, pathFrom}
 use Rattle.index.specs.Definitions.{numberOfItems, itemTextOf}
 use Rattle.draft.specs.Numbering.{numbering, oldOf}

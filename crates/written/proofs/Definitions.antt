@@ -9,8 +9,9 @@ use lib.ListN.{length}
 use lib.Dec.{leb}
 use borrow.Author.Tests.{eqb-true, eq-eqb, le-leb, leb-true}
 use Rattle.laws.proofs.First.{pass, then, first-of}
+use Rattle.laws.proofs.Flags.{both-true}
+use Rattle.laws.proofs.Members.{and-true, sum-ext}
 use Rattle.image.specs.Sections.{Sections, definitionCount, itemCount, definitionWord, itemWord}
-use Rattle.tree.proofs.Members.{both-true, and-true, sum-ext}
 use Rattle.index.specs.Definitions.{definitionText, firstItem, numberOfItems, itemText, itemTextOf, goodItem, itemsBefore, itemRule, itemRuleFrom, definitionRule, itemsUsedUp, definitionsRule}
 use Rattle.draft_image.specs.Strings.{offsetOf}
 use Rattle.draft_image.specs.Written.{definitionOut, itemOut}

@@ -7,11 +7,11 @@ use lib.Dec.{leb}
 use borrow.Author.Tests.{leb-true}
 use Rattle.laws.specs.Lists.{has}
 use Rattle.laws.proofs.First.{both, passed, first-all}
+use Rattle.laws.proofs.Flags.{both-true}
 use Rattle.words.specs.Words.{NONE}
 use Rattle.image.specs.Sections.{Sections, nodeCount}
 use Rattle.image.specs.Header.{inkRight}
 use Rattle.tree.specs.Tree.{readWalk}
-use Rattle.tree.proofs.Members.{both-true}
 use Rattle.tree.proofs.Numbers.{EachOnce}
 use Rattle.draft.specs.Draft.{newPath, pathRule, pathsRule, tablesRule, reachRule, shapeRule}
 use Rattle.draft.specs.Numbering.{numbering}

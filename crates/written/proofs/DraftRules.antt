@@ -10,17 +10,17 @@ use lib.Dec.{eqb, leb}
 use borrow.Author.Tests.{eq-eqb, ne-eqb, eqb-true, eqb-false, le-leb, leb-true, not-true}
 use Rattle.laws.specs.Refusal.{unless, _▸_, firstOf}
 use Rattle.laws.proofs.First.{both, then, passed, pass, zero-as, first-all, first-of}
+use Rattle.laws.proofs.Flags.{both-true, all-at, all-of}
+use Rattle.laws.proofs.Members.{all-at as has-all}
 use Rattle.words.specs.Words.{NONE, isNone}
 use Rattle.texts.specs.Text.{same}
 use Rattle.texts.proofs.Text.{same-equal, equal-same}
 use Rattle.image.specs.Sections.{Sections, nodeWords, textEntryWords, definitionWords, nodeCount, childCount, namedCount, definitionCount, itemCount, parentOf, placeOf, tagOf, childWord, namedWord, inside, isContainer}
 use Rattle.image.specs.Header.{inkRight}
-use Rattle.image.proofs.Tests.{both-true, all-at, all-of}
 use Rattle.records.specs.Records.{parentRule, fieldsRule, rootRight, usedUp}
 use Rattle.records.proofs.PassedRules.{root, used-up, used-up-of}
 use Rattle.tree.specs.Tree.{childAt, namedAt, entriesRule, allSeen, readWalk}
 use Rattle.tree.specs.Reach.{Reached}
-use Rattle.tree.proofs.Members.{all-at as has-all}
 use Rattle.tree.proofs.Numbers.{read-reached, reached-read}
 use Rattle.tree.proofs.Entries.{children-pass, named-pass, entries-pass}
 use Rattle.index.specs.Paths.{nameless, canonicalPath}

@@ -10,6 +10,8 @@ use lib.Dec.{eqb, ltb}
 use borrow.Author.Tests.{eqb-true, ne-eqb, lt-ltb, ltb-true}
 use Rattle.laws.specs.Counted.{sumOf}
 use Rattle.laws.specs.Lists.{placeIn}
+use Rattle.laws.proofs.Flags.{both-true}
+use Rattle.laws.proofs.Members.{and-true, sum-ext}
 use Rattle.words.specs.Words.{NONE}
 use Rattle.words.proofs.Words.{length-bytes}
 use Rattle.image.specs.Sections.{Sections, nodeCount, parentOf, placeOf, tagOf, f, inside, isContainer}
@@ -20,7 +22,6 @@ use Rattle.records.specs.Records.{fieldsAt, numberOfChildren, numberOfNamed, pa
 use Rattle.draft.specs.Numbering.{oldOf, newOf}
 use Rattle.draft_image.specs.Written.{fieldStart, fieldWords, putFields, moreWords, nodeOut, startIn}
 use Rattle.written.specs.Written.{DraftWords}
-use Rattle.tree.proofs.Members.{both-true, and-true, sum-ext}
 use Rattle.draft_image.proofs.Joins.{sum-below}
 use Rattle.written.proofs.Lists.{not-of}
 use Rattle.tree.proofs.Numbers.{EachOnce, get-below, place-below, get-of-place, place-of-get}

@@ -11,6 +11,7 @@ use borrow.Author.Tests.{eq-eqb, le-leb, ne-eqb}
 use Rattle.laws.specs.Counted.{sumOf, joinOf}
 use Rattle.laws.specs.Lists.{Below}
 use Rattle.laws.proofs.First.{pass, then}
+use Rattle.laws.proofs.Members.{and-true, all-so, sum-ext}
 use Rattle.words.specs.Words.{wordAt, wordsOf, bytesOf}
 use Rattle.words.proofs.Words.{word-back, words-of-bytes, length-bytes}
 use Rattle.texts.specs.Text.{ascii, orderOf, same}
@@ -20,7 +21,6 @@ use Rattle.image.specs.Header.{magic, headerLength, version, sectionAt, viewOf,
 use Rattle.image.specs.Encoding.{countOf, sectionOut, startOf, bodyOf, headerWith, imageOf}
 use Rattle.image.proofs.Widths.{words-some, size-words}
 use Rattle.load.specs.Load.{checksumRule}
-use Rattle.tree.proofs.Members.{and-true, all-so, sum-ext}
 use Rattle.draft_image.proofs.Joins.{sum-below, join-length, join-part}
 use Rattle.written.proofs.Lists.{not-of}
 

@@ -12,11 +12,11 @@ use borrow.Author.Tests.{not-true}
 use Rattle.laws.specs.Counted.{sumOf, those}
 use Rattle.laws.specs.Lists.{placeIn}
 use Rattle.laws.proofs.First.{pass, then, first-of}
+use Rattle.laws.proofs.Members.{and-true, or-left, all-of, All, all-map, all-append, sum-ext}
 use Rattle.texts.specs.Text.{before, same, rising}
 use Rattle.texts.proofs.Text.{same-self, same-turned, same-unlike, unlike-before}
 use Rattle.image.specs.Sections.{Sections, nodeCount, indexCount, indexWord, isContainer}
 use Rattle.records.specs.Records.{containerOf, containersBefore}
-use Rattle.tree.proofs.Members.{and-true, or-left, all-of, All, all-map, all-append, sum-ext}
 use Rattle.index.specs.Paths.{canonicalPath, fitsPath, fits}
 use Rattle.index.specs.Index.{indexText, indexEntryRule, indexRule}
 use Rattle.draft.specs.Draft.{newPath}

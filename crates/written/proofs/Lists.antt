@@ -9,7 +9,7 @@ use lib.ListN.{set}
 use lib.Seq.{sets}
 use Rattle.laws.specs.Counted.{joinOf}
 use Rattle.laws.specs.Lists.{Below}
-use Rattle.tree.proofs.Members.{All, all-append}
+use Rattle.laws.proofs.Members.{All, all-append}
 
 -- ---- tests
 

@@ -8,13 +8,14 @@ use lib.ListN.{length}
 use lib.Dec.{leb}
 use borrow.Author.Tests.{eq-eqb, le-leb, leb-true}
 use Rattle.laws.proofs.First.{pass, then, first-of}
+use Rattle.laws.proofs.Flags.{both-true}
+use Rattle.laws.proofs.Members.{and-true}
 use Rattle.words.specs.Words.{NONE}
 use Rattle.texts.specs.Dots.{dot}
 use Rattle.image.specs.Sections.{Sections, nodeCount}
 use Rattle.image.specs.Header.{version, inkRight, headerRule, sectionsOf}
 use Rattle.image.specs.Encoding.{imageOf}
 use Rattle.records.specs.Records.{nodeRule}
-use Rattle.tree.proofs.Members.{both-true, and-true}
 use Rattle.index.specs.Paths.{canonicalPath}
 use Rattle.load.specs.Load.{checksumRule, leftoverRule, recordsRule, sectionsRule, loadWords, loadRule}
 use Rattle.draft.specs.Numbering.{numbering}

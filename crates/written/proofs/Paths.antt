@@ -9,6 +9,7 @@ use lib.Dec.{eqb}
 use borrow.Author.Tests.{eqb-true, eqb-false, eq-eqb, ne-eqb}
 use Rattle.laws.specs.Lists.{flatMap, placeIn}
 use Rattle.laws.proofs.First.{both, passed}
+use Rattle.laws.proofs.Flags.{both-true}
 use Rattle.words.specs.Words.{NONE}
 use Rattle.words.proofs.Words.{below-none, below-cons}
 use Rattle.texts.specs.Text.{holds}
@@ -19,7 +20,6 @@ use Rattle.image.proofs.GoodBytes.{good-empty, good-append, good-ascii}
 use Rattle.image.specs.Sections.{Sections, nodeCount, parentOf, placeOf, tagOf, f, textAt, goodText, absent, inside, isContainer, goodBytes}
 use Rattle.records.specs.Fields.{kinds, kindOf, fields}
 use Rattle.records.specs.Records.{fieldRule, firstField}
-use Rattle.tree.proofs.Members.{both-true}
 use Rattle.index.specs.Paths.{nameless, pieceOf, piece, joined, pathFrom, canonicalPath}
 use Rattle.draft.specs.Numbering.{oldOf}
 use Rattle.draft_image.specs.Strings.{textIf, fieldTexts, offsetOf}

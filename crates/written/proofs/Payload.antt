@@ -11,6 +11,8 @@ use borrow.Author.Tests.{eqb-true}
 use Rattle.laws.specs.Counted.{sumOf, joinOf}
 use Rattle.laws.specs.Lists.{flatMap}
 use Rattle.laws.proofs.First.{both, passed}
+use Rattle.laws.proofs.Flags.{both-true}
+use Rattle.laws.proofs.Members.{All, all-append}
 use Rattle.words.specs.Words.{NONE, wordAt, bytesOf}
 use Rattle.words.proofs.Words.{word-at, word-below, words-of-bytes, length-bytes}
 use Rattle.image.specs.Sections.{Sections, nodeCount, tagOf, f, textAt, absent}
@@ -19,7 +21,6 @@ use Rattle.records.specs.Records.{fieldRule, firstField, payloadRule, payloadLe
 use Rattle.draft.specs.Numbering.{oldOf}
 use Rattle.draft_image.specs.Strings.{offsetOf}
 use Rattle.draft_image.specs.Written.{listItemOut, listOriginOut, listOut, payloadOut, writtenWith}
-use Rattle.tree.proofs.Members.{both-true, All, all-append}
 use Rattle.draft_image.proofs.Joins.{join-read, join-len, even-read, even-len}
 use Rattle.written.proofs.Lists.{all-joined, all-below}
 use Rattle.written.proofs.Texts.{offset-le, text-short}

@@ -11,6 +11,8 @@ use Rattle.laws.specs.Refusal.{unless}
 use Rattle.laws.specs.Counted.{sumOf, allOf, joinOf}
 use Rattle.laws.specs.Lists.{flatMap, placeIn}
 use Rattle.laws.proofs.First.{both, then, pass, passed, first-all, first-of}
+use Rattle.laws.proofs.Flags.{both-true}
+use Rattle.laws.proofs.Members.{and-true, or-left, or-right, all-of, sum-ext}
 use Rattle.words.specs.Words.{NONE, isNone}
 use Rattle.texts.specs.Text.{holds}
 use Rattle.names.specs.Names.{commands, operators}
@@ -20,7 +22,6 @@ use Rattle.records.specs.Records.{fieldsAt, numberOfChildren, numberOfNamed, pa
 use Rattle.draft.specs.Numbering.{oldOf, newOf}
 use Rattle.draft_image.specs.Strings.{textIf, listTexts, fieldTexts, offsetOf}
 use Rattle.draft_image.specs.Written.{fieldStart, fieldWords, listItemOut, listOriginOut, listOut, writtenWith}
-use Rattle.tree.proofs.Members.{both-true, and-true, or-left, or-right, all-of, sum-ext}
 use Rattle.draft_image.proofs.Joins.{sum-below}
 use Rattle.written.proofs.Lists.{or-else, not-of}
 use Rattle.written.proofs.Texts.{in-left, in-right, in-one, in-join, good-text, text-back, text-good}

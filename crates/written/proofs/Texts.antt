@@ -12,6 +12,8 @@ use lib.Dec.{leb}
 use borrow.Author.Tests.{ne-eqb, le-leb, leb-true}
 use Rattle.laws.specs.Counted.{joinOf}
 use Rattle.laws.specs.Lists.{flatMap}
+use Rattle.laws.proofs.Flags.{both-true}
+use Rattle.laws.proofs.Members.{and-true, or-left, or-right}
 use Rattle.words.specs.Words.{NONE}
 use Rattle.texts.specs.Text.{same, holds}
 use Rattle.texts.proofs.Text.{same-self, same-equal}
@@ -21,7 +23,6 @@ use Rattle.tree.specs.Tree.{namedText}
 use Rattle.index.specs.Definitions.{definitionText, numberOfItems, itemTextOf}
 use Rattle.draft.specs.Numbering.{oldOf}
 use Rattle.draft_image.specs.Strings.{byPath, pathOf, nodeTexts, namedTexts, definitionTexts, uses, distinct, storedTexts, offsetOf}
-use Rattle.tree.proofs.Members.{both-true, and-true, or-left, or-right}
 
 -- ---- texts that a list holds
 

@@ -9,13 +9,13 @@ use borrow.Author.Tests.{eq-eqb}
 use Rattle.laws.specs.Counted.{sumOf}
 use Rattle.laws.specs.Lists.{placeIn}
 use Rattle.laws.proofs.First.{then, pass}
+use Rattle.laws.proofs.Members.{and-true, all-at}
 use Rattle.texts.specs.Text.{rising}
 use Rattle.image.specs.Sections.{Sections, nodeCount, parentOf, placeOf, f, childWord, namedWord}
 use Rattle.records.specs.Fields.{fields}
 use Rattle.records.specs.Records.{numberOfChildren, numberOfNamed}
 use Rattle.tree.specs.Tree.{childAt, namedAt, namedText, childRule, namedRule, entriesRule, readWalk, treeRule}
 use Rattle.tree.specs.Reach.{Reached, root, child, named}
-use Rattle.tree.proofs.Members.{and-true, all-at}
 use Rattle.tree.proofs.Entries.{children-pass, named-pass, entries-pass, child-container, named-container}
 use Rattle.tree.proofs.Numbers.{read-reached}
 use Rattle.tree.proofs.PlainTree.{right-tree}

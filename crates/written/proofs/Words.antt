@@ -7,6 +7,8 @@ use lib.ListN.{length, getD, replicate}
 use lib.Seq.{sets}
 use Rattle.laws.specs.Counted.{sumOf}
 use Rattle.laws.specs.Lists.{placeIn}
+use Rattle.laws.proofs.Members.{All, all-append}
+use Rattle.laws.proofs.Places.{place-le}
 use Rattle.words.specs.Words.{NONE, isNone}
 use Rattle.words.proofs.Words.{below-at}
 use Rattle.image.specs.Sections.{Sections, nodeWords, textEntryWords, definitionWords, nodeCount, definitionCount, itemCount, nodeWord, parentOf, f, namedWord, definitionWord, itemWord, absent}
@@ -15,13 +17,11 @@ use Rattle.image.specs.Encoding.{startOf}
 use Rattle.records.specs.Fields.{Field, text, optional, command, operator, node, optionalNode, container, optionalContainer, plain, atMost, children, named, payload, wrong}
 use Rattle.records.specs.Records.{fieldsAt, numberOfChildren, numberOfNamed, payloadLengthOf}
 use Rattle.tree.specs.Tree.{childAt, namedAt}
-use Rattle.tree.proofs.Members.{All, all-append}
 use Rattle.draft.specs.Numbering.{oldOf, newOf}
 use Rattle.draft_image.specs.Strings.{byPath, pathOf}
 use Rattle.draft_image.specs.Written.{fieldStart, fieldWords, putFields, moreWords, nodeOut, childrenOut, namedOut, definitionOut, itemOut, indexOut, startIn, writtenWith}
 use Rattle.draft_image.proofs.Joins.{sum-below}
 use Rattle.written.proofs.Lists.{all-joined, all-sets, all-below}
-use Rattle.tree.proofs.Places.{place-le}
 use Rattle.written.proofs.Header.{Whole}
 use Rattle.written.proofs.Draft.{taken, numbered}
 use Rattle.written.proofs.Texts.{stored, offset-inside}

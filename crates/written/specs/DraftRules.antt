@@ -8,6 +8,7 @@ use lib.ListN.{length}
 use Rattle.words.specs.Words.{NONE}
 use Rattle.texts.specs.Text.{rising}
 use Rattle.image.specs.Sections.{Sections, nodeWords, textEntryWords, definitionWords, nodeCount, childCount, namedCount, definitionCount, itemCount, parentOf, placeOf, tagOf, childWord, namedWord, definitionWord, itemWord, isContainer}
+use Rattle.image.specs.Tags.{containerTag}
 use Rattle.records.specs.Fields.{Field}
 use Rattle.records.specs.Records.{fieldsAt, numberOfChildren, numberOfNamed, childrenBefore, namedBefore, payloadBefore}
 use Rattle.tree.specs.Reach.{Reached}
@@ -51,7 +52,7 @@ pub record TablesRight (s : Sections) : Type 0 where
 pub record ShapeRight (s : Sections) : Type 0 where
   pub root-parent : parentOf s 0 ≡ NONE
   pub root-place : placeOf s 0 ≡ NONE
-  pub root-container : tagOf s 0 ≡ 1
+  pub root-container : tagOf s 0 ≡ containerTag
   pub parents : (i : ℕ) → i < nodeCount s → 0 < i → ParentRight s i
   pub child : (i : ℕ) → i < nodeCount s → (j : ℕ) → j < numberOfChildren s i → ChildRight s i j
   pub entry : (i : ℕ) → i < nodeCount s → (j : ℕ) → j < numberOfNamed s i → NamedRight s i j

@@ -8,13 +8,13 @@ use lib.ListN.{length}
 use lib.Ieee.{binary32, ofBits}
 use lib.Dec.{leb, eqb}
 use borrow.Author.Tests.{le-leb, leb-true}
+use Rattle.laws.proofs.Flags.{both-true}
 use Rattle.names.specs.declared.control_command.CommandType.{CommandType}
 use Rattle.names.specs.declared.native_function_call.Op.{Op}
 use Rattle.names.specs.ControlCommand.{commandNamed}
 use Rattle.names.specs.NativeFunctionCall.{operatorNamed}
 use Rattle.image.specs.Sections.{Sections, f, present, textAt, textOrEmpty}
 use Rattle.image.specs.Entries.{nodeIn}
-use Rattle.image.proofs.Tests.{both-true}
 use Rattle.image.proofs.Parts.{text-inside}
 use Rattle.records.specs.Fields.{Kind, Container, Choice, Command, Divert, Glue, Operator, Tag, BoolValue, IntValue, FloatValue, StringValue, ListValue, TargetValue, PointerValue, Assignment, Reference, Void, Unknown, Field, fields}
 use Rattle.draft.specs.Numbering.{newOf}

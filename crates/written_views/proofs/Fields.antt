@@ -7,11 +7,11 @@ use mathlib.Core.Bool.{true}
 use native.Mathlib.Omega.{arith}
 use Rattle.laws.specs.Lists.{flatMap}
 use Rattle.laws.proofs.First.{both, passed}
+use Rattle.laws.proofs.Flags.{both-true}
 use Rattle.texts.specs.Text.{holds}
 use Rattle.image.specs.Sections.{Sections, nodeCount, tagOf, f}
 use Rattle.records.specs.Fields.{Field, text, optional, command, operator, node, optionalNode, container, optionalContainer, plain, atMost, children, named, payload, wrong}
 use Rattle.records.specs.Records.{fieldsAt, payloadLengthOf, fieldRule, firstField}
-use Rattle.tree.proofs.Members.{both-true}
 use Rattle.draft.specs.Numbering.{oldOf}
 use Rattle.draft_image.specs.Strings.{fieldTexts}
 use Rattle.draft_image.specs.Written.{fieldStart, fieldWords}

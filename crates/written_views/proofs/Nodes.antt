@@ -6,9 +6,9 @@ use mathlib.Core.Bool.{Bool, true, false, cond}
 use native.Mathlib.Omega.{arith}
 use lib.ListN.{length}
 use borrow.Author.Tests.{lt-ltb}
+use Rattle.laws.proofs.Flags.{both-true}
 use Rattle.image.specs.Sections.{Sections, nodeCount, childCount, namedCount, parentOf, placeOf, tagOf, f, inside, isContainer, insideContainer}
 use Rattle.image.specs.Entries.{nodeIn}
-use Rattle.image.proofs.Tests.{both-true}
 use Rattle.records.specs.Fields.{Kind, fields, kindOf}
 use Rattle.records.specs.Records.{numberOfNamed}
 use Rattle.records.proofs.PassedRules.{ranges}

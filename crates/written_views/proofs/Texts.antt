@@ -8,16 +8,16 @@ use lib.ListN.{length}
 use lib.Dec.{leb}
 use borrow.Author.Tests.{eqb-true, eq-eqb, ne-eqb}
 use Rattle.laws.specs.Lists.{placeIn}
+use Rattle.laws.proofs.Flags.{both-true}
+use Rattle.laws.proofs.Places.{place-le}
 use Rattle.words.specs.Words.{NONE, isNone}
 use Rattle.texts.specs.Text.{holds}
 use Rattle.image.specs.Sections.{Sections, textAt, partAt, present, absent, goodIn, goodText, goodOptional, goodBytes}
-use Rattle.tree.proofs.Members.{both-true}
 use Rattle.draft.specs.Numbering.{oldOf, newOf}
 use Rattle.draft_image.specs.Strings.{textIf, offsetOf}
 use Rattle.views.specs.declared.OptionalWord.the-variants as word
 use Rattle.views.specs.View.{span, shown, optionalText, optionalWord}
 use Rattle.written.proofs.Lists.{or-else}
-use Rattle.tree.proofs.Places.{place-le}
 use Rattle.written.proofs.Texts.{in-one, good-text, good-length}
 use Rattle.draft_image.proofs.Blocks.{w}
 use Rattle.written.proofs.Fields.{Given, few, new-is, new-in, old-in, old-new, new-old, new-zero}

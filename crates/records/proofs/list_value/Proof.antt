@@ -1,6 +1,6 @@
 -- `records::list_value` meets its contract.
 use borrow.Author.Needs.{needs}
-use Rattle.records.proofs.Tests.{stop-unequal, go-equal}
+use Rattle.laws.proofs.Chains.{stop-unequal, go-equal}
 use Rattle.records.specs.Shown.{listRule}
 use Rattle.records.proofs.list_value.Statement.{statement}
 use Rattle.records.proofs.list_value.Tie as tie

@@ -6,8 +6,8 @@ use native.Mathlib.Omega.{arith}
 use native.Mathlib.Nat.{lt-of-lt-of-le}
 use borrow.Author.Tests.{not-true, not-false}
 use Rattle.laws.specs.Counted.{allOf}
+use Rattle.laws.proofs.Flags.{all-next, all-fails}
 use Rattle.image.specs.Sections.{Sections}
-use Rattle.image.proofs.Tests.{all-next, all-fails}
 use Rattle.draft.specs.Draft.{placed}
 use Rattle.write_paths.proofs.ContainerLoops.{placed-here}
 use borrow.Author.Needs.{needs}

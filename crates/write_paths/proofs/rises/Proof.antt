@@ -5,9 +5,9 @@ use mathlib.Core.Bool.{true}
 use native.Mathlib.Omega.{arith}
 use lib.ListN.{getD}
 use borrow.Author.Tests.{not-true, not-false}
-use Rattle.image.proofs.Tests.{all-next, all-fails}
 use Rattle.write_paths.proofs.NodeList.{all-less, rises-at}
 use Rattle.laws.specs.Counted.{allOf}
+use Rattle.laws.proofs.Flags.{all-next, all-fails}
 use Rattle.texts.specs.Text.{rising}
 use Rattle.write_text_keys.specs.Keys.{keyIn}
 use borrow.Author.Needs.{needs}

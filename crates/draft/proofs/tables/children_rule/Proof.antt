@@ -6,7 +6,7 @@ use native.Mathlib.Omega.{arith}
 use lib.ListN.{length}
 use borrow.Author.Needs.{needs}
 use Rattle.laws.specs.Refusal.{firstOf}
-use Rattle.index.proofs.RuleRuns.{run-starts, run-ends}
+use Rattle.laws.proofs.RuleRuns.{run-starts, run-ends}
 use Rattle.image.specs.Sections.{nodeWords}
 use Rattle.draft.specs.Source.{draftOf}
 use Rattle.draft.specs.Draft.{draftChildRule}

@@ -2,7 +2,8 @@
 use mathlib.Core.Path.{refl}
 use borrow.Author.Needs.{needs}
 use borrow.Author.Tests.{eq-eqb, ne-eqb}
-use Rattle.records.proofs.Tests.{stop, go, past-end, in-end}
+use Rattle.laws.proofs.Chains.{stop, go}
+use Rattle.records.proofs.Tests.{past-end, in-end}
 use Rattle.draft.proofs.EntryTables.{last-yes, last-no}
 use Rattle.draft.proofs.tables.definition_rule.Statement.{statement}
 use Rattle.draft.proofs.tables.definition_rule.Tie as tie

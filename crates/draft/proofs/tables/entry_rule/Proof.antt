@@ -1,7 +1,7 @@
 -- `draft::tables::entry_rule` meets its contract.
 use mathlib.Core.Path.{refl}
 use borrow.Author.Needs.{needs}
-use Rattle.records.proofs.Tests.{stop, go}
+use Rattle.laws.proofs.Chains.{stop, go}
 use Rattle.draft.proofs.EntryTables.{last-yes, last-no}
 use Rattle.draft.proofs.tables.entry_rule.Statement.{statement}
 use Rattle.draft.proofs.tables.entry_rule.Tie as tie

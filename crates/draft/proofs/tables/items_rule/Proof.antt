@@ -5,7 +5,7 @@ use mathlib.Core.List.{[]}
 use native.Mathlib.Omega.{arith}
 use borrow.Author.Needs.{needs}
 use Rattle.laws.specs.Refusal.{firstOf}
-use Rattle.index.proofs.RuleRuns.{run-starts, run-ends}
+use Rattle.laws.proofs.RuleRuns.{run-starts, run-ends}
 use Rattle.draft.specs.Source.{draftOf}
 use Rattle.draft.specs.Draft.{draftItemRule}
 use Rattle.draft.proofs.EntryTables.{item-told, test-stops, test-goes}

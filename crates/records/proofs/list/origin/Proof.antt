@@ -1,7 +1,7 @@
 -- `records::list::origin` meets its contract.
 use mathlib.Core.Path.{refl, _∙_}
 use borrow.Author.Needs.{needs}
-use Rattle.records.proofs.Tests.{stop-last, go-last}
+use Rattle.laws.proofs.Chains.{stop-last, go-last}
 use Rattle.records.proofs.Lists.{origin-rule}
 use Rattle.records.proofs.list.origin.Statement.{statement}
 use Rattle.records.proofs.list.origin.Tie as tie
