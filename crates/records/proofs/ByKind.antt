@@ -3,14 +3,14 @@ use Prim.Native.Nat.{ℕ, suc, _+_, _≤_, _<_}
 use mathlib.Core.Path.{_≡_, refl, sym, ap, _∙_}
 use mathlib.Core.Logic.{_⊎_, inl, inr, ⊎-elim}
 use mathlib.Core.Bool.{Bool, true, false, cond, not, _&&_, _||_}
-use mathlib.Core.List.{List}
+use mathlib.Core.List.{List, [], _∷_}
 use native.Mathlib.Omega.{arith}
 use native.Mathlib.Decide.{decLt}
 use native.Mathlib.Nat.{eq-or-lt-of-le}
-use lib.ListN.{length, List·getD-eq-default}
-use lib.Dec.{leb, eqb}
-use borrow.Author.Tests.{eq-eqb, ne-eqb, eqb-true, not-true, not-false}
-use Rattle.laws.proofs.Flags.{up}
+use lib.ListN.{length}
+use lib.Dec.{leb, ltb, eqb}
+use borrow.Author.Tests.{eq-eqb, ne-eqb, eqb-true, ltb-true, not-true, not-false}
+use Rattle.laws.proofs.Flags.{up, both-true}
 use Rattle.laws.specs.Refusal.{unless, _▸_, firstOf}
 use Rattle.laws.proofs.First.{first-all, passed}
 use Rattle.laws.proofs.Chains.{skip, last}
@@ -21,16 +21,27 @@ use Rattle.image.specs.Sections.{Sections, nodeCount, tagOf, parentOf, f, insid
 use Rattle.image.specs.Tags.{containerTag}
 use Rattle.records.specs.declared.Counts.{Counts}
 use Rattle.records.specs.declared.Sums.{Sums}
-use Rattle.records.specs.Fields.{Kind, Container, Choice, Command, Divert, Glue, Operator, Tag, BoolValue, IntValue, FloatValue, StringValue, ListValue, TargetValue, PointerValue, Assignment, Reference, Void, Unknown, kinds, kindOf, fields, targetAmong}
+use Rattle.records.specs.Fields.{Kind, Container, Choice, Command, Divert, Glue, Operator, Tag, BoolValue, IntValue, FloatValue, StringValue, ListValue, TargetValue, PointerValue, Assignment, Reference, Void, Unknown, kindTable, kindIn, kinds, kindOf, fields, targetAmong}
 use Rattle.records.specs.Records.{fieldWord, targetIn, targetOf, fieldRule, firstField, fieldsRule, parentRule, rootRight, usedUp, payloadRule, listItemRule, listOriginRule, listWord}
 use Rattle.records.specs.Shown.{countsOf, sumsBefore, tagIn, Shows, ShowsParent, containerAmong, containerRule, choiceRule, divertRule, textRule, targetRule, assignmentRule, referenceRule, listRule, fieldsBy, parentBy, rootBy, sumsAfter, usedUpBy}
 
 -- ---- kinds and targets
 
+-- every tag of the rows is below n
+unfoldable tagsBelow : ℕ → List (ℕ × Kind) → Bool
+tagsBelow n [] = true
+tagsBelow n (row ∷ rows) = ltb (row .0) n && tagsBelow n rows
+
+past-rows : (n t : ℕ) (rows : List (ℕ × Kind)) → tagsBelow n rows ≡ true → n ≤ t → kindIn rows t ≡ Unknown
+unfolding tagsBelow kindIn
+past-rows n t [] e h = refl
+past-rows n t (row ∷ rows) e h =
+    let both = both-true (ltb (row .0) n) (tagsBelow n rows) e in
+    rw (ne-eqb t (row .0) (λ q. omega (arith, ltb-true (row .0) n (both .0)))) (past-rows n t rows (both .1) h)
+
 -- a number past the tags
 pub past-kinds : (t : ℕ) → 19 ≤ t → kindOf t ≡ Unknown
-unfolding kinds
-past-kinds t h = List·getD-eq-default kinds Unknown {n = t} h
+past-kinds t h = past-rows 19 t kindTable (unfold tagsBelow kinds in refl) h
 
 -- f2 of tags 2, 4 and 13
 pub target-second : (r : NodeRecord) (t : ℕ) → (t ≡ 2) ⊎ ((t ≡ 4) ⊎ (t ≡ 13)) → r .f2 ≡ targetIn r (kindOf t)

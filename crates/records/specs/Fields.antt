@@ -1,7 +1,9 @@
 -- The kinds of nodes by tag, and what each kind has in its fields.
 use Prim.Native.Nat.{ℕ}
 use mathlib.Core.List.{List, [], _∷_}
-use lib.ListN.{getD}
+use mathlib.Core.Bool.{cond}
+use lib.Dec.{eqb}
+use Rattle.image.specs.Tags.{containerTag, choiceTag, commandTag, divertTag, glueTag, operatorTag, tagTag, boolTag, intTag, floatTag, stringTag, listTag, targetTag, pointerTag, assignmentTag, referenceTag, voidTag}
 
 -- FORMAT.md's kinds, in the order of their tags
 pub data Kind : Type 0 where
@@ -9,52 +11,40 @@ pub data Kind : Type 0 where
   -- no tag of a node
   Unknown : Kind
 
--- by tag, from 0 on
-unfoldable pub kinds : List Kind
-kinds =
-    -- 0
-    Unknown
-    -- 1
-    ∷ Container
-    -- 2
-    ∷ Choice
-    -- 3
-    ∷ Command
-    -- 4
-    ∷ Divert
-    -- 5
-    ∷ Glue
-    -- 6
-    ∷ Operator
-    -- 7
-    ∷ Tag
-    -- 8
-    ∷ BoolValue
-    -- 9
-    ∷ IntValue
-    -- 10
-    ∷ FloatValue
-    -- 11
-    ∷ StringValue
-    -- 12
-    ∷ ListValue
-    -- 13
-    ∷ TargetValue
-    -- 14
-    ∷ PointerValue
-    -- 15
-    ∷ Unknown
-    -- 16
-    ∷ Assignment
-    -- 17
-    ∷ Reference
-    -- 18
-    ∷ Void
+-- each tag with its kind
+unfoldable pub kindTable : List (ℕ × Kind)
+kindTable =
+    (containerTag, Container)
+    ∷ (choiceTag, Choice)
+    ∷ (commandTag, Command)
+    ∷ (divertTag, Divert)
+    ∷ (glueTag, Glue)
+    ∷ (operatorTag, Operator)
+    ∷ (tagTag, Tag)
+    ∷ (boolTag, BoolValue)
+    ∷ (intTag, IntValue)
+    ∷ (floatTag, FloatValue)
+    ∷ (stringTag, StringValue)
+    ∷ (listTag, ListValue)
+    ∷ (targetTag, TargetValue)
+    ∷ (pointerTag, PointerValue)
+    ∷ (assignmentTag, Assignment)
+    ∷ (referenceTag, Reference)
+    ∷ (voidTag, Void)
     ∷ []
 
--- the kind of a tag: 1 to 14 and 16 to 18 have one
+unfoldable pub kindIn : List (ℕ × Kind) → ℕ → Kind
+kindIn [] t = Unknown
+kindIn (row ∷ rows) t = let r = kindIn rows t in cond (eqb t (row .0)) (row .1) r
+
+-- the kind of a tag
 abbrev pub kindOf : ℕ → Kind
-kindOf t = getD kinds t Unknown
+kindOf t = kindIn kindTable t
+
+-- names on an `unfolding` line what a computation with `kindOf` needs
+unfoldable pub kinds : Unit {0}
+unfolding kindTable kindIn
+kinds = tt
 
 -- what stands in a field; a number says at which word it begins, counted from f0
 pub data Field : Type 0 where

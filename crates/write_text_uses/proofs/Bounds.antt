@@ -1,21 +1,19 @@
 -- How many texts a draft uses: at most two a node, one for a container, and no more in a list than its bytes of payload.
 use Prim.Native.Nat.{ℕ, zero, suc, _+_, _*_, _≤_, _<_}
-use mathlib.Core.Path.{_≡_, refl, _∙_, subst}
+use mathlib.Core.Path.{_≡_, refl, sym, _∙_, subst}
 use mathlib.Core.List.{List, [], _∷_, _++_}
 use mathlib.Core.Bool.{Bool, true, false, cond}
 use native.Mathlib.Omega.{arith}
-use native.Mathlib.Nat.{not-suc-le-zero, suc-mul, mul-one}
-use native.Mathlib.Decide.{decLt}
-use lib.ListN.{length, getD, length-append}
+use native.Mathlib.Nat.{suc-mul, mul-one}
+use lib.ListN.{length, length-append}
 use lib.Dec.{eqb}
-use borrow.Author.Tests.{eqb-true, ne-eqb}
+use borrow.Author.Tests.{eqb-true}
 use Rattle.laws.specs.Counted.{sumOf, joinOf}
 use Rattle.laws.specs.Lists.{flatMap}
 use Rattle.laws.proofs.Members.{sum-add, sum-ext}
 use Rattle.image.specs.Sections.{Sections, nodeCount, namedCount, definitionCount, itemCount, tagOf, f, partAt, textAt, absent}
-use Rattle.records.specs.Fields.{Kind, Unknown, kinds, kindOf, fields}
+use Rattle.records.specs.Fields.{Kind, kindTable, kindIn, kinds, kindOf, fields}
 use Rattle.records.specs.Records.{numberOfNamed, payloadLengthOf, containerOf, listItems, listOrigins, listItemWord, listOriginWord}
-use Rattle.records.proofs.ByKind.{past-kinds}
 use Rattle.records.proofs.PassedRules.{payload-range, used-up}
 use Rattle.tree.specs.Tree.{namedText}
 use Rattle.index.specs.Definitions.{definitionText, numberOfItems, itemTextOf}
@@ -84,10 +82,10 @@ module _ (s : Sections) where
     abbrev Most : ℕ → Kind → Type 0
     Most t k = length (flatMap (fieldTexts s i) (fields k)) + cond (eqb t 1) 1 0 ≤ 2 + cond (eqb t 12) (length (listTexts s (f s i 0))) 0
 
-    -- of each tag from n on
-    abbrev Each : ℕ → List Kind → Type 0
-    Each n [] = Unit {0}
-    Each n (k ∷ ks) = Most n k × Each (suc n) ks
+    -- of each tag with its kind
+    abbrev Each : List (ℕ × Kind) → Type 0
+    Each [] = Unit {0}
+    Each (row ∷ rows) = Most (row .0) (row .1) × Each rows
 
     one-text : length (textIf s (f s i 0) (f s i 1) ++ []) ≤ 1
     one-text = omega (arith, length-append (textIf s (f s i 0) (f s i 1)) [], if-one (f s i 0) (f s i 1))
@@ -102,73 +100,25 @@ module _ (s : Sections) where
           if-one (f s i 3) (f s i 4),
         )
 
-    each : Each 0 kinds
+    each : Each kindTable
     unfolding flatMap fieldTexts fields kinds
-    each = (
-      omega arith,
-      (
-        omega (arith, one-text),
-        (
-          omega (arith, one-text),
-          (
-            omega arith,
-            (
-              omega (arith, two-texts),
-              (
-                omega arith,
-                (
-                  omega arith,
-                  (
-                    omega arith,
-                    (
-                      omega arith,
-                      (
-                        omega arith,
-                        (
-                          omega arith,
-                          (
-                            omega arith,
-                            (
-                              omega (arith, length-append (listTexts s (f s i 0)) []),
-                              (
-                                omega arith,
-                                (
-                                  omega arith,
-                                  (
-                                    omega arith,
-                                    (
-                                      omega arith,
-                                      (omega (arith, length-append (textIf s (f s i 2) (f s i 3)) [], if-one (f s i 2) (f s i 3)), (omega arith, tt)),
-                                    ),
-                                  ),
-                                ),
-                              ),
-                            ),
-                          ),
-                        ),
-                      ),
-                    ),
-                  ),
-                ),
-              ),
-            ),
-          ),
-        ),
-      ),
-    )
+    each = (omega (arith, one-text), (omega (arith, one-text), (omega arith, (omega (arith, two-texts), (omega arith, (omega arith, (omega arith, (omega arith, (omega arith, (omega arith, (omega arith, (omega (arith, length-append (listTexts s (f s i 0)) []), (omega arith, (omega arith, (omega arith, (omega (arith, length-append (textIf s (f s i 2) (f s i 3)) [], if-one (f s i 2) (f s i 3)), (omega arith, tt)))))))))))))))))
 
-    nth : (ks : List Kind) (n m : ℕ) → m < length ks → Each n ks → Most (n + m) (getD ks m Unknown)
-    nth [] n m h a = absurd (not-suc-le-zero h)
-    nth (k ∷ ks) n zero h a = let e : n ≡ n + 0 = omega arith in subst (λ (t : ℕ). Most t k) e (a .0)
-    nth (k ∷ ks) n (suc m) h a =
-        let e : suc n + m ≡ n + suc m = omega arith in subst (λ (t : ℕ). Most t (getD ks m Unknown)) e (nth ks (suc n) m (omega arith) (a .1))
+    most-in : (rows : List (ℕ × Kind)) (t : ℕ) → Each rows → Most t (kindIn rows t)
+    unfolding kindIn flatMap fieldTexts fields
+    most-in [] t a = few (eqb t 1)
+      where
+        few : (b : Bool) → cond b 1 0 ≤ 2 + cond (eqb t 12) (length (listTexts s (f s i 0))) 0
+        few true = omega arith
+        few false = omega arith
+    most-in (row ∷ rows) t a = by (eqb t (row .0)) refl
+      where
+        by : (b : Bool) → eqb t (row .0) ≡ b → Most t (cond b (row .1) (kindIn rows t))
+        by true e = subst (λ (x : ℕ). Most x (row .1)) (sym (eqb-true t (row .0) e)) (a .0)
+        by false e = most-in rows t (a .1)
 
     most : (t : ℕ) → Most t (kindOf t)
-    most t = side (decLt t 19)
-      where
-        side : Dec (t < 19) → Most t (kindOf t)
-        side (yes l) = let e : 0 + t ≡ t = omega arith in subst (λ (x : ℕ). Most x (kindOf t)) e (nth kinds 0 t (unfold kinds in l) each)
-        side (no l) = rw (past-kinds t (omega arith)) (unfold flatMap fieldTexts fields in rw (ne-eqb t 1 (λ e. omega arith)) (omega arith))
+    most t = most-in kindTable t each
 
   module _ (t : Tables s) where
     node-most : (i : ℕ) → i < nodeCount s → length (nodeTexts s i) + containerOf s i ≤ 2 + payloadLengthOf s i

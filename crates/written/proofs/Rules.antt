@@ -4,7 +4,7 @@ use mathlib.Core.Path.{_≡_, refl, sym, ap, _∙_}
 use mathlib.Core.List.{List, [], _∷_, _++_}
 use mathlib.Core.Bool.{Bool, true, false, cond, _&&_, _||_, not}
 use native.Mathlib.Omega.{arith}
-use lib.ListN.{length, getD, List·getD-eq-default}
+use lib.ListN.{length, getD}
 use lib.Dec.{eqb, leb, ltb}
 use borrow.Author.Tests.{eqb-false, eq-eqb, ne-eqb, le-leb, ltb-true, ltb-false, not-true}
 use Rattle.laws.specs.Refusal.{unless}
@@ -17,8 +17,9 @@ use Rattle.words.specs.Words.{NONE, isNone}
 use Rattle.texts.specs.Text.{holds}
 use Rattle.names.specs.Names.{commands, operators}
 use Rattle.image.specs.Sections.{Sections, nodeCount, childCount, namedCount, parentOf, placeOf, tagOf, f, textAt, goodText, absent, goodOptional, inside, isContainer, insideContainer, goodBytes}
-use Rattle.records.specs.Fields.{Field, text, optional, command, operator, node, optionalNode, container, optionalContainer, plain, atMost, children, named, payload, wrong, Unknown, kinds, kindOf, fields}
+use Rattle.records.specs.Fields.{Field, text, optional, command, operator, node, optionalNode, container, optionalContainer, plain, atMost, children, named, payload, wrong, kinds, kindOf, fields}
 use Rattle.records.specs.Records.{fieldsAt, numberOfChildren, numberOfNamed, payloadLengthOf, listWord, listItems, listOrigins, listItemWord, listOriginWord, listItemRule, listOriginRule, payloadRule, fieldRule, firstField, fieldsRule, parentRule, nodeRule, rootRight, usedUp}
+use Rattle.records.proofs.ByKind.{past-kinds}
 use Rattle.draft.specs.Numbering.{oldOf, newOf}
 use Rattle.draft_image.specs.Strings.{textIf, listTexts, fieldTexts, offsetOf}
 use Rattle.draft_image.specs.Written.{fieldStart, fieldWords, listItemOut, listOriginOut, listOut, writtenWith}
@@ -57,7 +58,7 @@ suited tag = go (ltb tag 19) refl
   where
     go : (b : Bool) → ltb tag 19 ≡ b → all-suit tag (fields (kindOf tag)) ≡ true
     go true e = all-of 19 (λ t. all-suit t (fields (kindOf t))) (unfold allOf in refl) tag (ltb-true tag 19 e)
-    go false e = rw (List·getD-eq-default kinds Unknown {n = tag} (ltb-false tag 19 e)) refl
+    go false e = rw (past-kinds tag (ltb-false tag 19 e)) refl
 
 module _ {s : Sections} {order : List ℕ} {kept : List (List ℕ)} (g : Given s order kept) where
   abbrev v : Sections
