@@ -16,7 +16,7 @@ use mir.Syntax.{w32}
 use Rattle.words.specs.Words.{NONE, wordAt}
 use Rattle.views.specs.declared.Span.{Span}
 use Rattle.lookups.specs.declared.ListItem.{ListItem}
-use Rattle.answers.specs.AnswerWords.{Answered, numberOf, answerAfter, unsigned, countWords, listItemWords, partWords, listCountWords}
+use Rattle.answers.specs.AnswerWords.{Answered, numberOf, answerAfter, unsigned, countWords, foundItemWords, partWords, listCountWords}
 use Rattle.answers.proofs.Bits.{field-bits}
 
 -- a turn of the loop
@@ -73,14 +73,14 @@ pub count-some : (n : ℕ) → n ≤ NONE → some (n ∷ []) ≡ countWords n
 count-some n h = sym (ap (λ (b : Bool). cond b (some (n ∷ [])) none) (le-leb n NONE h))
 
 module _ (i : ListItem) where
-  pub definition-past : NONE < i .definition → none ≡ listItemWords i
+  pub definition-past : NONE < i .definition → none ≡ foundItemWords i
   definition-past h = rw (lt-leb (i .definition) NONE h)
 
-  pub item-past : i .definition ≤ NONE → NONE < i .item → none ≡ listItemWords i
+  pub item-past : i .definition ≤ NONE → NONE < i .item → none ≡ foundItemWords i
   item-past k h = rw (le-leb (i .definition) NONE k, lt-leb (i .item) NONE h)
 
   pub item-some : i .definition ≤ NONE → i .item ≤ NONE → (v : ℕ) → mag (i .value) < 2147483648 → v ≡ unsigned (toZ w32 (ofZ w32 (i .value)))
-      → some (i .definition ∷ i .item ∷ v ∷ []) ≡ listItemWords i
+      → some (i .definition ∷ i .item ∷ v ∷ []) ≡ foundItemWords i
   item-some k h v small e = rw (le-leb (i .definition) NONE k, le-leb (i .item) NONE h, field-bits (i .value) v small e)
 
 module _ (bytes section : ℕ) (t : Span) where

@@ -29,7 +29,7 @@ use Rattle.views.specs.declared.KindAnswer.the-variants as kindly
 use Rattle.views.specs.declared.NodeAnswer.the-variants as node
 use Rattle.views.specs.View.{span, shown, withText, ofCommand, ofOperator, kindView, withKind, recordView, nodeView}
 use Rattle.answers.specs.NodeViewWords.{listOfKind, listPlace}
-use Rattle.answers.specs.RecordWords.{placeIn}
+use Rattle.answers.specs.RecordWords.{listPlaceIn}
 
 -- ---- which kind is a list
 
@@ -126,7 +126,7 @@ module _ (strings : List ℕ) (payload : ℕ) (r : NodeRecord) where
   kind-place Void = refl
   kind-place Unknown = refl
 
-  pub record-place : placeIn payload r ≡ listPlace (recordView strings payload r)
+  pub record-place : listPlaceIn payload r ≡ listPlace (recordView strings payload r)
   unfolding recordView
   record-place =
       ap (λ (b : Bool). cond b place none) (sym (list-tag (r .tag)))
@@ -140,13 +140,13 @@ module _ (strings : List ℕ) (payload : ℕ) (r : NodeRecord) where
 -- ---- what the code answers
 
 module _ (payload : ℕ) (r : NodeRecord) where
-  pub no-list : (r .tag ≡ 12 → ⊥) → none ≡ placeIn payload r
+  pub no-list : (r .tag ≡ 12 → ⊥) → none ≡ listPlaceIn payload r
   no-list d = rw (ne-eqb (r .tag) 12 d)
 
-  pub outside-payload : r .tag ≡ 12 → payload < r .f0 + r .f1 → none ≡ placeIn payload r
+  pub outside-payload : r .tag ≡ 12 → payload < r .f0 + r .f1 → none ≡ listPlaceIn payload r
   outside-payload e h = rw (eq-eqb (r .tag) 12 e, lt-leb (r .f0 + r .f1) payload h)
 
-  pub inside-payload : r .tag ≡ 12 → r .f0 + r .f1 ≤ payload → some (span (r .f0) (r .f1)) ≡ placeIn payload r
+  pub inside-payload : r .tag ≡ 12 → r .f0 + r .f1 ≤ payload → some (span (r .f0) (r .f1)) ≡ listPlaceIn payload r
   inside-payload e h = rw (eq-eqb (r .tag) 12 e, le-leb (r .f0 + r .f1) payload h)
 
 -- ---- a list value lies in the payload
@@ -160,7 +160,7 @@ some-inner x y e = cc
 none-lies : (n : ℕ) → Lies n none
 none-lies n t e = let z : _≡_ {A = ℕ} 0 1 = cc in absurd (omega arith)
 
-place-lies : (payload : ℕ) (r : NodeRecord) → Lies payload (placeIn payload r)
+place-lies : (payload : ℕ) (r : NodeRecord) → Lies payload (listPlaceIn payload r)
 place-lies payload r = by (eqb (r .tag) 12) (leb (r .f0 + r .f1) payload) refl
   where
     by : (a b : Bool) → leb (r .f0 + r .f1) payload ≡ b → Lies payload (cond a (cond b (some (span (r .f0) (r .f1))) none) none)

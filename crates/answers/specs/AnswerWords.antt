@@ -81,24 +81,24 @@ spanThen t ws = t .offset ∷ t .len ∷ ws
 
 -- ---- words of each answer
 
-abbrev pub namedWords : NamedChildView → List ℕ
-namedWords e = spanThen (e .name) (e .node ∷ [])
+abbrev pub namedViewWords : NamedChildView → List ℕ
+namedViewWords e = spanThen (e .name) (e .node ∷ [])
 
 abbrev pub entryWords : ListEntry → List ℕ
 entryWords e = spanThen (spanOr (e .origin)) (spanThen (e .name) (unsigned (e .value) ∷ []))
 
-abbrev pub definitionWords : DefinitionView → List ℕ
-definitionWords d = spanThen (d .name) (d .items ∷ [])
+abbrev pub definitionViewWords : DefinitionView → List ℕ
+definitionViewWords d = spanThen (d .name) (d .items ∷ [])
 
-abbrev pub itemWords : ItemView → List ℕ
-itemWords i = spanThen (i .name) (unsigned (i .value) ∷ [])
+abbrev pub itemViewWords : ItemView → List ℕ
+itemViewWords i = spanThen (i .name) (unsigned (i .value) ∷ [])
 
 -- a number that is more than a word has no words
 abbrev pub countWords : ℕ → Option (List ℕ)
 countWords n = cond (leb n NONE) (some (n ∷ [])) none
 
-abbrev pub listItemWords : ListItem → Option (List ℕ)
-listItemWords i =
+abbrev pub foundItemWords : ListItem → Option (List ℕ)
+foundItemWords i =
     cond (leb (i .definition) NONE) (cond (leb (i .item) NONE) (some (i .definition ∷ i .item ∷ unsigned (i .value) ∷ [])) none) none
 
 -- start and length, in an image of so many bytes, of what lies at a place of a section that begins at `section`. What is not inside,
@@ -118,7 +118,7 @@ countAnswer (count.Of n) = some (n ∷ [])
 countAnswer count.NotFound = none
 
 abbrev pub namedAnswer : NamedAnswer → Option (List ℕ)
-namedAnswer (named.Named e) = some (namedWords e)
+namedAnswer (named.Named e) = some (namedViewWords e)
 namedAnswer named.NotFound = none
 
 abbrev pub placeAnswer : TextAnswer → Option (List ℕ)
@@ -134,15 +134,15 @@ entryAnswer (entry.Entry e) = some (entryWords e)
 entryAnswer entry.NotFound = none
 
 abbrev pub definitionAnswer : DefinitionAnswer → Option (List ℕ)
-definitionAnswer (definition.Definition d) = some (definitionWords d)
+definitionAnswer (definition.Definition d) = some (definitionViewWords d)
 definitionAnswer definition.NotFound = none
 
 abbrev pub itemAnswer : ItemAnswer → Option (List ℕ)
-itemAnswer (item.Item i) = some (itemWords i)
+itemAnswer (item.Item i) = some (itemViewWords i)
 itemAnswer item.NotFound = none
 
 abbrev pub listItemAnswer : ListItemAnswer → Option (List ℕ)
-listItemAnswer (listed.Item i) = listItemWords i
+listItemAnswer (listed.Item i) = foundItemWords i
 listItemAnswer listed.NotFound = none
 
 -- ---- of a list value, out of its payload: how many items, how many origins

@@ -24,8 +24,8 @@ abbrev pub eightWords : ℕ → Span → Span → ℕ → ℕ → ℕ → List �
 eightWords tag t v target w flags = tag ∷ spanThen t (spanThen v (target ∷ w ∷ flags ∷ []))
 
 -- what a kind lacks is NONE in texts and target, 0 in value and flags
-abbrev pub textWords : ℕ → Span → ℕ → ℕ → ℕ → List ℕ
-textWords tag t target w flags = eightWords tag t noSpan target w flags
+abbrev pub textKindWords : ℕ → Span → ℕ → ℕ → ℕ → List ℕ
+textKindWords tag t target w flags = eightWords tag t noSpan target w flags
 
 abbrev pub valueWord : ℕ → ℕ → List ℕ
 valueWord tag w = eightWords tag noSpan noSpan NONE w 0
@@ -46,23 +46,23 @@ abbrev pub valueWords : ValueView → List ℕ
 valueWords (value.Bool b) = valueWord boolTag (bitIf b 1)
 valueWords (value.Int i) = valueWord intTag (unsigned i)
 valueWords (value.Float bits x) = valueWord floatTag bits
-valueWords (value.String t) = textWords stringTag t NONE 0 0
-valueWords (value.List t) = textWords listTag t NONE 0 0
-valueWords (value.DivertTarget t) = textWords targetTag t NONE 0 0
-valueWords (value.VariablePointer t context) = textWords pointerTag t NONE (unsigned context) 0
+valueWords (value.String t) = textKindWords stringTag t NONE 0 0
+valueWords (value.List t) = textKindWords listTag t NONE 0 0
+valueWords (value.DivertTarget t) = textKindWords targetTag t NONE 0 0
+valueWords (value.VariablePointer t context) = textKindWords pointerTag t NONE (unsigned context) 0
 
 abbrev pub kindWords : NodeKindView → List ℕ
-kindWords (kind.Container flags name) = textWords containerTag (spanOr name) NONE 0 (unsigned flags)
-kindWords (kind.ChoicePoint flags target) = textWords choiceTag noSpan (wordOr target) 0 (unsigned flags)
+kindWords (kind.Container flags name) = textKindWords containerTag (spanOr name) NONE 0 (unsigned flags)
+kindWords (kind.ChoicePoint flags target) = textKindWords choiceTag noSpan (wordOr target) 0 (unsigned flags)
 kindWords (kind.ControlCommand c) = valueWord commandTag (commandNumber c)
 kindWords (kind.Divert path target variable arguments conditional external pushes p) =
     eightWords divertTag (spanOr path) (spanOr variable) (wordOr target) arguments (divertFlags conditional external pushes p)
 kindWords kind.Glue = valueWord glueTag 0
 kindWords (kind.NativeFunction o) = valueWord operatorTag (operatorNumber o)
-kindWords (kind.Tag t) = textWords tagTag t NONE 0 0
+kindWords (kind.Tag t) = textKindWords tagTag t NONE 0 0
 kindWords (kind.Value v) = valueWords v
-kindWords (kind.VariableAssignment t global new) = textWords assignmentTag t NONE 0 (assignmentFlags global new)
-kindWords (kind.VariableReference t target) = textWords referenceTag t (wordOr target) 0 0
+kindWords (kind.VariableAssignment t global new) = textKindWords assignmentTag t NONE 0 (assignmentFlags global new)
+kindWords (kind.VariableReference t target) = textKindWords referenceTag t (wordOr target) 0 0
 kindWords kind.Void = valueWord voidTag 0
 
 -- parent, place, then those of the kind

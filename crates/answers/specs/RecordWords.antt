@@ -45,13 +45,13 @@ abbrev pub numberFound : ℕ → Number → KindFound
 numberFound tag (number.Known n) = found.Kind (valueAlone tag n)
 numberFound tag number.Unknown = found.NotFound
 
-abbrev pub placed : ListPlace → Option Span
-placed (place.List t) = some t
-placed place.NotFound = none
+abbrev pub foundListPlace : ListPlace → Option Span
+foundListPlace (place.List t) = some t
+foundListPlace place.NotFound = none
 
 -- of a record, beside a payload of so many bytes
-abbrev pub placeIn : ℕ → NodeRecord → Option Span
-placeIn payload r = cond (eqb (r .tag) listTag) (cond (leb (r .f0 + r .f1) payload) (some (span (r .f0) (r .f1))) none) none
+abbrev pub listPlaceIn : ℕ → NodeRecord → Option Span
+listPlaceIn payload r = cond (eqb (r .tag) listTag) (cond (leb (r .f0 + r .f1) payload) (some (span (r .f0) (r .f1))) none) none
 
 -- the fields that a kind made of a text may have, in a record whose other words are 0
 abbrev pub fieldsOf : ℕ → ℕ → ℕ → ℕ → ℕ → NodeRecord

@@ -18,7 +18,7 @@ ghost use Prim.Native.Nat.{_≤_};
 ghost use mathlib.Core.List.{_++_};
 ghost use mathlib.Core.Option.{some};
 ghost use lib.ListN.{length, drop};
-ghost use Rattle.answers.specs.AnswerWords.{spanOr, noSpan, unsigned, namedWords};
+ghost use Rattle.answers.specs.AnswerWords.{spanOr, noSpan, unsigned, namedViewWords};
 ghost use Rattle.answers.specs.AnswerWords.{Answered, foundAnswer, countAnswer, namedAnswer, placeAnswer, partWords, partAnswer};
 
 // The largest number that a word holds.
@@ -58,7 +58,7 @@ pub fn span_or(text: OptionalText) -> Span
 
 // Name, name_length, node.
 pub fn named_words(named: NamedChildView) -> [u32; 3]
-    ensures { λ r. ⌜ r ≡ namedWords named ⌝ }
+    ensures { λ r. ⌜ r ≡ namedViewWords named ⌝ }
 {
     [named.name.offset, named.name.len, named.node]
 }

@@ -19,10 +19,10 @@ use views::entries::RecordFound;
 ghost use mathlib.Core.Path.{_≡_};
 ghost use Rattle.image.specs.Header.{sectionsBy};
 ghost use Rattle.views.specs.View.{nodeView};
-ghost use Rattle.answers.specs.AnswerWords.{entryWords, definitionWords, itemWords, countWords, listItemWords};
+ghost use Rattle.answers.specs.AnswerWords.{entryWords, definitionViewWords, itemViewWords, countWords, foundItemWords};
 ghost use Rattle.answers.specs.AnswerWords.{Answered, entryAnswer, definitionAnswer, itemAnswer, listItemAnswer, listCountWords};
 ghost use Rattle.answers.specs.NodeViewWords.{listPlace};
-ghost use Rattle.answers.specs.RecordWords.{placed, placeIn};
+ghost use Rattle.answers.specs.RecordWords.{foundListPlace, listPlaceIn};
 
 // The place of a list value in the payload, where the node is one.
 pub enum ListPlace {
@@ -32,7 +32,7 @@ pub enum ListPlace {
 
 // The same of a node's record, beside a payload of so many bytes.
 fn place_of(node: NodeRecord, payload: usize) -> ListPlace
-    ensures { λ r. ⌜ placed r ≡ placeIn payload node ⌝ }
+    ensures { λ r. ⌜ foundListPlace r ≡ listPlaceIn payload node ⌝ }
 {
     if node.tag != 12 {
         return ListPlace::NotFound;
@@ -63,7 +63,7 @@ pub fn entry_words(entry: ListEntry) -> [u32; 5]
 
 // Name, name_length, number of items.
 pub fn definition_words(definition: DefinitionView) -> [u32; 3]
-    ensures { λ r. ⌜ r ≡ definitionWords definition ⌝ }
+    ensures { λ r. ⌜ r ≡ definitionViewWords definition ⌝ }
 {
     [
         definition.name.offset,
@@ -74,7 +74,7 @@ pub fn definition_words(definition: DefinitionView) -> [u32; 3]
 
 // Name, name_length, value.
 pub fn item_words(item: ItemView) -> [u32; 3]
-    ensures { λ r. ⌜ r ≡ itemWords item ⌝ }
+    ensures { λ r. ⌜ r ≡ itemViewWords item ⌝ }
 {
     [item.name.offset, item.name.len, unsigned_of(item.value)]
 }
@@ -131,7 +131,7 @@ pub fn put_total(count: usize, answer: &mut [u32]) -> u32
 
 // Definition, number among all items, value; where words hold the numbers.
 pub fn put_item_numbers(item: ListItem, answer: &mut [u32]) -> u32
-    ensures { λ r. ⌜ Answered (listItemWords item) (now (answer .entry)) (now (answer .exit)) r ⌝ }
+    ensures { λ r. ⌜ Answered (foundItemWords item) (now (answer .entry)) (now (answer .exit)) r ⌝ }
 {
     if LARGEST_WORD < item.definition {
         return NOT_FOUND;
@@ -170,7 +170,7 @@ pub fn put_list_counts(payload: &[u8], answer: &mut [u32]) -> u32
 
 // The place of a node's list value: where its view shows a list.
 pub fn list_place(bytes: &[u8], view: ImageView, id: u32) -> ListPlace
-    ensures { λ r. ⌜ placed r ≡ listPlace (nodeView (sectionsBy (now (bytes .entry)) view) id) ⌝ }
+    ensures { λ r. ⌜ foundListPlace r ≡ listPlace (nodeView (sectionsBy (now (bytes .entry)) view) id) ⌝ }
 {
     match views::entries::node_of(bytes, view, id) {
         RecordFound::NotFound => ListPlace::NotFound,

@@ -5,7 +5,7 @@ use native.Mathlib.Nat.{mod-lt, mul-one, add-zero, zero-add, add-suc, suc-add, l
 use lib.ListN.{getD}
 use lib.Pow.{split, pow-pos}
 use lib.Bits.{bitXor, xor-shr, xor-mod, xor-shifted, shifted-half, shifted-even, xor-lt}
-use Rattle.checksum.specs.Crc.{polynomial, shift, shifts, entryOf, valuesFrom, entries, byteStep}
+use Rattle.checksum.specs.Crc.{polynomial, shift, shifts, entryOf, valuesFrom, crcTable, byteStep}
 use Rattle.checksum.proofs.Xor.{xor-assoc}
 
 -- ---- what stands at a place of the table
@@ -16,8 +16,8 @@ value-from f zero i k h = absurd (not-suc-le-zero h)
 value-from f (suc n) i zero h = ap f (sym (add-zero i))
 value-from f (suc n) i (suc k) h = value-from f n (suc i) k (le-of-suc-le-suc h) ∙ ap f (suc-add i k ∙ sym (add-suc i k))
 
-pub entry-at : (k : ℕ) → k < 256 → getD entries k 0 ≡ entryOf k
-unfolding entries
+pub entry-at : (k : ℕ) → k < 256 → getD crcTable k 0 ≡ entryOf k
+unfolding crcTable
 entry-at k h = value-from entryOf 256 0 k h ∙ ap entryOf (zero-add k)
 
 -- ---- the step by the table
@@ -38,7 +38,7 @@ shifts-high (suc k) a y =
 pub index-lt : (c b : ℕ) → b < 256 → bitXor (c % 256) b < 256
 index-lt c b h = xor-lt 8 (c % 256) b (mod-lt c (pow-pos 8)) h
 
-pub by-table : (c b : ℕ) → b < 256 → bitXor (c / 256) (getD entries (bitXor (c % 256) b) 0) ≡ byteStep c b
+pub by-table : (c b : ℕ) → b < 256 → bitXor (c / 256) (getD crcTable (bitXor (c % 256) b) 0) ≡ byteStep c b
 unfolding byteStep
 by-table c b h =
     ap (bitXor (c / 256)) (entry-at (bitXor (c % 256) b) (index-lt c b h))

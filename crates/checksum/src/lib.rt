@@ -5,7 +5,7 @@ ghost use mathlib.Core.List.{[], _∷_};
 ghost use Prim.Native.Nat.{_+_, _≤_, min};
 ghost use lib.ListN.{length, take, drop};
 ghost use lib.Bits.{bitXor};
-ghost use Rattle.checksum.specs.Crc.{shifts, entries, byteStep, crcFrom, crc32, checksumOf};
+ghost use Rattle.checksum.specs.Crc.{shifts, crcTable, byteStep, crcFrom, crc32, checksumOf};
 ghost use Rattle.checksum.specs.Lanes.{laneEntries, numberOf, lanesFrom};
 
 // Where the checksum's own bytes begin, and where the bytes after them do.
@@ -1308,7 +1308,7 @@ const LANE_TABLES: [u32; 1024] = [
 
 // The table, for a local: a constant that is indexed in a loop is copied at each turn.
 fn table() -> [u32; 256]
-    ensures { λ r. ⌜ r ≡ entries ⌝ }
+    ensures { λ r. ⌜ r ≡ crcTable ⌝ }
 {
     CRC32_TABLE
 }
@@ -1322,7 +1322,7 @@ fn lane_tables() -> [u32; 1024]
 
 // One byte more.
 fn update(table: &[u32; 256], crc: u32, byte: u8) -> u32
-    requires { ⌜ now table ≡ entries ⌝ }
+    requires { ⌜ now table ≡ crcTable ⌝ }
     ensures { λ r. ⌜ r ≡ byteStep crc byte ⌝ }
 {
     let index = ((crc % 256) ^ (byte as u32)) as usize;
@@ -1331,7 +1331,7 @@ fn update(table: &[u32; 256], crc: u32, byte: u8) -> u32
 
 // Every byte of a slice, one by one.
 fn update_bytes(table: &[u32; 256], crc: u32, bytes: &[u8]) -> u32
-    requires { ⌜ now table ≡ entries ⌝ }
+    requires { ⌜ now table ≡ crcTable ⌝ }
     ensures { λ r. ⌜ r ≡ crcFrom crc (now (bytes .entry)) ⌝ }
 {
     let mut c = crc;
@@ -1372,7 +1372,7 @@ fn lane(tables: &[u32; 1024], crc: u32, s: &[u8], i: usize) -> u32
 
 // The lanes become one register: each takes in its four bytes and is added to the next. The bytes after these 16 go one by one.
 fn join_lanes(table: &[u32; 256], a: u32, b: u32, c: u32, d: u32, s: &[u8]) -> u32
-    requires { ⌜ (now table ≡ entries) × (16 ≤ length (now s)) ⌝ }
+    requires { ⌜ (now table ≡ crcTable) × (16 ≤ length (now s)) ⌝ }
     ensures { λ r. ⌜ r ≡ lanesFrom a b c d (now (s .entry)) ⌝ }
 {
     let first = update_bytes(table, a, &s[..4]);
@@ -1384,7 +1384,7 @@ fn join_lanes(table: &[u32; 256], a: u32, b: u32, c: u32, d: u32, s: &[u8]) -> u
 
 // Every byte of a slice, by four lanes: blocks of 16 while another follows, then the lanes are joined.
 fn update_lanes(table: &[u32; 256], crc: u32, s: &[u8]) -> u32
-    requires { ⌜ (now table ≡ entries) × (16 ≤ length (now s)) ⌝ }
+    requires { ⌜ (now table ≡ crcTable) × (16 ≤ length (now s)) ⌝ }
     ensures { λ r. ⌜ r ≡ crcFrom crc (now (s .entry)) ⌝ }
 {
     let tables = lane_tables();
@@ -1405,7 +1405,7 @@ fn update_lanes(table: &[u32; 256], crc: u32, s: &[u8]) -> u32
 
 // Every byte of a slice, in the way that is faster for its length.
 fn update_all(table: &[u32; 256], crc: u32, bytes: &[u8]) -> u32
-    requires { ⌜ now table ≡ entries ⌝ }
+    requires { ⌜ now table ≡ crcTable ⌝ }
     ensures { λ r. ⌜ r ≡ crcFrom crc (now (bytes .entry)) ⌝ }
 {
     if bytes.len() < LANES_FROM {

@@ -39,7 +39,7 @@ use Rattle.views.specs.declared.entries.RecordFound.{RecordFound}
 use Rattle.views.specs.declared.entries.RecordFound.the-variants as node
 use Rattle.views.specs.View.{signed}
 use Rattle.views.specs.Found.{containerFound}
-use Rattle.lookups.specs.Lookup.{placed, entryText, searched, namedBy, findNamed, itemIn, definitionName, placeIn, answers, listItemAt, listItemIn, lastItem, listItem}
+use Rattle.lookups.specs.Lookup.{foundPlace, entryText, searched, namedBy, findNamed, itemPlace, definitionName, answeringPlace, answers, listItemAt, listItemIn, lastItem, listItem}
 use Rattle.index.specs.Parts.{definitionParts}
 use Rattle.views.proofs.Reading.{no-container, a-container}
 use Rattle.lookups.proofs.HalvingSearch.{Searching, search-start, search-above, search-below, search-here, search-end, found-there}
@@ -112,9 +112,9 @@ module _ (named strings : List ℕ) (from count : ℕ) (name : List ℕ) where
   unfolding namedBy
   named-outside h = rw (text-entry-count named, lt-leb (from + count) (length named / textEntrySize) h)
 
-  module _ (p : Place) (e : placed p ≡ searched (wordsOf named) strings from count name) where
+  module _ (p : Place) (e : foundPlace p ≡ searched (wordsOf named) strings from count name) where
     pub named-place : (j : ℕ) → p ≡ place.At j → j < count
-    named-place j h = place-below (wordsOf named) strings from count name j (sym e ∙ ap placed h)
+    named-place j h = place-below (wordsOf named) strings from count name j (sym e ∙ ap foundPlace h)
 
     module _ (l : from + count ≤ length named / textEntrySize) where
       pub named-nowhere : p ≡ place.Nowhere → found.NotFound ≡ namedBy (wordsOf named) strings from count name
@@ -162,12 +162,12 @@ module _ (bs : List ℕ) (v : ImageView) (given : Bool) (origin name : List ℕ)
   item-by d (some j) = refl
 
   definition-by : (x : Option ℕ) → listItemIn lent given origin name x ≡ listItemIn (sectionsBy bs v) given origin name x
-  unfolding placeIn itemIn definitionWord itemWord sectionsBy
+  unfolding answeringPlace itemPlace definitionWord itemWord sectionsBy
   definition-by none = refl
-  definition-by (some d) = item-by d (placeIn (sectionsBy bs v) given origin name d)
+  definition-by (some d) = item-by d (answeringPlace (sectionsBy bs v) given origin name d)
 
   pub lists-by : lastItem lent given origin name ≡ lastItem (sectionsBy bs v) given origin name
-  unfolding lastItem placeIn itemIn definitionWord itemWord sectionsBy
+  unfolding lastItem answeringPlace itemPlace definitionWord itemWord sectionsBy
   lists-by = definition-by (lastOf (definitionCount (sectionsBy bs v)) (answers (sectionsBy bs v) given origin name))
 
 module _ (ds is ss : List ℕ) where
@@ -182,29 +182,29 @@ module _ (ds is ss : List ℕ) where
       origin-told : b ≡ (not given || same origin (definitionName parts d))
       origin-told = hb ∙ λ j. not given || same origin ((hp ∙ λ k. textOrEmpty ss (told k .offset) (told k .len)) j)
 
-      pub other-origin : not b ≡ true → none ≡ placeIn parts given origin name d
-      unfolding placeIn
+      pub other-origin : not b ≡ true → none ≡ answeringPlace parts given origin name d
+      unfolding answeringPlace
       other-origin n = rw (← origin-told, not-true b n)
 
       module _ (y : not b ≡ false) where
-        pub place-outside : length is / textEntrySize < x .first + x .count → none ≡ placeIn parts given origin name d
-        unfolding placeIn itemIn
+        pub place-outside : length is / textEntrySize < x .first + x .count → none ≡ answeringPlace parts given origin name d
+        unfolding answeringPlace itemPlace
         place-outside l =
             rw (← origin-told, not-false b y, text-entry-count is, lt-leb (firstItem parts d + numberOfItems parts d) (length is / textEntrySize) (rw told at l))
 
-        pub place-there : x .first + x .count ≤ length is / textEntrySize → (r : Place) → placed r ≡ searched (wordsOf is) ss (x .first) (x .count) name
-            → placed r ≡ placeIn parts given origin name d
-        unfolding placeIn itemIn
+        pub place-there : x .first + x .count ≤ length is / textEntrySize → (r : Place) → foundPlace r ≡ searched (wordsOf is) ss (x .first) (x .count) name
+            → foundPlace r ≡ answeringPlace parts given origin name d
+        unfolding answeringPlace itemPlace
         place-there l r q =
             rw (← origin-told, not-false b y, text-entry-count is, le-leb (firstItem parts d + numberOfItems parts d) (length is / textEntrySize) (rw told at l))
             (q ∙ λ j. searched (wordsOf is) ss (told j .first) (told j .count) name)
 
   -- an item that is found is one of the section
-  item-bound : (given : Bool) (origin name : List ℕ) (d j : ℕ) → placeIn parts given origin name d ≡ some j
+  item-bound : (given : Bool) (origin name : List ℕ) (d j : ℕ) → answeringPlace parts given origin name d ≡ some j
       → firstItem (definitionParts ds is []) d + j < length is / textEntrySize
-  unfolding placeIn itemIn definitionWord
+  unfolding answeringPlace itemPlace definitionWord
   item-bound given origin name d j e =
-      let mine = chosen (not given || same origin (definitionName parts d)) (itemIn parts d name) j e in
+      let mine = chosen (not given || same origin (definitionName parts d)) (itemPlace parts d name) j e in
       let here = chosen (leb (firstItem parts d + numberOfItems parts d) (itemCount parts)) (searched (wordsOf is) ss (firstItem parts d) (numberOfItems parts d) name) j (mine .1) in
       let last = place-below (wordsOf is) ss (firstItem parts d) (numberOfItems parts d) name j (here .1) in
       let inside = leb-true (firstItem parts d + numberOfItems parts d) (itemCount parts) (here .0) in
@@ -229,7 +229,7 @@ module _ (ds is ss : List ℕ) where
     before-last : (d : ℕ) → 0 < d → suc (d - 1) ≡ d
     before-last d h = omega arith
 
-    module _ (d : ℕ) (h : 0 < d) (p : Place) (e : placed p ≡ placeIn parts given origin name (d - 1)) (l : Left d) where
+    module _ (d : ℕ) (h : 0 < d) (p : Place) (e : foundPlace p ≡ answeringPlace parts given origin name (d - 1)) (l : Left d) where
       turned : lastItem parts given origin name ≡ listItemIn parts given origin name (lastOf (suc (d - 1)) (answers parts given origin name))
       turned = l .same-answer ∙ ap (λ (n : ℕ). listItemIn parts given origin name (lastOf n (answers parts given origin name))) (sym (before-last d h))
 
@@ -251,7 +251,7 @@ module _ (ds is ss : List ℕ) where
 
       -- the item that it answers is inside
       pub item-inside : (j : ℕ) → p ≡ place.At j → firstItem (definitionParts ds is []) (d - 1) + j < length is / textEntrySize
-      item-inside j n = item-bound given origin name (d - 1) j (sym e ∙ ap placed n)
+      item-inside j n = item-bound given origin name (d - 1) j (sym e ∙ ap foundPlace n)
 
     pub left-end : (d : ℕ) → d ≤ 0 → Left d → answer.NotFound ≡ lastItem parts given origin name
     left-end d h l = sym (l .same-answer ∙ ap (λ (n : ℕ). listItemIn parts given origin name (lastOf n (answers parts given origin name))) nothing ∙ empty)

@@ -26,7 +26,7 @@ use Rattle.views.specs.declared.Found.the-variants as found
 use Rattle.lookups.specs.declared.ListItem.{ListItem}
 use Rattle.lookups.specs.declared.ListItemAnswer.the-variants as answer
 use Rattle.views.specs.View.{signed}
-use Rattle.lookups.specs.Lookup.{entryText, searched, foundAt, namedBy, findNamed, itemIn, isSome, definitionName, placeIn, answers, listItemAt, listItemIn, lastItem}
+use Rattle.lookups.specs.Lookup.{entryText, searched, foundAt, namedBy, findNamed, itemPlace, isSome, definitionName, answeringPlace, answers, listItemAt, listItemIn, lastItem}
 use Rattle.lookups.specs.Plain.{HasName, NodeNamed, NamedLookup, Holds, LastHolds, ItemLookup}
 use Rattle.lookups.proofs.HalvingSearch.{Rising, found-there, there-found}
 
@@ -175,8 +175,8 @@ module _ (s : Sections) (passed : Definitions s) (given : Bool) (origin name : L
     item-order : (j : ℕ) → j < numberOfItems s d → rising (itemTextOf s d) j ≡ true
     item-order j l = its .items j l .order
 
-    in-plain : itemIn s d name ≡ searched (s .items) (s .strings) (firstItem s d) (numberOfItems s d) name
-    unfolding itemIn
+    in-plain : itemPlace s d name ≡ searched (s .items) (s .strings) (firstItem s d) (numberOfItems s d) name
+    unfolding itemPlace
     in-plain = rw (le-leb (firstItem s d + numberOfItems s d) (itemCount s) (its .inside))
 
     name-plain : definitionName s d ≡ definitionText s d
@@ -195,15 +195,15 @@ module _ (s : Sections) (passed : Definitions s) (given : Bool) (origin name : L
     chosen true x j e = (refl, e)
     chosen false x j e = absurd (let z : _≡_ {A = ℕ} 0 1 = cc in omega arith)
 
-    pub place-holds : (j : ℕ) → placeIn s given origin name d ≡ some j → Holds s given origin name d j
-    unfolding placeIn
+    pub place-holds : (j : ℕ) → answeringPlace s given origin name d ≡ some j → Holds s given origin name d j
+    unfolding answeringPlace
     place-holds j e =
-        let r = chosen (not given || same origin (definitionName s d)) (itemIn s d name) j e in
+        let r = chosen (not given || same origin (definitionName s d)) (itemPlace s d name) j e in
         let q = search-found (s .items) (s .strings) (firstItem s d) (numberOfItems s d) (itemTextOf s d) item-like item-order name j (sym in-plain ∙ r .1) in
         record { definition = h; origin-text = may given (r .0); place = q .0; text = q .1 }
 
-    pub holds-place : (j : ℕ) → Holds s given origin name d j → placeIn s given origin name d ≡ some j
-    unfolding placeIn
+    pub holds-place : (j : ℕ) → Holds s given origin name d j → answeringPlace s given origin name d ≡ some j
+    unfolding answeringPlace
     holds-place j k =
         rw (might given (k .origin-text))
         (in-plain ∙ search-there (s .items) (s .strings) (firstItem s d) (numberOfItems s d) (itemTextOf s d) item-like item-order name j (k .place) (k .text))
@@ -211,7 +211,7 @@ module _ (s : Sections) (passed : Definitions s) (given : Bool) (origin name : L
   holds-answers : (d j : ℕ) → Holds s given origin name d j → answers s given origin name d ≡ true
   holds-answers d j k = rw (holds-place d (k .definition) j k)
 
-  answered-at : (d : ℕ) → Last (definitionCount s) (answers s given origin name) d → (x : Option ℕ) → placeIn s given origin name d ≡ x
+  answered-at : (d : ℕ) → Last (definitionCount s) (answers s given origin name) d → (x : Option ℕ) → answeringPlace s given origin name d ≡ x
       → (a : ListItem) → listItemAt s d x ≡ answer.Item a → LastHolds s given origin name a
   answered-at d l none e a h = absurd (item-apart a (sym h))
   answered-at d l (some j) e a h =
@@ -238,7 +238,7 @@ module _ (s : Sections) (passed : Definitions s) (given : Bool) (origin name : L
   answered-in : (x : Option ℕ) → chosenLast ≡ x → (a : ListItem) → listItemIn s given origin name x ≡ answer.Item a → LastHolds s given origin name a
   answered-in none e a h = absurd (item-apart a (sym h))
   answered-in (some d) e a h =
-      answered-at d (last-some (answers s given origin name) (definitionCount s) d e) (placeIn s given origin name d) refl a h
+      answered-at d (last-some (answers s given origin name) (definitionCount s) d e) (answeringPlace s given origin name d) refl a h
 
   -- a definition that answers has an item
   some-place : (x : Option ℕ) (d : ℕ) → isSome x ≡ true → listItemAt s d x ≡ answer.NotFound → ⊥
@@ -249,13 +249,13 @@ module _ (s : Sections) (passed : Definitions s) (given : Bool) (origin name : L
   missed-in none e h d j k =
       true≢false (sym (holds-answers d j k) ∙ last-none (answers s given origin name) (definitionCount s) d e (k .definition))
   missed-in (some c) e h d j k =
-      some-place (placeIn s given origin name c) c (last-some (answers s given origin name) (definitionCount s) c e .passes) h
+      some-place (answeringPlace s given origin name c) c (last-some (answers s given origin name) (definitionCount s) c e .passes) h
 
   missing-in : (x : Option ℕ) → chosenLast ≡ x → ((d j : ℕ) → Holds s given origin name d j → ⊥) → listItemIn s given origin name x ≡ answer.NotFound
   missing-in none e h = refl
-  missing-in (some d) e h = at (placeIn s given origin name d) refl
+  missing-in (some d) e h = at (answeringPlace s given origin name d) refl
     where
-      at : (y : Option ℕ) → placeIn s given origin name d ≡ y → listItemAt s d y ≡ answer.NotFound
+      at : (y : Option ℕ) → answeringPlace s given origin name d ≡ y → listItemAt s d y ≡ answer.NotFound
       at none q = refl
       at (some j) q = absurd (h d j (place-holds d (last-some (answers s given origin name) (definitionCount s) d e .below) j q))
 

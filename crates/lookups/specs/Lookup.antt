@@ -41,9 +41,9 @@ module _ (t : ℕ → List ℕ) (name : List ℕ) where
       cond (ltb lo hi) (towards (orderOf (t middle) name) middle above below) none
 
 -- what the code says of a place
-abbrev pub placed : Place → Option ℕ
-placed (place.At j) = some j
-placed place.Nowhere = none
+abbrev pub foundPlace : Place → Option ℕ
+foundPlace (place.At j) = some j
+foundPlace place.Nowhere = none
 
 -- the text of entry k of a section of texts, none where it is not inside the strings
 abbrev pub entryText : List ℕ → List ℕ → ℕ → List ℕ
@@ -71,8 +71,8 @@ findNamed s i name = cond (insideContainer s i) (namedBy (s .named) (s .strings)
 -- ---- a list item
 
 -- the item's place among definition d's items, where d holds it. A range that is not inside holds none
-unfoldable pub itemIn : Sections → ℕ → List ℕ → Option ℕ
-itemIn s d name =
+unfoldable pub itemPlace : Sections → ℕ → List ℕ → Option ℕ
+itemPlace s d name =
     cond (leb (firstItem s d + numberOfItems s d) (itemCount s)) (searched (s .items) (s .strings) (firstItem s d) (numberOfItems s d) name) none
 
 abbrev pub isSome : Option ℕ → Bool
@@ -84,12 +84,12 @@ abbrev pub definitionName : Sections → ℕ → List ℕ
 definitionName s d = textOrEmpty (s .strings) (definitionWord s d 0) (definitionWord s d 1)
 
 -- the item's place in definition d, where that is the origin that is given, if one is
-unfoldable pub placeIn : Sections → Bool → List ℕ → List ℕ → ℕ → Option ℕ
-placeIn s given origin name d = cond (not given || same origin (definitionName s d)) (itemIn s d name) none
+unfoldable pub answeringPlace : Sections → Bool → List ℕ → List ℕ → ℕ → Option ℕ
+answeringPlace s given origin name d = cond (not given || same origin (definitionName s d)) (itemPlace s d name) none
 
 -- definition d answers
 abbrev pub answers : Sections → Bool → List ℕ → List ℕ → ℕ → Bool
-answers s given origin name d = isSome (placeIn s given origin name d)
+answers s given origin name d = isSome (answeringPlace s given origin name d)
 
 abbrev pub listItemAt : Sections → ℕ → Option ℕ → ListItemAnswer
 listItemAt s d none = answer.NotFound
@@ -98,7 +98,7 @@ listItemAt s d (some j) =
 
 abbrev pub listItemIn : Sections → Bool → List ℕ → List ℕ → Option ℕ → ListItemAnswer
 listItemIn s given origin name none = answer.NotFound
-listItemIn s given origin name (some d) = listItemAt s d (placeIn s given origin name d)
+listItemIn s given origin name (some d) = listItemAt s d (answeringPlace s given origin name d)
 
 -- the last definition that answers is the one
 unfoldable pub lastItem : Sections → Bool → List ℕ → List ℕ → ListItemAnswer
@@ -112,5 +112,5 @@ listItem s name =
 
 -- names on an `unfolding` line what a computation with this module needs
 unfoldable pub lookups : Unit {0}
-unfolding halving searched namedBy findNamed itemIn placeIn lastItem listItem views counted texts dots blanks sections
+unfolding halving searched namedBy findNamed itemPlace answeringPlace lastItem listItem views counted texts dots blanks sections
 lookups = tt

@@ -11,7 +11,7 @@ ghost use Rattle.image.specs.Header.{sectionsBy};
 ghost use Rattle.image.specs.Sections.{textEntrySize, definitionSize};
 ghost use Rattle.index.specs.Definitions.{firstItem};
 ghost use Rattle.index.specs.Parts.{definitionParts};
-ghost use Rattle.lookups.specs.Lookup.{placed, searched, namedBy, findNamed, placeIn, listItemAt, lastItem, listItem};
+ghost use Rattle.lookups.specs.Lookup.{foundPlace, searched, namedBy, findNamed, answeringPlace, listItemAt, lastItem, listItem};
 use image::ImageView;
 use image::NodeRecord;
 use texts::Order;
@@ -41,7 +41,7 @@ pub enum Place {
 // The place of the name among `count` entries, from entry `from` of a section of texts on.
 fn find(part: &[u8], strings: &[u8], from: usize, count: usize, name: &[u8]) -> Place
     requires { ⌜ from + count ≤ length (now part) / textEntrySize ⌝ }
-    ensures { λ r. ⌜ placed r ≡ searched (wordsOf (now (part .entry))) (now (strings .entry)) from count (now (name .entry)) ⌝ }
+    ensures { λ r. ⌜ foundPlace r ≡ searched (wordsOf (now (part .entry))) (now (strings .entry)) from count (now (name .entry)) ⌝ }
 {
     let mut lo = 0;
     let mut hi = count;
@@ -119,7 +119,7 @@ fn place_in(
 ) -> Place
     requires { ⌜ definitionSize * d + definitionSize ≤ length (now definitions) ⌝ }
     ensures { λ r. ⌜ (let s = definitionParts (now (definitions .entry)) (now (items .entry)) (now (strings .entry)) in
-        placed r ≡ placeIn s given (now (origin .entry)) (now (name .entry)) d) ⌝ }
+        foundPlace r ≡ answeringPlace s given (now (origin .entry)) (now (name .entry)) d) ⌝ }
 {
     let definition = image::definition_at(definitions, d);
     let text = image::text_part(strings, definition.offset, definition.len);

@@ -46,9 +46,9 @@ use Rattle.lookups.specs.declared.ListItemAnswer.the-variants as listed
 use Rattle.texts.specs.Text.{same}
 use Rattle.texts.specs.Dots.{hasDot, beforeDot, afterDot}
 use Rattle.utf8.specs.White.{blank}
-use Rattle.lookups.specs.Lookup.{definitionName, itemIn, placeIn, searched, answers, listItemIn, listItemAt, lastItem, findNamed, listItem}
+use Rattle.lookups.specs.Lookup.{definitionName, itemPlace, answeringPlace, searched, answers, listItemIn, listItemAt, lastItem, findNamed, listItem}
 use Rattle.lookups.proofs.Lookups.{place-below}
-use Rattle.answers.specs.AnswerWords.{numberOf, countWords, foundAnswer, countAnswer, namedAnswer, placeAnswer, partWords, partAnswer, entryAnswer, definitionAnswer, itemAnswer, listItemWords, listItemAnswer, listCountWords}
+use Rattle.answers.specs.AnswerWords.{numberOf, countWords, foundAnswer, countAnswer, namedAnswer, placeAnswer, partWords, partAnswer, entryAnswer, definitionAnswer, itemAnswer, foundItemWords, listItemAnswer, listCountWords}
 use Rattle.answers.specs.NodeViewWords.{nodeAnswer, listPlace}
 use Rattle.answers.proofs.AnswerSlices.{count-some, part-some}
 use Rattle.answers.proofs.Records.{eight}
@@ -183,8 +183,8 @@ module _ (s : Sections) where
   item-inner : (x y : ListItem) → listed.Item x ≡ listed.Item y → x ≡ y
   item-inner x y e = cc
 
-  item-below : (d : ℕ) (name : List ℕ) (j : ℕ) → itemIn s d name ≡ some j → firstItem s d + j < itemCount s
-  unfolding itemIn
+  item-below : (d : ℕ) (name : List ℕ) (j : ℕ) → itemPlace s d name ≡ some j → firstItem s d + j < itemCount s
+  unfolding itemPlace
   item-below d name j e = by (leb (firstItem s d + numberOfItems s d) (itemCount s)) refl e
     where
       by : (b : Bool) → leb (firstItem s d + numberOfItems s d) (itemCount s) ≡ b
@@ -195,11 +195,11 @@ module _ (s : Sections) where
           omega arith
       by false h q = absurd (none-some q)
 
-  place-item : (given : Bool) (origin name : List ℕ) (d j : ℕ) → placeIn s given origin name d ≡ some j → itemIn s d name ≡ some j
-  unfolding placeIn
+  place-item : (given : Bool) (origin name : List ℕ) (d j : ℕ) → answeringPlace s given origin name d ≡ some j → itemPlace s d name ≡ some j
+  unfolding answeringPlace
   place-item given origin name d j e = by (not given || same origin (definitionName s d)) e
     where
-      by : (b : Bool) → cond b (itemIn s d name) none ≡ some j → itemIn s d name ≡ some j
+      by : (b : Bool) → cond b (itemPlace s d name) none ≡ some j → itemPlace s d name ≡ some j
       by true q = q
       by false q = absurd (none-some q)
 
@@ -207,7 +207,7 @@ module _ (s : Sections) where
   unfolding lastItem
   last-numbers given origin name = by (lastOf (definitionCount s) (answers s given origin name)) refl
     where
-      at : (d : ℕ) → d < definitionCount s → (o : Option ℕ) → placeIn s given origin name d ≡ o → Numbers (listItemAt s d o)
+      at : (d : ℕ) → d < definitionCount s → (o : Option ℕ) → answeringPlace s given origin name d ≡ o → Numbers (listItemAt s d o)
       at d h none p i e = absurd (item-apart i e)
       at d h (some j) p i e =
           let z = item-inner _ i e in
@@ -215,7 +215,7 @@ module _ (s : Sections) where
 
       by : (o : Option ℕ) → lastOf (definitionCount s) (answers s given origin name) ≡ o → Numbers (listItemIn s given origin name o)
       by none p i e = absurd (item-apart i e)
-      by (some d) p i e = at d (last-below (definitionCount s) (answers s given origin name) d p) (placeIn s given origin name d) refl i e
+      by (some d) p i e = at d (last-below (definitionCount s) (answers s given origin name) d p) (answeringPlace s given origin name d) refl i e
 
   pub item-numbers : (name : List ℕ) → Numbers (listItem s name)
   unfolding listItem

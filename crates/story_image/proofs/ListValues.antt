@@ -17,17 +17,17 @@ use Rattle.views.specs.Lists.{definitionQuery}
 use Rattle.views.proofs.Reading.{no-definition, a-definition}
 use Rattle.answers.specs.declared.lists.ListPlace.{ListPlace}
 use Rattle.answers.specs.declared.lists.ListPlace.the-variants as place
-use Rattle.answers.specs.RecordWords.{placed}
+use Rattle.answers.specs.RecordWords.{foundListPlace}
 use Rattle.story_image.specs.Queries.{atList, firstWords}
 
 -- ---- the list value of a node
 
-module _ (p : ListPlace) (o : Option Span) (e : placed p ≡ o) (query : Span → Option (List ℕ)) where
+module _ (p : ListPlace) (o : Option Span) (e : foundListPlace p ≡ o) (query : Span → Option (List ℕ)) where
   pub no-list : p ≡ place.NotFound → none ≡ atList o query
-  no-list h = ap (λ (x : Option Span). atList x query) (ap placed (sym h) ∙ e)
+  no-list h = ap (λ (x : Option Span). atList x query) (ap foundListPlace (sym h) ∙ e)
 
   pub a-list : (t : Span) → p ≡ place.List t → query t ≡ atList o query
-  a-list t h = ap (λ (x : Option Span). atList x query) (ap placed (sym h) ∙ e)
+  a-list t h = ap (λ (x : Option Span). atList x query) (ap foundListPlace (sym h) ∙ e)
 
 -- ---- the first item of a definition
 

@@ -9,7 +9,7 @@ use borrow.Author.Tests.{lt-ltb, le-ltb, le-leb, lt-leb, eq-eqb, ne-eqb}
 use lib.Dec.{eqb}
 use lib.ListN.{length, drop, getD}
 use Rattle.utf8.specs.Runs.{isRun}
-use Rattle.utf8.specs.Utf8.{Range, _··_, within, rows, fits, sizeIn, utf8}
+use Rattle.utf8.specs.Utf8.{Range, _··_, within, rows, fitsRow, sizeIn, utf8}
 use Rattle.utf8.specs.Places.{differ, due, continues, never, tooLow, tooHigh, wrong}
 use Rattle.utf8.proofs.Runs.{run-nil, run-cons, run-none}
 use Rattle.utf8.proofs.Table.{table, inside, under, over, bounds, fits-length, at-row, no-row, apart, without}
@@ -226,26 +226,26 @@ Upto : ℕ → Type 0
 Upto n = (p3 p2 p1 : ℕ) (t : List ℕ) → length t ≤ n → Whole p3 p2 p1 → placed p3 p2 p1 t ≡ isRun (sizeIn rows) t
 
 module _ (n : ℕ) (more : Upto n) where
-  owes-placed : (rs : List Range) (p3 p2 p1 : ℕ) (t : List ℕ) → length t ≤ n → Owes rs p3 p2 p1 → placed p3 p2 p1 t ≡ cond (fits rs t) (isRun (sizeIn rows) (drop (length rs) t)) false
-  unfolding Owes placed fits Upto
+  owes-placed : (rs : List Range) (p3 p2 p1 : ℕ) (t : List ℕ) → length t ≤ n → Owes rs p3 p2 p1 → placed p3 p2 p1 t ≡ cond (fitsRow rs t) (isRun (sizeIn rows) (drop (length rs) t)) false
+  unfolding Owes placed fitsRow Upto
   owes-placed [] p3 p2 p1 t h o = more p3 p2 p1 t h o
   owes-placed (r ∷ rs) p3 p2 p1 [] h o = rw (o .0)
   owes-placed (r ∷ rs) p3 p2 p1 (b ∷ t) h o =
       rw (o .1 b .0) (step (within r b) refl (λ q. owes-placed rs p2 p1 b t (omega arith) q))
     where
-      step : (f : Bool) → within r b ≡ f → (Owes rs p2 p1 b → placed p2 p1 b t ≡ cond (fits rs t) (isRun (sizeIn rows) (drop (length rs) t)) false) →
-          (f && placed p2 p1 b t) ≡ cond (f && fits rs t) (isRun (sizeIn rows) (drop (length rs) t)) false
+      step : (f : Bool) → within r b ≡ f → (Owes rs p2 p1 b → placed p2 p1 b t ≡ cond (fitsRow rs t) (isRun (sizeIn rows) (drop (length rs) t)) false) →
+          (f && placed p2 p1 b t) ≡ cond (f && fitsRow rs t) (isRun (sizeIn rows) (drop (length rs) t)) false
       step true e go = go (o .1 b .1 e)
       step false e go = refl
 
   -- a sequence of a row, or none
   module _ {p3 p2 p1 : ℕ} (w : Whole p3 p2 p1) (b : ℕ) (t : List ℕ) (h : length t ≤ n) where
-    row-placed : (rs : List Range) → sizeIn rows (b ∷ t) ≡ cond (fits rs t) (suc (length rs)) 0 → wrong p3 p2 p1 b ≡ false → Owes rs p2 p1 b →
+    row-placed : (rs : List Range) → sizeIn rows (b ∷ t) ≡ cond (fitsRow rs t) (suc (length rs)) 0 → wrong p3 p2 p1 b ≡ false → Owes rs p2 p1 b →
         placed p3 p2 p1 (b ∷ t) ≡ isRun (sizeIn rows) (b ∷ t)
     unfolding placed
-    row-placed rs z e o = rw (e, owes-placed rs p2 p1 b t h o) (pick (fits rs t) refl z)
+    row-placed rs z e o = rw (e, owes-placed rs p2 p1 b t h o) (pick (fitsRow rs t) refl z)
       where
-        pick : (f : Bool) → fits rs t ≡ f → sizeIn rows (b ∷ t) ≡ cond f (suc (length rs)) 0 → cond f (isRun (sizeIn rows) (drop (length rs) t)) false ≡ isRun (sizeIn rows) (b ∷ t)
+        pick : (f : Bool) → fitsRow rs t ≡ f → sizeIn rows (b ∷ t) ≡ cond f (suc (length rs)) 0 → cond f (isRun (sizeIn rows) (drop (length rs) t)) false ≡ isRun (sizeIn rows) (b ∷ t)
         pick true e z = sym (run-cons (sizeIn rows) (length rs) b t z (fits-length rs t e))
         pick false e z = sym (run-none (sizeIn rows) b t z)
 
@@ -259,7 +259,7 @@ module _ (n : ℕ) (more : Upto n) where
     by-row k r rs g d l u e o = row-placed rs (at-row r b t (inside r b l u) rows k rs g d) e o
 
     over-size : 0xf5 ≤ b → sizeIn rows (b ∷ t) ≡ 0
-    unfolding rows sizeIn fits
+    unfolding rows sizeIn fitsRow
     over-size l =
         rw (
           over (0x00 ·· 0x7f) b (omega arith),

@@ -7,7 +7,7 @@ ghost use Prim.Native.Nat.{_+_, _-_, _<_, _≤_};
 ghost use lib.Dec.{ltb};
 ghost use lib.ListN.{length, drop, getD};
 ghost use Rattle.laws.specs.Counted.{allOf};
-ghost use Rattle.utf8.specs.Utf8.{_··_, within, rows, fits, sizeIn, utf8};
+ghost use Rattle.utf8.specs.Utf8.{_··_, within, rows, fitsRow, sizeIn, utf8};
 ghost use Rattle.utf8.specs.Seconds.{lowestAfter, highestAfter};
 ghost use Rattle.utf8.specs.Places.{flag, due, never, tooLow, tooHigh, wrong, rightAt, starts, ends, asciiBlock, AsciiTo, Passed};
 ghost use Rattle.utf8.specs.White.{whites, begins, frontOf, blank};
@@ -22,7 +22,7 @@ fn lies(b: u8, low: u8, high: u8) -> bool
 // 2 if the byte after `at` continues a sequence, else 0.
 fn two(s: &[u8], at: usize) -> usize
     requires { ⌜ at < length (now s) ⌝ }
-    ensures { λ r. ⌜ r ≡ cond (fits (0x80 ·· 0xbf ∷ []) (drop (at + 1) (now (s .entry)))) 2 0 ⌝ }
+    ensures { λ r. ⌜ r ≡ cond (fitsRow (0x80 ·· 0xbf ∷ []) (drop (at + 1) (now (s .entry)))) 2 0 ⌝ }
 {
     if s.len() - at < 2 {
         return 0;
@@ -36,7 +36,7 @@ fn two(s: &[u8], at: usize) -> usize
 // 3 if two bytes after `at` continue a sequence, the first of them from `low` to `high`, else 0.
 fn three(s: &[u8], at: usize, low: u8, high: u8) -> usize
     requires { ⌜ at < length (now s) ⌝ }
-    ensures { λ r. ⌜ r ≡ cond (fits (low ·· high ∷ 0x80 ·· 0xbf ∷ []) (drop (at + 1) (now (s .entry)))) 3 0 ⌝ }
+    ensures { λ r. ⌜ r ≡ cond (fitsRow (low ·· high ∷ 0x80 ·· 0xbf ∷ []) (drop (at + 1) (now (s .entry)))) 3 0 ⌝ }
 {
     if s.len() - at < 3 {
         return 0;
@@ -53,7 +53,7 @@ fn three(s: &[u8], at: usize, low: u8, high: u8) -> usize
 // 4 if three bytes after `at` continue a sequence, the first of them from `low` to `high`, else 0.
 fn four(s: &[u8], at: usize, low: u8, high: u8) -> usize
     requires { ⌜ at < length (now s) ⌝ }
-    ensures { λ r. ⌜ r ≡ cond (fits (low ·· high ∷ 0x80 ·· 0xbf ∷ 0x80 ·· 0xbf ∷ []) (drop (at + 1) (now (s .entry)))) 4 0 ⌝ }
+    ensures { λ r. ⌜ r ≡ cond (fitsRow (low ·· high ∷ 0x80 ·· 0xbf ∷ 0x80 ·· 0xbf ∷ []) (drop (at + 1) (now (s .entry)))) 4 0 ⌝ }
 {
     if s.len() - at < 4 {
         return 0;

@@ -9,7 +9,7 @@ use borrow.Author.Tests.{le-leb, lt-leb}
 use lib.ListN.{length, getD, take, drop}
 use lib.Seq.{getD-take, getD-drop, getD-append-add, length-take-le}
 use Rattle.laws.specs.Lists.{Below}
-use Rattle.words.specs.Words.{wordOf, wordAt, wordIn, wordsOf, bytes4, putIn, bytesOf}
+use Rattle.words.specs.Words.{word4, wordAt, wordIn, wordsOf, bytes4, putIn, bytesOf}
 
 -- ---- lists whose elements are below a bound
 
@@ -32,10 +32,10 @@ below-at n (suc i) (x ∷ xs) h b = below-at n i xs h (below-tail n x xs b)
 
 -- ---- a word and its four bytes
 
-pub word-back : (w : ℕ) → w < 2 ^ 32 → wordOf (w % 256) (w / 256 % 256) (w / 256 / 256 % 256) (w / 256 / 256 / 256 % 256) ≡ w
+pub word-back : (w : ℕ) → w < 2 ^ 32 → word4 (w % 256) (w / 256 % 256) (w / 256 / 256 % 256) (w / 256 / 256 / 256 % 256) ≡ w
 word-back w h = omega arith
 
-pub word-small : (a b c d : ℕ) → a < 256 → b < 256 → c < 256 → d < 256 → wordOf a b c d < 2 ^ 32
+pub word-small : (a b c d : ℕ) → a < 256 → b < 256 → c < 256 → d < 256 → word4 a b c d < 2 ^ 32
 word-small a b c d h i j k = omega arith
 
 -- the bytes of a word come before those of what follows
@@ -132,7 +132,7 @@ words-below (x ∷ y ∷ z ∷ w ∷ bs) b =
     let b1 = below-tail 256 x (y ∷ z ∷ w ∷ bs) b in
     let b2 = below-tail 256 y (z ∷ w ∷ bs) b1 in
     let b3 = below-tail 256 z (w ∷ bs) b2 in
-    below-cons (2 ^ 32) (wordOf x y z w) (wordsOf bs)
+    below-cons (2 ^ 32) (word4 x y z w) (wordsOf bs)
     (word-small x y z w (below-head 256 x _ b) (below-head 256 y _ b1) (below-head 256 z _ b2) (below-head 256 w bs b3))
     (words-below bs (below-tail 256 w bs b3))
 

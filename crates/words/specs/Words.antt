@@ -13,12 +13,12 @@ abbrev pub isNone : ℕ → Bool
 isNone w = eqb w NONE
 
 -- the word of four bytes, the lowest first
-abbrev pub wordOf : ℕ → ℕ → ℕ → ℕ → ℕ
-wordOf a b c d = a + 256 * (b + 256 * (c + 256 * d))
+abbrev pub word4 : ℕ → ℕ → ℕ → ℕ → ℕ
+word4 a b c d = a + 256 * (b + 256 * (c + 256 * d))
 
 -- the word at a byte offset
 unfoldable pub wordAt : List ℕ → ℕ → ℕ
-wordAt bs at = wordOf (getD bs at 0) (getD bs (at + 1) 0) (getD bs (at + 2) 0) (getD bs (at + 3) 0)
+wordAt bs at = word4 (getD bs at 0) (getD bs (at + 1) 0) (getD bs (at + 2) 0) (getD bs (at + 3) 0)
 
 -- the same where four bytes lie there, else 0
 unfoldable pub wordIn : List ℕ → ℕ → ℕ
@@ -30,7 +30,7 @@ wordsOf [] = []
 wordsOf (a ∷ []) = []
 wordsOf (a ∷ b ∷ []) = []
 wordsOf (a ∷ b ∷ c ∷ []) = []
-wordsOf (a ∷ b ∷ c ∷ d ∷ rest) = wordOf a b c d ∷ wordsOf rest
+wordsOf (a ∷ b ∷ c ∷ d ∷ rest) = word4 a b c d ∷ wordsOf rest
 
 -- a word as four bytes
 abbrev pub bytes4 : ℕ → List ℕ

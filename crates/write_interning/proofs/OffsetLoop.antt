@@ -16,7 +16,7 @@ use Rattle.draft_image.specs.Strings.{distinct, offsetOf}
 use Rattle.write_sorting.proofs.Laws.{cases}
 use Rattle.write_interning.specs.declared.Stored.{Stored}
 use Rattle.write_interning.specs.declared.Stored.the-variants.{Whole, TooLong}
-use Rattle.write_interning.specs.Uses.{First, Firsts, Offsets, storedOf, joined, answerOf}
+use Rattle.write_interning.specs.Uses.{First, Firsts, Offsets, storedOf, joined, storedAnswer}
 use Rattle.write_interning.proofs.StoredTexts.{offset-old, offset-new, stored-old, stored-new, stored-holds, first-new, first-old, length-new, length-grows}
 
 -- the offsets of the first k uses stand in x, which are so long together; w is the list where the pass began
@@ -125,14 +125,14 @@ module _ (key : ℕ → List ℕ) (n : ℕ) (w : List ℕ) (hn : n + n ≤ lengt
 
 -- what a pass leaves: its answer, and the offsets if they fit
 abbrev pub Assigned : (ℕ → List ℕ) → ℕ → List ℕ → Stored → Type 0
-Assigned key n x r = (r ≡ answerOf (length (joined (storedOf key n)))) × (length (joined (storedOf key n)) < 2 ^ 32 → Offsets key n x)
+Assigned key n x r = (r ≡ storedAnswer (length (joined (storedOf key n)))) × (length (joined (storedOf key n)) < 2 ^ 32 → Offsets key n x)
 
 pub assigned-long : (key : ℕ → List ℕ) (n : ℕ) (x : List ℕ) → 2 ^ 32 ≤ length (joined (storedOf key n)) → Assigned key n x TooLong
-unfolding answerOf
+unfolding storedAnswer
 assigned-long key n x h = (rw (le-ltb (length (joined (storedOf key n))) (2 ^ 32) h), λ m. absurd (omega arith))
 
 pub assigned-whole : (key : ℕ → List ℕ) (n : ℕ) (w x : List ℕ) (k total : ℕ) → Assigning key n w x k total → n ≤ k → Assigned key n x (Whole total)
-unfolding answerOf
+unfolding storedAnswer
 assigned-whole key n w x k total A h =
     let e : k ≡ n = omega arith in
     let s : total ≡ length (joined (storedOf key n)) = A .sum ∙ ap (λ (p : ℕ). length (joined (storedOf key p))) e in (

@@ -23,8 +23,8 @@ abbrev pub joined : List (List ℕ) → List ℕ
 joined kept = flatMap (λ t. t) kept
 
 -- the answer by the length of the stored texts: a word can say where each begins, or not
-unfoldable pub answerOf : ℕ → Stored
-answerOf n = cond (ltb n (2 ^ 32)) (Whole n) TooLong
+unfoldable pub storedAnswer : ℕ → Stored
+storedAnswer n = cond (ltb n (2 ^ 32)) (Whole n) TooLong
 
 -- the words after the first n say where each use's text is stored
 abbrev pub Offsets : (ℕ → List ℕ) → ℕ → List ℕ → Type 0

@@ -6,7 +6,7 @@ ghost use Prim.Native.Nat.{ℕ, _+_, _-_, _^_, _≤_, _<_};
 ghost use lib.ListN.{length, take, drop};
 ghost use Rattle.write_text_keys.specs.Keys.{keyIn, Placed};
 ghost use Rattle.write_sorting.specs.Sorted.{byKey, isort, upFrom};
-ghost use Rattle.write_interning.specs.Uses.{storedOf, joined, answerOf, Offsets, RisesFrom, Firsts, headOf};
+ghost use Rattle.write_interning.specs.Uses.{storedOf, joined, storedAnswer, Offsets, RisesFrom, Firsts, headOf};
 use draft::source;
 use draft::source::Source;
 use write_text_keys::Tables;
@@ -87,7 +87,7 @@ fn assign(
     requires { ⌜ (n + n ≤ t .at) × Placed t (length (now w)) × (n < 2 ^ 32) ⌝ }
     requires { ⌜ Firsts (keyIn (source .version) (now nodes) (now strings) t (now w)) n (now w) ⌝ }
     ensures { λ r. ⌜ (let key = keyIn (source .version) (now (nodes .entry)) (now (strings .entry)) t (now (w .entry)) in
-        r ≡ answerOf (length (joined (storedOf key n)))) ⌝ }
+        r ≡ storedAnswer (length (joined (storedOf key n)))) ⌝ }
     ensures { λ _. ⌜ (let key = keyIn (source .version) (now (nodes .entry)) (now (strings .entry)) t (now (w .entry)) in
         length (joined (storedOf key n)) < 2 ^ 32 → Offsets key n (now (w .exit))) ⌝ }
     ensures { λ _. ⌜ drop (t .at) (now (w .exit)) ≡ drop (t .at) (now (w .entry)) ⌝ }
@@ -123,7 +123,7 @@ pub fn intern(
     requires { ⌜ (t .texts ≤ n) × (n + n ≤ t .at) × Placed t (length (now w)) × (n < 2 ^ 32) ⌝ }
     requires { ⌜ RisesFrom (byKey (keyIn (source .version) (now nodes) (now strings) t (now w))) (t .texts) n ⌝ }
     ensures { λ r. ⌜ (let key = keyIn (source .version) (now (nodes .entry)) (now (strings .entry)) t (now (w .entry)) in
-        r ≡ answerOf (length (joined (storedOf key n)))) ⌝ }
+        r ≡ storedAnswer (length (joined (storedOf key n)))) ⌝ }
     ensures { λ _. ⌜ (let key = keyIn (source .version) (now (nodes .entry)) (now (strings .entry)) t (now (w .entry)) in
         length (joined (storedOf key n)) < 2 ^ 32 → Offsets key n (now (w .exit))) ⌝ }
     ensures { λ _. ⌜ drop (t .at) (now (w .exit)) ≡ drop (t .at) (now (w .entry)) ⌝ }

@@ -16,7 +16,7 @@ use Rattle.tree.proofs.Stack.{drop-more}
 use Rattle.tree.proofs.LoadWalk.{cleared-rest}
 use Rattle.tree.proofs.Numbers.{read-distinct, mark-place}
 use Rattle.draft.specs.Numbering.{numbering, oldOf}
-use Rattle.write_numbering.specs.Work.{Leads, Numbered, Read, Marks, Ordered}
+use Rattle.write_numbering.specs.Work.{Leads, Numbered, Read, Marks, NumberTables}
 use Rattle.write_numbering.proofs.WalkMarks.{InWords, each-marked, few-nodes, old-below, new-below, old-of-new, new-of-old}
 
 -- ---- the loop: the marks of i nodes are done
@@ -40,7 +40,7 @@ module _ (n base : ℕ) (w₀ : List ℕ) where
     mark-kept above h =
         sym (getD-take base w i 0 (omega arith)) ∙ ap (λ (l : List ℕ). getD l i 0) (o .low) ∙ getD-take base w₀ i 0 (omega arith)
 
-    pub order-end : n ≤ i → Ordered n base w₀ w
+    pub order-end : n ≤ i → NumberTables n base w₀ w
     order-end h = record { olds = λ k q. o .olds k (omega (arith, o .within)); news = λ k q. o .news k (omega (arith, o .within)); rest = o .high }
 
     -- the next node's two words
@@ -99,7 +99,7 @@ module _ (n base : ℕ) (w₀ : List ℕ) where
 -- ---- after the walk
 
 -- words behind the numbers, where the code has the count of nodes as a number
-pub numbers-rest : (n count : ℕ) → count ≡ n → (base : ℕ) (w w₁ : List ℕ) → Ordered count base w w₁ → drop (base + 2 * n) w₁ ≡ drop (base + 2 * n) w
+pub numbers-rest : (n count : ℕ) → count ≡ n → (base : ℕ) (w w₁ : List ℕ) → NumberTables count base w w₁ → drop (base + 2 * n) w₁ ≡ drop (base + 2 * n) w
 numbers-rest n count c base w w₁ o = subst (λ (k : ℕ). drop (base + 2 * k) w₁ ≡ drop (base + 2 * k) w) c (o .rest)
 
 module _ (s : Sections) (w₀ w : List ℕ) (r : Read s w₀ w) where
@@ -131,7 +131,7 @@ module _ (s : Sections) (w₀ w : List ℕ) (r : Read s w₀ w) where
     pub marks-right : (count : ℕ) → count ≡ nodeCount s → Marks count w
     marks-right count c = subst (λ (n : ℕ). Marks n w) (sym c) marks-all
 
-    numbers-all : (base : ℕ) (w₁ : List ℕ) → Ordered (nodeCount s) base w w₁ → Numbered s base w₁
+    numbers-all : (base : ℕ) (w₁ : List ℕ) → NumberTables (nodeCount s) base w w₁ → Numbered s base w₁
     numbers-all base w₁ o = record { few = few-nodes s g l all words; olds = old; news = new }
       where
         old : (j : ℕ) → j < nodeCount s → getD w₁ (base + j) 0 ≡ oldOf (numbering s) j
@@ -144,5 +144,5 @@ module _ (s : Sections) (w₀ w : List ℕ) (r : Read s w₀ w) where
         new : (i : ℕ) → i < nodeCount s → getD w₁ (base + nodeCount s + i) 0 ≡ placeIn (numbering s) i
         new i h = o .news i h ∙ omega (arith, mark-is i h)
 
-    pub numbers-right : (count : ℕ) → count ≡ nodeCount s → (base : ℕ) (w₁ : List ℕ) → Ordered count base w w₁ → Numbered s base w₁
-    numbers-right count c base w₁ o = numbers-all base w₁ (subst (λ (n : ℕ). Ordered n base w w₁) c o)
+    pub numbers-right : (count : ℕ) → count ≡ nodeCount s → (base : ℕ) (w₁ : List ℕ) → NumberTables count base w w₁ → Numbered s base w₁
+    numbers-right count c base w₁ o = numbers-all base w₁ (subst (λ (n : ℕ). NumberTables n base w w₁) c o)

@@ -67,7 +67,7 @@ pub record Marks (n : ℕ) (w : List ℕ) : Type 0 where
   pub apart : (i k : ℕ) → i < n → k < n → getD w i 0 ≡ getD w k 0 → i ≡ k
 
 -- what such words give: behind word base the node of each mark, then the mark of each node, counted from 0
-pub record Ordered (n base : ℕ) (w₀ w : List ℕ) : Type 0 where
+pub record NumberTables (n base : ℕ) (w₀ w : List ℕ) : Type 0 where
   pub olds : (i : ℕ) → i < n → getD w (base + (getD w₀ i 0 - 1)) 0 ≡ i
   pub news : (i : ℕ) → i < n → getD w (base + n + i) 0 ≡ getD w₀ i 0 - 1
   pub rest : drop (base + 2 * n) w ≡ drop (base + 2 * n) w₀

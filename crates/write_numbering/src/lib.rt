@@ -9,7 +9,7 @@ ghost use Rattle.image.specs.Sections.{textEntryWords, nodeCount};
 ghost use Rattle.tree.specs.Tree.{entryNodes, readWalk, allSeen};
 ghost use Rattle.tree.specs.Work.{treeWords};
 ghost use Rattle.tree.specs.Parts.{Fit};
-ghost use Rattle.write_numbering.specs.Work.{treeOf, Leads, Numbered, ChildrenPushed, NamedPushed, NodeEntered, Read, Marks, Ordered};
+ghost use Rattle.write_numbering.specs.Work.{treeOf, Leads, Numbered, ChildrenPushed, NamedPushed, NodeEntered, Read, Marks, NumberTables};
 use draft::source;
 use draft::source::Source;
 use image::ImageView;
@@ -120,7 +120,7 @@ fn walk(
 fn set_numbers(work: &mut [u32], count: usize, base: usize)
     requires { ⌜ Marks count (now work) ⌝ }
     requires { ⌜ (count ≤ base) × (base + 2 * count ≤ length (now work)) ⌝ }
-    ensures { λ r. ⌜ Ordered count base (now (work .entry)) (now (work .exit)) ⌝ }
+    ensures { λ r. ⌜ NumberTables count base (now (work .entry)) (now (work .exit)) ⌝ }
 {
     let mut i = 0;
     while i < count {

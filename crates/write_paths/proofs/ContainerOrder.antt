@@ -20,7 +20,7 @@ use Rattle.draft.specs.Draft.{placed, pathsRule}
 use Rattle.write_sorting.specs.Sorted.{upFrom, insert, isort, byKey, Rises, Unlike, Twice}
 use Rattle.write_sorting.proofs.NumberedWords.{upFrom-length, upFrom-at, upFrom-append}
 use Rattle.write_sorting.proofs.KeyOrder.{rises-unlike, level-twice, isort-sortBy}
-use Rattle.write_paths.specs.Listed.{tagAt, containersIn, containers, Renumbers}
+use Rattle.write_paths.specs.Listed.{tagAt, containersIn, containers, Permutation}
 use Rattle.write_paths.proofs.Rule.{twice, once}
 
 -- ---- the list in words
@@ -158,7 +158,7 @@ module _ (s : Sections) (order : List ℕ) where
     pub sorted-below : All (λ a. a < length boxes) (isort (byKey key) (upFrom 0 (length boxes)))
     sorted-below = all-sorted (λ a. a < length boxes) (byKey key) (upFrom 0 (length boxes)) (all-below (λ a. a < length boxes) (length boxes) (λ i h. h))
 
-    module _ (r : Renumbers (nodeCount s) order) (all : allOf (nodeCount s) (placed s) ≡ true) where
+    module _ (r : Permutation (nodeCount s) order) (all : allOf (nodeCount s) (placed s) ≡ true) where
       -- neighbours rise: rule 22 passes, and the places are in the order of the index
       module _ (rise : Rises (byKey key) (isort (byKey key) (upFrom 0 (length boxes)))) where
         unlike : (a b : ℕ) → a < b → b < length boxes → placePath a ≡ placePath b → ⊥

@@ -23,7 +23,7 @@ use Rattle.write_text_keys.specs.Keys.{keyOf, keyIn, nodeOf, longOf, lengthFrom
 use Rattle.write_text_keys.proofs.CanonicalPaths.{path-long, key-path, every-container}
 use Rattle.write_paths.specs.declared.Indexed.{Indexed}
 use Rattle.write_paths.specs.declared.Indexed.the-variants.{Paths, Refused}
-use Rattle.write_paths.specs.Listed.{tagAt, containersIn, containers, Renumbers}
+use Rattle.write_paths.specs.Listed.{tagAt, containersIn, containers, Permutation}
 use Rattle.write_paths.specs.Arranged.{Measured, sortedNames, Arranged, Rooted, indexedOf, Indexes}
 use Rattle.write_paths.proofs.Rule.{all-not, those-at, unplaced}
 use Rattle.write_paths.proofs.WordLoop.{sets-at, sets-drop}

@@ -21,7 +21,7 @@ use Rattle.index.specs.Paths.{canonicalPath}
 use Rattle.draft.specs.Draft.{placed, newPath, pathRule, pathsRule}
 use Rattle.draft.specs.Numbering.{oldOf}
 use Rattle.draft_image.specs.Strings.{pathOf}
-use Rattle.write_paths.specs.Listed.{containers, Renumbers}
+use Rattle.write_paths.specs.Listed.{containers, Permutation}
 
 -- ---- the numbers below n that pass a test, by their places
 
@@ -169,7 +169,7 @@ module _ (s : Sections) where
       let n : newPath s j ≡ false = rw (q, all-fails j (λ k. not (isContainer s k) || not (same (canonicalPath s k) (canonicalPath s j))) i l here) refl in
       first-some 21 (nodeCount s) j (pathRule s) each h (refused-path j n)
 
-  module _ (order : List ℕ) (r : Renumbers (nodeCount s) order) where
+  module _ (order : List ℕ) (r : Permutation (nodeCount s) order) where
     abbrev old : ℕ → ℕ
     old a = oldOf order (getD (containers s order) a 0)
 

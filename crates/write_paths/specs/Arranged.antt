@@ -20,7 +20,7 @@ use Rattle.write_text_keys.specs.Keys.{longOf}
 use Rattle.write_text_keys.specs.declared.Tables.{Tables}
 use Rattle.write_paths.specs.declared.Indexed.{Indexed}
 use Rattle.write_paths.specs.declared.Indexed.the-variants.{Paths, Refused}
-use Rattle.write_paths.specs.Listed.{Renumbers}
+use Rattle.write_paths.specs.Listed.{Permutation}
 
 -- ---- measuring
 
@@ -49,7 +49,7 @@ pub record Arranged (key : ℕ → List ℕ) (w₀ : List ℕ) (list found : ℕ
 -- what rules 19 to 21 have shown: entries are whole, each node is numbered once, parent steps lead to the root, names are good
 pub record Rooted (s : Sections) (order : List ℕ) : Type 0 where
   pub whole : length (s .nodes) ≡ nodeCount s * nodeWords (s .version)
-  pub numbers : Renumbers (nodeCount s) order
+  pub numbers : Permutation (nodeCount s) order
   pub climbs : (x : ℕ) → x < nodeCount s → Climbs s (nodeCount s) x
   pub named : (x : ℕ) → x < nodeCount s → isContainer s x ≡ true → goodOptional s (f s x 0) (f s x 1) ≡ true
 

@@ -36,7 +36,7 @@ abbrev pub containers : Sections → List ℕ → List ℕ
 containers s order = those (nodeCount s) (λ j. isContainer s (oldOf order j))
 
 -- order has each number below n once
-pub record Renumbers (n : ℕ) (order : List ℕ) : Type 0 where
+pub record Permutation (n : ℕ) (order : List ℕ) : Type 0 where
   pub old-inside : (j : ℕ) → j < n → oldOf order j < n
   pub new-inside : (i : ℕ) → i < n → placeIn order i < n
   pub old-new : (i : ℕ) → i < n → oldOf order (placeIn order i) ≡ i

@@ -13,7 +13,7 @@ use Rattle.draft.specs.Draft.{tablesRule, reachRule, shapeRule}
 use Rattle.draft.specs.Numbering.{numbering}
 use Rattle.draft.proofs.Rules.{tables, whole, entries-counts, shape}
 use Rattle.draft.proofs.ReachedNodes.{reached, numbered}
-use Rattle.write_paths.specs.Listed.{Renumbers}
+use Rattle.write_paths.specs.Listed.{Permutation}
 use Rattle.write_paths.specs.Arranged.{Rooted}
 
 module _ (s : Sections) (p : tablesRule s ≡ 0) (q : reachRule s ≡ 0) where
@@ -21,7 +21,7 @@ module _ (s : Sections) (p : tablesRule s ≡ 0) (q : reachRule s ≡ 0) where
   pub once : EachOnce (nodeCount s) (numbering s)
   once = numbered s (tables s p) (reached s q)
 
-  pub renumbers : Renumbers (nodeCount s) (numbering s)
+  pub renumbers : Permutation (nodeCount s) (numbering s)
   renumbers =
       record { old-inside = get-below once; new-inside = place-below once; old-new = get-of-place once; new-old = place-of-get once }
 

@@ -10,7 +10,7 @@ use lib.Dec.{ltb}
 use borrow.Author.Tests.{ltb-true, ltb-false}
 use Rattle.write_interning.specs.declared.Stored.{Stored}
 use Rattle.write_interning.specs.declared.Stored.the-variants.{Whole, TooLong}
-use Rattle.write_interning.specs.Uses.{storedOf, joined, answerOf, Offsets}
+use Rattle.write_interning.specs.Uses.{storedOf, joined, storedAnswer, Offsets}
 use Rattle.write_plan.specs.declared.Plan.the-variants.{Ready, Refused}
 use Rattle.write_plan.specs.Planned.{StoredPlan}
 
@@ -36,15 +36,15 @@ module _ (key : ℕ → List ℕ) (texts paths : ℕ) (a : Stored) where
   abbrev total : ℕ
   total = length (joined (storedOf key (texts + paths)))
 
-  pub stored-whole : (m : ℕ) (w : List ℕ) → texts + paths ≤ 4294967295 → a ≡ answerOf total → (total < 2 ^ 32 → Offsets key (texts + paths) w) → a ≡ Whole m
+  pub stored-whole : (m : ℕ) (w : List ℕ) → texts + paths ≤ 4294967295 → a ≡ storedAnswer total → (total < 2 ^ 32 → Offsets key (texts + paths) w) → a ≡ Whole m
       → StoredPlan key texts paths w (Ready (record { texts = texts; paths = paths; strings = m }))
-  unfolding answerOf
+  unfolding storedAnswer
   stored-whole m w h e o q =
       let x = whole-by total m (ltb total (2 ^ 32)) refl (sym q ∙ e) in
       (ap (λ (n : ℕ). record { texts = texts; paths = paths; strings = n }) (x .0), h, omega (arith, x .1), o (x .1))
 
-  pub stored-long : (w : List ℕ) → texts + paths ≤ 4294967295 → a ≡ answerOf total → a ≡ TooLong → StoredPlan key texts paths w (Refused 23)
-  unfolding answerOf
+  pub stored-long : (w : List ℕ) → texts + paths ≤ 4294967295 → a ≡ storedAnswer total → a ≡ TooLong → StoredPlan key texts paths w (Refused 23)
+  unfolding storedAnswer
   stored-long w h e q = (refl, inr (h, omega (arith, long-by total (ltb total (2 ^ 32)) refl (sym q ∙ e))))
 
 pub stored-many : (key : ℕ → List ℕ) (texts paths : ℕ) (w : List ℕ) → 4294967295 < texts + paths → StoredPlan key texts paths w (Refused 23)

@@ -148,7 +148,7 @@ module _ (w₀ : List ℕ) (order n : ℕ) (room : order + n ≤ length w₀) wh
       ∙ drop-drop m (at + length ws) w₀ ∙ ap (λ (x : ℕ). drop x w₀) d)
 
 -- j of the runs of n nodes are written, below the nodes' numbers, which lie from `order` on
-pub record Ordered (n : ℕ) (g : ℕ → List ℕ) (w₀ : List ℕ) (order at : ℕ) (w : List ℕ) (k j : ℕ) : Type 0 where
+pub record RunsPut (n : ℕ) (g : ℕ → List ℕ) (w₀ : List ℕ) (order at : ℕ) (w : List ℕ) (k j : ℕ) : Type 0 where
   pub numbers : order + n ≤ length w₀
   pub below : at + length (joinOf n (λ m. g (oldOf (wordsFrom w₀ order n) m))) ≤ order
   pub long : length w ≡ length w₀
@@ -158,11 +158,11 @@ module _ (n : ℕ) (g : ℕ → List ℕ) (w₀ : List ℕ) (order at : ℕ) whe
   abbrev runs : ℕ → List ℕ
   runs m = g (oldOf (wordsFrom w₀ order n) m)
 
-  pub ordered-start : order + n ≤ length w₀ → at + length (joinOf n (λ m. g (oldOf (wordsFrom w₀ order n) m))) ≤ order → Ordered n g w₀ order at w₀ at 0
+  pub ordered-start : order + n ≤ length w₀ → at + length (joinOf n (λ m. g (oldOf (wordsFrom w₀ order n) m))) ≤ order → RunsPut n g w₀ order at w₀ at 0
   ordered-start h q =
       record { numbers = h; below = q; long = refl; going = going-start n runs w₀ at (record { fits = omega arith }) }
 
-  module _ (w : List ℕ) (k j : ℕ) (p : Ordered n g w₀ order at w k j) (h : j < n) where
+  module _ (w : List ℕ) (k j : ℕ) (p : RunsPut n g w₀ order at w k j) (h : j < n) where
     -- the number that is read
     pub old-read : getD w (order + j) 0 ≡ oldOf (wordsFrom w₀ order n) j
     old-read =
@@ -171,7 +171,7 @@ module _ (n : ℕ) (g : ℕ → List ℕ) (w₀ : List ℕ) (order at : ℕ) whe
     pub ordered-room : Room (g (getD w (order + j) 0)) w k
     ordered-room = rw old-read (going-room n runs w₀ at w k j (p .going) h)
 
-    pub ordered-next : (w′ : List ℕ) (k′ : ℕ) → Put (g (getD w (order + j) 0)) w k w′ k′ → Ordered n g w₀ order at w′ k′ (j + 1)
+    pub ordered-next : (w′ : List ℕ) (k′ : ℕ) → Put (g (getD w (order + j) 0)) w k w′ k′ → RunsPut n g w₀ order at w′ k′ (j + 1)
     ordered-next w′ k′ q =
         let next = going-next n runs w₀ at w k j (p .going) (g (getD w (order + j) 0)) w′ k′ h (ap g old-read) q in
         record { numbers = p .numbers; below = p .below; long = next .long; going = next }

@@ -17,7 +17,7 @@ use Rattle.write_image.specs.declared.size.Size.the-variants.{Bytes, TooLong}
 use Rattle.write_image.specs.Length.{lengthBy, sizeOf, imageLength}
 use Rattle.write_image.specs.Given.{Ready}
 use Rattle.writer.specs.declared.Encoded.the-variants.{Written, Refused}
-use Rattle.writer.specs.Answer.{fitsOutput, Answered}
+use Rattle.writer.specs.Answer.{fitsOutput, EncodeAnswered}
 use Rattle.writer.specs.Planned.{numbersBy, tablesBy, entriesBy, Drawn}
 use Rattle.writer.proofs.PlanToImage.{rules, most, entries-known, ready}
 use Rattle.writer.proofs.Outcomes.{size-bytes, size-long, image-long, image-short, image-put}
@@ -31,14 +31,14 @@ module _ (ink : ℕ) (s : Sections) (w : List ℕ) (l : Layout) (u : Uses) (d : 
     known : a ≡ sizeOf (imageLength s)
     known = e ∙ ap (λ (x : Entries). sizeOf (lengthBy (s .version) x)) (entries-known s (d .tables) (d .planned) w (d .long) u (d .prepared))
 
-    pub put-long : a ≡ TooLong → Answered ink s (unless (fitsOutput ink s (length out₀)) 23) out₀ out₀ (Refused 23)
+    pub put-long : a ≡ TooLong → EncodeAnswered ink s (unless (fitsOutput ink s (length out₀)) 23) out₀ out₀ (Refused 23)
     put-long q = image-long ink s (d .tables) (rules s (d .tables) (d .planned) .0) out₀ (size-long (imageLength s) a known q)
 
     module _ (m : ℕ) (q : a ≡ Bytes m) where
       sized : (m ≡ imageLength s) × (imageLength s ≤ NONE)
       sized = size-bytes (imageLength s) m a known q
 
-      pub put-short : length out₀ < m → Answered ink s (unless (fitsOutput ink s (length out₀)) 23) out₀ out₀ (Refused 23)
+      pub put-short : length out₀ < m → EncodeAnswered ink s (unless (fitsOutput ink s (length out₀)) 23) out₀ out₀ (Refused 23)
       put-short h = image-short ink s (d .tables) (rules s (d .tables) (d .planned) .0) out₀ (sized .1) (omega (arith, sized .0))
 
       module _ (h : m ≤ length out₀) where
@@ -49,5 +49,5 @@ module _ (ink : ℕ) (s : Sections) (w : List ℕ) (l : Layout) (u : Uses) (d : 
           omega (arith, sized .0),
         )
 
-        pub put-done : (out : List ℕ) → out ≡ over (imageFor ink s) out₀ → Answered ink s (unless (fitsOutput ink s (length out₀)) 23) out₀ out (Written m)
+        pub put-done : (out : List ℕ) → out ≡ over (imageFor ink s) out₀ → EncodeAnswered ink s (unless (fitsOutput ink s (length out₀)) 23) out₀ out (Written m)
         put-done out o = image-put ink s (d .tables) (rules s (d .tables) (d .planned) .0) out₀ m out (sized .1) (omega (arith, sized .0)) (sized .0) o

@@ -22,7 +22,7 @@ use Rattle.write_image.specs.Length.{sizeOf, imageLength}
 use Rattle.write_image.proofs.SectionLengths.{length-is}
 use Rattle.writer.specs.declared.Encoded.{Encoded}
 use Rattle.writer.specs.declared.Encoded.the-variants.{Written, Refused}
-use Rattle.writer.specs.Answer.{encodedBy, encodedOf, fitsOutput, Answered, WrittenWith}
+use Rattle.writer.specs.Answer.{encodedBy, encodedOf, fitsOutput, EncodeAnswered, WrittenWith}
 use Rattle.writer.proofs.Answers.{ink-wrong, tables-wrong, words-few, cleared, plan-wrong, room-decides}
 use Rattle.writer.proofs.Numbers.{tables-leave}
 
@@ -57,7 +57,7 @@ size-long long a e q = long-by long (leb long NONE) refl (sym q ∙ e)
 -- ---- answers
 
 -- a refusal leaves the output
-pub refused : (ink : ℕ) (s : Sections) (r k : ℕ) (out : List ℕ) → r ≡ k → (k ≡ 0 → ⊥) → Answered ink s r out out (Refused k)
+pub refused : (ink : ℕ) (s : Sections) (r k : ℕ) (out : List ℕ) → r ≡ k → (k ≡ 0 → ⊥) → EncodeAnswered ink s r out out (Refused k)
 unfolding encodedBy outAfter
 refused ink s r zero out e d = absurd (d refl)
 refused ink s r (suc k) out e d = record { answer = rw e refl; output = rw (e, ne-eqb (suc k) 0 (λ q. omega arith)) refl }
@@ -68,26 +68,26 @@ module _ (ink : ℕ) (s : Sections) (p : tablesRule s ≡ 0) (q : reachRule s �
 
   -- an image that does not fit
   no-room : (a b : Bool) → leb (length image) (length out₀) ≡ a → leb (length image) NONE ≡ b → (a && b) ≡ false
-      → Answered ink s (unless (fitsOutput ink s (length out₀)) 23) out₀ out₀ (Refused 23)
+      → EncodeAnswered ink s (unless (fitsOutput ink s (length out₀)) 23) out₀ out₀ (Refused 23)
   no-room a b e f n = refused ink s (unless (fitsOutput ink s (length out₀)) 23) 23 out₀ (fail (fitsOutput ink s (length out₀)) 23 (rw (e, f) n)) (λ k. omega arith)
 
-  pub image-long : NONE < imageLength s → Answered ink s (unless (fitsOutput ink s (length out₀)) 23) out₀ out₀ (Refused 23)
+  pub image-long : NONE < imageLength s → EncodeAnswered ink s (unless (fitsOutput ink s (length out₀)) 23) out₀ out₀ (Refused 23)
   image-long h = by (leb (length image) (length out₀)) refl
     where
       long : leb (length image) NONE ≡ false
       long = lt-leb (length image) NONE (omega (arith, length-is ink s p q))
 
-      by : (a : Bool) → leb (length image) (length out₀) ≡ a → Answered ink s (unless (fitsOutput ink s (length out₀)) 23) out₀ out₀ (Refused 23)
+      by : (a : Bool) → leb (length image) (length out₀) ≡ a → EncodeAnswered ink s (unless (fitsOutput ink s (length out₀)) 23) out₀ out₀ (Refused 23)
       by true e = no-room true false e long refl
       by false e = no-room false false e long refl
 
-  pub image-short : imageLength s ≤ NONE → length out₀ < imageLength s → Answered ink s (unless (fitsOutput ink s (length out₀)) 23) out₀ out₀ (Refused 23)
+  pub image-short : imageLength s ≤ NONE → length out₀ < imageLength s → EncodeAnswered ink s (unless (fitsOutput ink s (length out₀)) 23) out₀ out₀ (Refused 23)
   image-short g h =
       no-room false true (lt-leb (length image) (length out₀) (omega (arith, length-is ink s p q))) (le-leb (length image) NONE (omega (arith, length-is ink s p q)))
       refl
 
   pub image-put : (m : ℕ) (out : List ℕ) → imageLength s ≤ NONE → imageLength s ≤ length out₀ → m ≡ imageLength s → out ≡ over image out₀
-      → Answered ink s (unless (fitsOutput ink s (length out₀)) 23) out₀ out (Written m)
+      → EncodeAnswered ink s (unless (fitsOutput ink s (length out₀)) 23) out₀ out (Written m)
   unfolding encodedBy outAfter
   image-put m out g h e o =
       let room : leb (length image) (length out₀) ≡ true = le-leb (length image) (length out₀) (omega (arith, length-is ink s p q)) in
@@ -108,10 +108,10 @@ module _ (ink : ℕ) (s : Sections) (p : tablesRule s ≡ 0) (i : inkRight ink �
       refused ink s (encodeRule ink s work (length out₀)) k out₀ (plan-wrong ink s work (length out₀) i p (enough work h) (λ q. d (sym e ∙ q)) ∙ e) d
 
   -- the room decides
-  pub plan-made : planRule s ≡ 0 → (out : List ℕ) (a : Encoded) → Answered ink s (unless (fitsOutput ink s (length out₀)) 23) out₀ out a → WrittenWith ink s out₀ out a
+  pub plan-made : planRule s ≡ 0 → (out : List ℕ) (a : Encoded) → EncodeAnswered ink s (unless (fitsOutput ink s (length out₀)) 23) out₀ out a → WrittenWith ink s out₀ out a
   unfolding planRule
   plan-made e out a x work h =
-      subst (λ (r : ℕ). Answered ink s r out₀ out a) (sym (room-decides ink s work (length out₀) i p (enough work h) e)) x
+      subst (λ (r : ℕ). EncodeAnswered ink s r out₀ out a) (sym (room-decides ink s work (length out₀) i p (enough work h) e)) x
 
 -- ---- the whole
 

@@ -19,7 +19,7 @@ use Rattle.write_plan.specs.declared.Plan.the-variants.{Ready, Refused}
 use Rattle.write_plan.specs.Planned.{layoutBy, layoutOf, PlanOf}
 use Rattle.writer.specs.declared.Encoded.{Encoded}
 use Rattle.writer.specs.declared.Encoded.the-variants as encoded
-use Rattle.writer.specs.Answer.{fitsOutput, Answered, WrittenWith}
+use Rattle.writer.specs.Answer.{fitsOutput, EncodeAnswered, WrittenWith}
 use Rattle.writer.specs.Planned.{Drawn}
 use Rattle.writer.proofs.Outcomes.{plan-refused, plan-made}
 
@@ -52,5 +52,5 @@ module _ (ink : ℕ) (version : ℕ) (ns cs ms ds is ps ss : List ℕ) (i : inkR
         pub image-asks : Drawn s w l u
         image-asks = record { tables = p; planned = made .0; long = kept ∙ long; layout = layout; prepared = made .1 }
 
-        pub write-made : (out : List ℕ) (r : Encoded) → Answered ink s (unless (fitsOutput ink s (length out₀)) 23) out₀ out r → WrittenWith ink s out₀ out r
+        pub write-made : (out : List ℕ) (r : Encoded) → EncodeAnswered ink s (unless (fitsOutput ink s (length out₀)) 23) out₀ out r → WrittenWith ink s out₀ out r
         write-made out r x = plan-made ink s p i out₀ (made .0) out r x

@@ -34,13 +34,13 @@ abbrev pub fitsOutput : ℕ → Sections → ℕ → Bool
 fitsOutput ink s room = leb (length (imageFor ink s)) room && leb (length (imageFor ink s)) NONE
 
 -- the answer and the output where the number is r
-pub record Answered (ink : ℕ) (s : Sections) (r : ℕ) (out₀ out : List ℕ) (a : Encoded) : Type 0 where
+pub record EncodeAnswered (ink : ℕ) (s : Sections) (r : ℕ) (out₀ out : List ℕ) (a : Encoded) : Type 0 where
   pub answer : a ≡ encodedBy r (length (imageFor ink s))
   pub output : out ≡ outAfter r (imageFor ink s) out₀
 
 -- with as many work words as the draft needs, or more
 abbrev pub WrittenWith : ℕ → Sections → List ℕ → List ℕ → Encoded → Type 0
-WrittenWith ink s out₀ out a = (work : ℕ) → writeWords s ≤ work → Answered ink s (encodeRule ink s work (length out₀)) out₀ out a
+WrittenWith ink s out₀ out a = (work : ℕ) → writeWords s ≤ work → EncodeAnswered ink s (encodeRule ink s work (length out₀)) out₀ out a
 
 -- names on an `unfolding` line what a computation with this module needs
 unfoldable pub encoded : Unit {0}

@@ -3,7 +3,7 @@ ghost use mathlib.Core.Path.{_≡_};
 ghost use lib.ListN.{length};
 ghost use Rattle.draft.specs.Source.{draftOf};
 ghost use Prim.Native.Nat.{_+_, _*_, _≤_};
-ghost use Rattle.writer.specs.Answer.{encodedOf, fitsOutput, Answered, WrittenWith};
+ghost use Rattle.writer.specs.Answer.{encodedOf, fitsOutput, EncodeAnswered, WrittenWith};
 ghost use mathlib.Core.Bool.{true};
 ghost use Rattle.draft.specs.Draft.{tablesRule, writeWords};
 ghost use Rattle.draft.specs.Needs.{wordsFor};
@@ -73,7 +73,7 @@ fn put_image(
     ensures { λ r. ⌜ (let s =
         draftOf (source .version) (now (nodes .entry)) (now (children .entry)) (now (named .entry)) (now (definitions .entry)) (now (items .entry))
         (now (payload .entry)) (now (strings .entry)) in
-        Answered ink s (unless (fitsOutput ink s (length (now (out .entry)))) noRoom) (now (out .entry)) (now (out .exit)) r) ⌝ }
+        EncodeAnswered ink s (unless (fitsOutput ink s (length (now (out .entry)))) noRoom) (now (out .entry)) (now (out .exit)) r) ⌝ }
 {
     let counts = draft::entry_counts(nodes, children, named, definitions, items, payload, source);
     let entries = Entries {

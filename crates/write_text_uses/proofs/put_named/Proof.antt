@@ -4,14 +4,14 @@ use native.Mathlib.Omega.{arith}
 use lib.ListN.{length}
 use Rattle.image.specs.Sections.{nodeWords}
 use Rattle.write_text_uses.specs.Uses.{namedPairs, allNamedPairs, namedOnly}
-use Rattle.write_text_uses.proofs.Puts.{Ordered, ordered-start, ordered-room, ordered-next, old-read, going-end}
+use Rattle.write_text_uses.proofs.Puts.{RunsPut, ordered-start, ordered-room, ordered-next, old-read, going-end}
 use Rattle.write_text_uses.proofs.Nodes.{container-needs}
 use borrow.Author.Needs.{needs}
 use Rattle.write_text_uses.proofs.put_named.Statement.{statement}
 use Rattle.write_text_uses.proofs.put_named.Tie as tie
 
 abbrev Inv-loop : tie.InvT-loop
-Inv-loop nodes named w₀ order at source count k₀ j₀ w k j = Ordered (length nodes / nodeWords (source .version)) (namedPairs (namedOnly (source .version) nodes named)) w₀ order at w k j
+Inv-loop nodes named w₀ order at source count k₀ j₀ w k j = RunsPut (length nodes / nodeWords (source .version)) (namedPairs (namedOnly (source .version) nodes named)) w₀ order at w k j
 
 abbrev μ-loop : tie.MeasureT-loop
 μ-loop nodes named w₀ order at source count k₀ j₀ w k j = length nodes / nodeWords (source .version) - j

@@ -5,14 +5,14 @@ use lib.ListN.{length}
 use Rattle.draft.specs.Source.{nodesOnly}
 use Rattle.image.specs.Sections.{nodeWords}
 use Rattle.write_text_uses.specs.Uses.{nodePairs, allNodePairs}
-use Rattle.write_text_uses.proofs.Puts.{Ordered, ordered-start, ordered-room, ordered-next, old-read, going-end}
+use Rattle.write_text_uses.proofs.Puts.{RunsPut, ordered-start, ordered-room, ordered-next, old-read, going-end}
 use Rattle.write_text_uses.proofs.Nodes.{node-needs}
 use borrow.Author.Needs.{needs}
 use Rattle.write_text_uses.proofs.put_nodes.Statement.{statement}
 use Rattle.write_text_uses.proofs.put_nodes.Tie as tie
 
 abbrev Inv-loop : tie.InvT-loop
-Inv-loop nodes payload w₀ order at source count k₀ j₀ w k j = Ordered (length nodes / nodeWords (source .version)) (nodePairs (nodesOnly (source .version) nodes payload)) w₀ order at w k j
+Inv-loop nodes payload w₀ order at source count k₀ j₀ w k j = RunsPut (length nodes / nodeWords (source .version)) (nodePairs (nodesOnly (source .version) nodes payload)) w₀ order at w k j
 
 abbrev μ-loop : tie.MeasureT-loop
 μ-loop nodes payload w₀ order at source count k₀ j₀ w k j = length nodes / nodeWords (source .version) - j
