@@ -5,21 +5,10 @@ pub mod shape; // shape.rt: row 21
 
 ghost use mathlib.Core.Path.{_≡_};
 ghost use mathlib.Core.List.{[]};
-ghost use Rattle.image.specs.Header.{inkRight};
 ghost use Rattle.draft.specs.Source.{draftOf};
 ghost use Rattle.draft.specs.Needs.{entryCounts, wordsFor, neededOf};
 use crate::source::Source;
 use image::ImageView;
-
-// Whether an ink version is one that can be written.
-pub fn ink_right(version: u32) -> bool
-    ensures { λ r. ⌜ r ≡ inkRight version ⌝ }
-{
-    if version < 18 {
-        return false;
-    }
-    version <= 21
-}
 
 // How many work words a draft needs, or that they are more than are lent.
 pub enum Needed {

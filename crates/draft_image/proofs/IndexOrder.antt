@@ -7,28 +7,12 @@ use native.Mathlib.Omega.{arith}
 use lib.ListN.{length, getD}
 use Rattle.laws.specs.Counted.{those}
 use Rattle.laws.proofs.Members.{All, all-append, all-map}
-use Rattle.texts.specs.Text.{before}
+use Rattle.laws.proofs.Sorted.{all-isort}
+use Rattle.texts.specs.Text.{byKey}
 use Rattle.image.specs.Sections.{Sections, nodeCount, isContainer}
 use Rattle.draft.specs.Numbering.{oldOf}
-use Rattle.draft_image.specs.Strings.{insertBy, sortBy, byPath, pathOf}
+use Rattle.draft_image.specs.Strings.{byPath, pathOf}
 use Rattle.draft_image.proofs.Joins.{all-nth}
-
--- ---- sorting keeps what holds of every element
-
-module _ (key : ℕ → List ℕ) where
-  insert-all : (P : ℕ → Type 0) (i : ℕ) (js : List ℕ) → P i → All P js → All P (insertBy key i js)
-  unfolding insertBy
-  insert-all P i [] p a = (p, tt)
-  insert-all P i (j ∷ js) p a = go (before (key i) (key j)) (insert-all P i js p (a .1))
-    where
-      go : (b : Bool) → All P (insertBy key i js) → All P (cond b (i ∷ j ∷ js) (j ∷ insertBy key i js))
-      go true r = (p, a)
-      go false r = (a .0, r)
-
-  pub sort-all : (P : ℕ → Type 0) (is : List ℕ) → All P is → All P (sortBy key is)
-  unfolding sortBy
-  sort-all P [] a = tt
-  sort-all P (i ∷ is) a = insert-all P i (sortBy key is) (a .0) (sort-all P is (a .1))
 
 -- ---- the numbers below n that pass a test
 
@@ -47,7 +31,7 @@ module _ (s : Sections) (order : List ℕ) where
   paths-pass : All (λ j. (j < nodeCount s) × (isContainer s (oldOf order j) ≡ true)) (byPath s order)
   unfolding byPath
   paths-pass =
-      sort-all (pathOf s order) _ (those (nodeCount s) (λ j. isContainer s (oldOf order j))) (those-pass (nodeCount s) (λ j. isContainer s (oldOf order j)))
+      all-isort (byKey (pathOf s order)) _ (those (nodeCount s) (λ j. isContainer s (oldOf order j))) (those-pass (nodeCount s) (λ j. isContainer s (oldOf order j)))
 
   pub path-node : (k : ℕ) → k < length (byPath s order)
       → (getD (byPath s order) k 0 < nodeCount s) × (isContainer s (oldOf order (getD (byPath s order) k 0)) ≡ true)

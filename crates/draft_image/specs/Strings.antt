@@ -5,8 +5,9 @@ use mathlib.Core.Bool.{Bool, cond}
 use lib.ListN.{length, getD}
 use Rattle.laws.specs.Counted.{joinOf, those, counted}
 use Rattle.laws.specs.Lists.{flatMap, lists}
+use Rattle.laws.specs.Sorted.{isort, insertions}
 use Rattle.words.specs.Words.{NONE, isNone}
-use Rattle.texts.specs.Text.{same, before, holds, texts}
+use Rattle.texts.specs.Text.{same, byKey, holds, texts}
 use Rattle.image.specs.Sections.{Sections, nodeCount, definitionCount, nodeWord, tagOf, f, textAt, absent, isContainer, sections}
 use Rattle.records.specs.Fields.{Field, text, optional, command, operator, node, optionalNode, container, optionalContainer, plain, atMost, children, named, payload, wrong}
 use Rattle.records.specs.Records.{fieldsAt, numberOfNamed, listItems, listOrigins, listWord, listItemWord, listOriginWord, records}
@@ -17,21 +18,13 @@ use Rattle.draft.specs.Numbering.{oldOf}
 
 -- ---- containers by their paths
 
-unfoldable pub insertBy : (ℕ → List ℕ) → ℕ → List ℕ → List ℕ
-insertBy key i [] = i ∷ []
-insertBy key i (j ∷ js) = let r = insertBy key i js in cond (before (key i) (key j)) (i ∷ j ∷ js) (j ∷ r)
-
-unfoldable pub sortBy : (ℕ → List ℕ) → List ℕ → List ℕ
-sortBy key [] = []
-sortBy key (i ∷ is) = insertBy key i (sortBy key is)
-
 -- the canonical path of the image's node j
 abbrev pub pathOf : Sections → List ℕ → ℕ → List ℕ
 pathOf s order j = canonicalPath s (oldOf order j)
 
 -- the image's containers, in the text order of their paths
 unfoldable pub byPath : Sections → List ℕ → List ℕ
-byPath s order = sortBy (pathOf s order) (those (nodeCount s) (λ j. isContainer s (oldOf order j)))
+byPath s order = isort (byKey (pathOf s order)) (those (nodeCount s) (λ j. isContainer s (oldOf order j)))
 
 -- ---- the texts in the order of their use
 
@@ -103,5 +96,5 @@ optionalWords s kept at len =
 
 -- names on an `unfolding` line what a computation with this module needs
 unfoldable pub strings : Unit {0}
-unfolding insertBy sortBy byPath listTexts fieldTexts namedTexts definitionTexts uses distinct storedTexts offsetOf records paths definitions counted lists texts sections
+unfolding byPath listTexts fieldTexts namedTexts definitionTexts uses distinct storedTexts offsetOf records paths definitions counted lists insertions texts sections
 strings = tt

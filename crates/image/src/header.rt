@@ -45,7 +45,7 @@ fn version_right(version: u32) -> bool
 }
 
 // Whether an ink version is one that is known: 18 to 21.
-fn ink_right(version: u32) -> bool
+pub fn ink_right(version: u32) -> bool
     ensures { λ r. ⌜ r ≡ inkRight version ⌝ }
 {
     if version < 18 {

@@ -9,7 +9,7 @@ ghost use Rattle.image.specs.Header.{sectionBytes, sizes, openedOf};
 ghost use Rattle.image.specs.Entries.{recordOf, textEntryOf, definitionOf};
 
 pub mod encoding;
-mod header;
+pub mod header;
 pub mod order;
 pub mod payload;
 pub mod refusal;

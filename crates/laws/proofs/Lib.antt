@@ -4,4 +4,5 @@ pub mod Flags
 pub mod Chains
 pub mod RuleRuns
 pub mod Members
+pub mod Sorted
 pub mod Places

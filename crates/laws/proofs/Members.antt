@@ -9,7 +9,7 @@ use native.Mathlib.Decide.{ℕ-discrete}
 use lib.ListN.{length, length-append}
 use lib.Dec.{eqb}
 use borrow.Author.Tests.{eqb-true, eqb-false, eq-eqb}
-use Rattle.laws.specs.Counted.{sumOf, allOf, joinOf}
+use Rattle.laws.specs.Counted.{sumOf, allOf, joinOf, those}
 use Rattle.laws.specs.Lists.{has}
 use Rattle.laws.proofs.Flags as Flags
 
@@ -273,3 +273,14 @@ sum-point (suc n) i a b h e =
       | yes q ↦ rw q (omega (arith, sum-ext n a b (λ j k. e j (omega arith) (λ z. omega arith))))
       | no d ↦ omega (arith, sum-point n i a b (omega arith) (λ j k z. e j (omega arith) z), e n (omega arith) (λ z. d (sym z)))
     ]
+
+-- how many numbers below n pass a test
+pub those-length : (n : ℕ) (t : ℕ → Bool) → length (those n t) ≡ sumOf n (λ x. cond (t x) 1 0)
+unfolding those sumOf
+those-length zero t = refl
+those-length (suc n) t = length-append (those n t) (cond (t n) (n ∷ []) []) ∙ go (t n) (those-length n t)
+  where
+    go : (b : Bool) → length (those n t) ≡ sumOf n (λ x. cond (t x) 1 0)
+        → length (those n t) + length (cond b (n ∷ []) []) ≡ sumOf n (λ x. cond (t x) 1 0) + cond b 1 0
+    go true e = omega arith
+    go false e = omega arith

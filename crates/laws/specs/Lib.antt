@@ -1,3 +1,4 @@
 pub mod Refusal
 pub mod Counted
 pub mod Lists
+pub mod Sorted

@@ -43,6 +43,10 @@ unfoldable pub holds : List (List ℕ) → List ℕ → Bool
 holds [] t = false
 holds (x ∷ xs) t = same t x || holds xs t
 
+-- numbers by their keys: a's comes before b's
+abbrev pub byKey : (ℕ → List ℕ) → ℕ → ℕ → Bool
+byKey key a b = before (key a) (key b)
+
 -- entry j's text comes after that of the entry before it
 abbrev pub rising : (ℕ → List ℕ) → ℕ → Bool
 rising t zero = true

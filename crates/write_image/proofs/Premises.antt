@@ -44,7 +44,7 @@ use Rattle.write_tree_sections.specs.Summed.{textsAt, usedBy, NodesFit}
 use Rattle.write_tree_sections.proofs.FieldWords.{texts-count}
 use Rattle.write_tree_sections.specs.Put.{NodesPut, ChildrenPut, NamedPut}
 use Rattle.write_list_sections.specs.Put.{DefinitionsPut, ItemsPut, PayloadPut}
-use Rattle.write_list_sections.specs.Entered.{textsBefore, itemsBefore, payloadWords, PayloadFits}
+use Rattle.write_list_sections.specs.Entered.{textsBefore, itemsBeforeIn, payloadWords, PayloadFits}
 use Rattle.write_list_sections.proofs.DefinitionWords.{uses-are}
 use Rattle.write_list_sections.proofs.PayloadLoop.{pay-room}
 use Rattle.write_text_keys.specs.declared.Tables.{Tables}
@@ -255,8 +255,8 @@ module _ (version : ℕ) (nodes children named definitions items payload strings
     pub definitions-texts : definitionsAt s n + textsBefore definitions (length definitions / definitionWords) ≤ length w
     definitions-texts = omega (arith, uses-are s, t .offsets-end, uses-length s (numbering s), text-uses-length s w n t)
 
-    pub items-sum : itemsBefore definitions (length definitions / definitionWords) ≡ itemCount s
-    unfolding itemsBefore definitionWord
+    pub items-sum : itemsBeforeIn definitions (length definitions / definitionWords) ≡ itemCount s
+    unfolding itemsBeforeIn definitionWord
     items-sum = items-all s (tables s (t .tables))
 
     pub index-fit : (p : Paths) (path : ℕ) → Indexed s w p → path ≡ n .offsets + length (textUses s (numbering s))

@@ -9,9 +9,8 @@ use borrow.Author.Tests.{eqb-true, eqb-false, ltb-true, ltb-false}
 use lib.Dec.{eqb, ltb}
 use lib.ListN.{length, take, drop, set, getD, length-set}
 use lib.Seq.{getD-take, getD-set-same, getD-set-other, take-set-le, drop-set-lt}
-use Rattle.texts.specs.Text.{before}
+use Rattle.texts.specs.Text.{before, byKey}
 use Rattle.texts.proofs.Text.{before-trans, before-unlike}
-use Rattle.write_sorting.specs.Sorted.{byKey}
 use Rattle.write_sorting.proofs.Laws.{cases, differ}
 use Rattle.write_interning.specs.Uses.{First, Firsts, headOf}
 use Rattle.write_interning.proofs.Numbers.{Before, Order}

@@ -11,11 +11,14 @@ use borrow.Author.Tests.{ltb-true, ltb-false}
 use lib.Dec.{ltb}
 use lib.ListN.{length, getD, take, drop, set, length-set}
 use lib.Seq.{take-suc-set, take-take, take-at, drop-at, drop-set-lt, length-take-le}
-use Rattle.texts.specs.Text.{before}
+use Rattle.laws.specs.Sorted.{insert, isort}
+use Rattle.laws.proofs.Members.{All}
+use Rattle.laws.proofs.Sorted.{all-insert, all-isort, length-isort}
+use Rattle.texts.specs.Text.{before, byKey}
 use Rattle.texts.proofs.Text.{before-trans, trichotomy}
-use Rattle.write_sorting.specs.Sorted.{upFrom, byKey, insert, isort, merge, part, Ordered, Rises}
+use Rattle.write_sorting.specs.Sorted.{upFrom, merge, part, Ordered, Rises}
 use Rattle.write_sorting.proofs.Laws.{cases, differ, key-strict, sort-append}
-use Rattle.write_sorting.proofs.ListProperties.{All, Pairs, In, here, there, all-map, all-at, all-insert, all-isort, pairs-at, in-at, in-isort, length-isort}
+use Rattle.write_sorting.proofs.ListProperties.{Pairs, In, here, there, all-map, all-at, pairs-at, in-at, in-isort}
 use Rattle.write_sorting.proofs.OrderedLists.{ordered-isort, isort-rises}
 use Rattle.write_sorting.proofs.MergeInPlace.{part-take, drop-later}
 use Rattle.write_sorting.proofs.NumberedWords.{upFrom-length, upFrom-at, upFrom-append}

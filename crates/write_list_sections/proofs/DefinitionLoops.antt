@@ -9,14 +9,14 @@ use Rattle.laws.specs.Counted.{sumOf, joinOf}
 use Rattle.words.specs.Words.{bytesOf}
 use Rattle.image.specs.declared.Definition.{Definition}
 use Rattle.image.specs.Entries.{definitionOf}
-use Rattle.image.specs.Sections.{Sections, textEntrySize, definitionSize, textEntryWords, definitionWords, definitionCount, itemCount}
+use Rattle.image.specs.Sections.{Sections, textEntrySize, definitionSize, textEntryWords, definitionWords, definitionCount, itemCount, definitionWord}
 use Rattle.draft.specs.Draft.{tablesRule}
 use Rattle.draft_image.specs.Ready.{OffsetsAt, definitionUses}
 use Rattle.draft_image.specs.Written.{definitionOut, itemOut}
 use Rattle.draft_image.proofs.Joins.{sum-below, sum-scale, join-len, even-len}
 use Rattle.words.specs.Output.{over, putAt}
 use Rattle.words.proofs.EntryLoop.{Running, run-start, run-room, run-next, run-front}
-use Rattle.write_list_sections.specs.Entered.{textsBefore, itemsBefore, definitionEntry, itemWords, itemsWords}
+use Rattle.write_list_sections.specs.Entered.{textsBefore, itemsBeforeIn, definitionEntry, itemWords, itemsWords}
 use Rattle.write_list_sections.proofs.DefinitionWords.{definitions-are, items-are}
 
 -- the use of one definition after another
@@ -129,8 +129,8 @@ module _ (definitions items w : List ℕ) (offsets : ℕ) where
   unfolding itemsWords
   items-length d = even-len (getD definitions (d * definitionWords + 3) 0) 3 (itemWords items w (offsets + textsBefore definitions d + 1) (getD definitions (d * definitionWords + 2) 0)) (λ m z. item-sized items w _ _ m)
 
-  all-length : (n : ℕ) → length (joinOf n (itemsWords definitions items w offsets)) ≡ itemsBefore definitions n * textEntryWords
-  unfolding itemsBefore
+  all-length : (n : ℕ) → length (joinOf n (itemsWords definitions items w offsets)) ≡ itemsBeforeIn definitions n * textEntryWords
+  unfolding itemsBeforeIn definitionWord
   all-length n =
       join-len n (itemsWords definitions items w offsets) (λ d. getD definitions (d * definitionWords + 3) 0 * textEntryWords) (λ m z. items-length m)
       ∙ sum-scale n 3 (λ d. getD definitions (d * definitionWords + 3) 0)
@@ -142,7 +142,7 @@ pub record Itemizing (definitions items w : List ℕ) (offsets n : ℕ) (out₀ 
   pub running : Running 0 n (itemsWords definitions items w offsets) out₀ out d at
 
 module _ (definitions items w : List ℕ) (offsets n : ℕ) (out₀ : List ℕ) where
-  pub itemize-start : offsets + textsBefore definitions n ≤ length w → textEntrySize * itemsBefore definitions n ≤ length out₀
+  pub itemize-start : offsets + textsBefore definitions n ≤ length w → textEntrySize * itemsBeforeIn definitions n ≤ length out₀
       → Itemizing definitions items w offsets n out₀ out₀ offsets 0 0
   itemize-start h q =
       record {

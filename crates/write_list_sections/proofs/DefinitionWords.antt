@@ -8,7 +8,7 @@ use lib.ListN.{length, getD}
 use Rattle.laws.specs.Counted.{sumOf, joinOf}
 use Rattle.laws.proofs.Members.{sum-ext}
 use Rattle.image.specs.Sections.{Sections, definitionCount, itemCount, definitionWord, itemWord}
-use Rattle.index.specs.Definitions.{definitionText, firstItem, numberOfItems, itemTextOf, itemsBefore as itemsSum}
+use Rattle.index.specs.Definitions.{definitionText, firstItem, numberOfItems, itemTextOf, itemsBefore}
 use Rattle.draft.specs.Draft.{tablesRule}
 use Rattle.draft.proofs.Rules.{Tables, tables, items-start, items-all, item-good}
 use Rattle.draft_image.specs.Strings.{definitionTexts, offsetOf}
@@ -17,7 +17,7 @@ use Rattle.draft_image.specs.Written.{definitionOut, itemOut}
 use Rattle.draft_image.proofs.Joins.{sum-const, join-same, join-length}
 use Rattle.draft_image.proofs.Offsets.{offset-first, offsets-right, offsets-part}
 use Rattle.write_numbering.proofs.DraftWords.{text-length}
-use Rattle.write_list_sections.specs.Entered.{textsBefore, itemsBefore, definitionEntry, itemWords, itemsWords}
+use Rattle.write_list_sections.specs.Entered.{textsBefore, itemsBeforeIn, definitionEntry, itemWords, itemsWords}
 
 -- ---- joined parts
 
@@ -53,8 +53,8 @@ module _ (s : Sections) where
   pub uses-are : length (definitionUses s) ≡ textsBefore (s .definitions) (definitionCount s)
   uses-are = join-length (definitionCount s) (definitionTexts s) ∙ texts-before (definitionCount s)
 
-  items-before : (d : ℕ) → itemsBefore (s .definitions) d ≡ itemsSum s d
-  unfolding itemsBefore definitionWord
+  items-before : (d : ℕ) → itemsBeforeIn (s .definitions) d ≡ itemsBefore s d
+  unfolding itemsBeforeIn definitionWord
   items-before d = refl
 
 module _ (s : Sections) (order : List ℕ) (kept : List (List ℕ)) (w : List ℕ) (at : ℕ) (p : tablesRule s ≡ 0) (o : OffsetsAt kept (definitionUses s) w at) where
@@ -95,10 +95,10 @@ module _ (s : Sections) (order : List ℕ) (kept : List (List ℕ)) (w : List �
         let size = text-length s (itemWord s (firstItem s d + i) 0) (itemWord s (firstItem s d + i) 1) (item-good s t d h i k) in
         λ j. offset j ∷ size j ∷ itemWord s (firstItem s d + i) 2 ∷ []
 
-    items-written : itemsWords (s .definitions) (s .items) w at d ≡ joinOf (numberOfItems s d) (λ i. itemOut s order kept (itemsSum s d + i))
+    items-written : itemsWords (s .definitions) (s .items) w at d ≡ joinOf (numberOfItems s d) (λ i. itemOut s order kept (itemsBefore s d + i))
     unfolding itemsWords definitionWord
     items-written =
-        join-same (numberOfItems s d) (itemWords (s .items) w (here + 1) (firstItem s d)) (λ i. itemOut s order kept (itemsSum s d + i))
+        join-same (numberOfItems s d) (itemWords (s .items) w (here + 1) (firstItem s d)) (λ i. itemOut s order kept (itemsBefore s d + i))
         (λ i k. item-written i k ∙ ap (λ (m : ℕ). itemOut s order kept (m + i)) (items-start s t d h))
 
   pub definitions-are : joinOf (definitionCount s) (definitionEntry (s .definitions) w at) ≡ joinOf (definitionCount s) (definitionOut s order kept)
@@ -106,6 +106,6 @@ module _ (s : Sections) (order : List ℕ) (kept : List (List ℕ)) (w : List �
 
   pub items-are : joinOf (definitionCount s) (itemsWords (s .definitions) (s .items) w at) ≡ joinOf (itemCount s) (itemOut s order kept)
   items-are =
-      join-same (definitionCount s) (itemsWords (s .definitions) (s .items) w at) (λ d. joinOf (numberOfItems s d) (λ i. itemOut s order kept (itemsSum s d + i))) items-written
+      join-same (definitionCount s) (itemsWords (s .definitions) (s .items) w at) (λ d. joinOf (numberOfItems s d) (λ i. itemOut s order kept (itemsBefore s d + i))) items-written
       ∙ regroup (definitionCount s) (numberOfItems s) (itemOut s order kept)
       ∙ ap (λ (n : ℕ). joinOf n (itemOut s order kept)) (items-all s t)

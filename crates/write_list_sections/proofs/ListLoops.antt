@@ -18,7 +18,7 @@ use Rattle.words.proofs.FilledOutput.{FilledWords, start, more-words, put-is}
 use Rattle.words.proofs.EntryLoop.{Running, run-start, run-room, run-next, run-put}
 use Rattle.write_tree_sections.specs.Encoded.{textCount, optionalOffset, listTextsIn, textsBy}
 use Rattle.write_tree_sections.proofs.TextCounts.{at-list}
-use Rattle.write_list_sections.specs.Entered.{itemTexts, listItemWords, listOriginWords, listWords, nodeListWords, PutWords}
+use Rattle.write_list_sections.specs.Entered.{itemTexts, listItemWords, listOriginWords, listWords, nodeListWords, PutAsBytes}
 
 -- ---- items
 
@@ -170,7 +170,7 @@ module _ (payload w : List ℕ) (text first at : ℕ) (out₀ : List ℕ) (a b :
         origins-fit = (omega (arith, texts-are, e₂ .1), omega (arith, list-size, f₂ .long))
 
         pub list-put : (out₃ : List ℕ) → out₃ ≡ putAt out₂ (at + 8 + a * 20) (joinOf b (listOriginWords payload w k (first + 8 + a * 20)))
-            → PutWords (listWords payload w text first) out₀ out₃ at (at + 8 + a * 20 + b * 8)
+            → PutAsBytes (listWords payload w text first) out₀ out₃ at (at + 8 + a * 20 + b * 8)
         list-put out₃ e₃ =
             let whole = list-is k (e₂ .1) in
             let f = more-words at ((a ∷ b ∷ []) ++ items) out₀ out₂ f₂ (origins k) (at + 8 + a * 20) (at + 8 + a * 20 + 4 * length (origins k)) out₃
@@ -192,10 +192,10 @@ module _ (payload w : List ℕ) (text : ℕ) (r : NodeRecord) where
       → (text + listTextsIn payload (r .f0) ≤ length w) × (at + 4 * length (listWords payload w text (r .f0)) ≤ length out)
   node-asked at out h p q = (omega (arith, at-list payload r h), omega (arith, ap length (node-list h)))
 
-  pub node-put : (out₀ out : List ℕ) (at k : ℕ) → r .tag ≡ 12 → PutWords (listWords payload w text (r .f0)) out₀ out at k → PutWords (nodeListWords payload w text r) out₀ out at k
+  pub node-put : (out₀ out : List ℕ) (at k : ℕ) → r .tag ≡ 12 → PutAsBytes (listWords payload w text (r .f0)) out₀ out at k → PutAsBytes (nodeListWords payload w text r) out₀ out at k
   node-put out₀ out at k h p = rw (node-list h) p
 
-  pub node-stays : (out : List ℕ) (at : ℕ) → (r .tag ≡ 12 → ⊥) → PutWords (nodeListWords payload w text r) out out at at
+  pub node-stays : (out : List ℕ) (at : ℕ) → (r .tag ≡ 12 → ⊥) → PutAsBytes (nodeListWords payload w text r) out out at at
   unfolding bytesOf
   node-stays out at d =
       let z : at + 0 ≡ at = omega arith in

@@ -28,7 +28,7 @@ use Rattle.write_numbering.proofs.DraftWords.{retold, told}
 use Rattle.write_tree_sections.specs.Encoded.{textsBy}
 use Rattle.write_tree_sections.specs.Summed.{textsAt, usedBy}
 use Rattle.write_tree_sections.proofs.FieldWords.{texts-count}
-use Rattle.write_list_sections.specs.Entered.{nodeListWords, payloadWords, PayloadFits, PutWords}
+use Rattle.write_list_sections.specs.Entered.{nodeListWords, payloadWords, PayloadFits, PutAsBytes}
 use Rattle.write_list_sections.proofs.ListWords.{node-written}
 
 -- j nodes are passed: the next list goes to `at`, and the offset of the next node's first text is word `text`
@@ -78,7 +78,7 @@ module _ (version : ℕ) (nodes payload w : List ℕ) (order offsets : ℕ) (out
         omega (arith, run-room 0 (length nodes / nodeWords version) (payloadWords version nodes payload w order offsets) out₀ out j at (p .running) h, ap length words-here),
       )
 
-      pub pay-next : (out′ : List ℕ) (at′ : ℕ) → PutWords (nodeListWords payload w text r) out out′ at at′ → (c : ℕ) → c ≡ textsBy payload r (kindOf (r .tag))
+      pub pay-next : (out′ : List ℕ) (at′ : ℕ) → PutAsBytes (nodeListWords payload w text r) out out′ at at′ → (c : ℕ) → c ≡ textsBy payload r (kindOf (r .tag))
           → Paying version nodes payload w order offsets out₀ out′ (text + c) at′ (j + 1)
       pay-next out′ at′ z c y =
           let next = run-next 0 (length nodes / nodeWords version) (payloadWords version nodes payload w order offsets) out₀ out j at (p .running) (nodeListWords payload w text r) out′ at′ h

@@ -13,6 +13,8 @@ use Rattle.image.specs.Entries.{recordOf}
 use Rattle.image.specs.Sections.{textEntryWords, definitionWords, nodeWords, listHeadSize, listItemSize, listOriginSize}
 use Rattle.image.specs.Tags.{listTag}
 use Rattle.words.specs.Output.{putAt}
+use Rattle.index.specs.Definitions.{itemsBefore}
+use Rattle.draft.specs.Source.{draftOf}
 use Rattle.write_tree_sections.specs.Encoded.{textCount, optionalOffset}
 use Rattle.write_tree_sections.specs.Summed.{usedBy}
 
@@ -23,8 +25,8 @@ unfoldable pub textsBefore : List ℕ → ℕ → ℕ
 textsBefore definitions d = sumOf d (λ e. 1 + getD definitions (e * definitionWords + 3) 0)
 
 -- how many items they have
-unfoldable pub itemsBefore : List ℕ → ℕ → ℕ
-itemsBefore definitions d = sumOf d (λ e. getD definitions (e * definitionWords + 3) 0)
+unfoldable pub itemsBeforeIn : List ℕ → ℕ → ℕ
+itemsBeforeIn definitions d = itemsBefore (draftOf 0 [] [] [] definitions [] [] []) d
 
 -- definition d
 unfoldable pub definitionEntry : List ℕ → List ℕ → ℕ → ℕ → List ℕ
@@ -83,7 +85,7 @@ pub record PayloadFits (version : ℕ) (nodes payload w : List ℕ) (order offse
   pub order-end : order + length nodes / nodeWords version ≤ length w
   pub texts : offsets + usedBy version nodes w order payload (length nodes / nodeWords version) ≤ length w
 
--- words were written from `at` on, and end at r
-pub record PutWords (ws out₀ out : List ℕ) (at r : ℕ) : Type 0 where
+-- words were written as bytes from `at` on, and end at r
+pub record PutAsBytes (ws out₀ out : List ℕ) (at r : ℕ) : Type 0 where
   pub end : r ≡ at + 4 * length ws
   pub is : out ≡ putAt out₀ at ws

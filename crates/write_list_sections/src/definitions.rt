@@ -5,7 +5,7 @@ ghost use Prim.Native.Nat.{_+_, _*_, _/_, _≤_};
 ghost use lib.ListN.{length};
 ghost use Rattle.laws.specs.Counted.{joinOf};
 ghost use Rattle.words.specs.Output.{putAt};
-ghost use Rattle.write_list_sections.specs.Entered.{textsBefore, itemsBefore, itemWords};
+ghost use Rattle.write_list_sections.specs.Entered.{textsBefore, itemsBeforeIn, itemWords};
 ghost use Rattle.write_list_sections.specs.Put.{DefinitionsPut, ItemsPut};
 ghost use Rattle.image.specs.Sections.{definitionWords, textEntrySize, definitionSize};
 use draft::source::definition_at;
@@ -66,7 +66,7 @@ fn put_items_from(
 // Writes the items of all definitions at the start of the output.
 pub fn put_items(definitions: &[u32], items: &[u32], w: &[u32], offsets: usize, out: &mut [u8])
     requires { ⌜ offsets + textsBefore (now definitions) (length (now definitions) / definitionWords) ≤ length (now w) ⌝ }
-    requires { ⌜ textEntrySize * itemsBefore (now definitions) (length (now definitions) / definitionWords) ≤ length (now out) ⌝ }
+    requires { ⌜ textEntrySize * itemsBeforeIn (now definitions) (length (now definitions) / definitionWords) ≤ length (now out) ⌝ }
     ensures { λ r. ⌜ ItemsPut (now (definitions .entry)) (now (items .entry)) (now (w .entry)) offsets (now (out .entry)) (now (out .exit)) ⌝ }
 {
     let count = definitions.len() / ImageView::DEFINITION_WORDS;

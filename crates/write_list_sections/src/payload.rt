@@ -7,7 +7,7 @@ ghost use Rattle.words.specs.Output.{putAt};
 ghost use Rattle.write_tree_sections.specs.Encoded.{listTextsIn, textsBy};
 ghost use Rattle.records.specs.Fields.{kindOf};
 ghost use Rattle.write_list_sections.specs.Entered.{itemTexts, listItemWords, listOriginWords, listWords, nodeListWords, payloadWords};
-ghost use Rattle.write_list_sections.specs.Entered.{PayloadFits, PutWords};
+ghost use Rattle.write_list_sections.specs.Entered.{PayloadFits, PutAsBytes};
 ghost use Rattle.write_list_sections.specs.Put.{PayloadPut};
 ghost use Rattle.image.specs.Sections.{nodeWords, listHeadSize, listItemSize, listOriginSize};
 use draft::source::Source;
@@ -98,7 +98,7 @@ fn put_list_origins(
 fn put_list(payload: &[u8], start: u32, w: &[u32], text: usize, out: &mut [u8], at: usize) -> usize
     requires { ⌜ text + listTextsIn (now payload) start ≤ length (now w) ⌝ }
     requires { ⌜ at + 4 * length (listWords (now payload) (now w) text start) ≤ length (now out) ⌝ }
-    ensures { λ r. ⌜ PutWords (listWords (now (payload .entry)) (now (w .entry)) text start) (now (out .entry)) (now (out .exit)) at r ⌝ }
+    ensures { λ r. ⌜ PutAsBytes (listWords (now (payload .entry)) (now (w .entry)) text start) (now (out .entry)) (now (out .exit)) at r ⌝ }
 {
     let first = start as usize;
     let items = payload_get(payload, first);
@@ -122,7 +122,7 @@ fn put_node(
 ) -> usize
     requires { ⌜ text + textsBy (now payload) node (kindOf (node .tag)) ≤ length (now w) ⌝ }
     requires { ⌜ at + 4 * length (nodeListWords (now payload) (now w) text node) ≤ length (now out) ⌝ }
-    ensures { λ r. ⌜ PutWords (nodeListWords (now (payload .entry)) (now (w .entry)) text node) (now (out .entry)) (now (out .exit)) at r ⌝ }
+    ensures { λ r. ⌜ PutAsBytes (nodeListWords (now (payload .entry)) (now (w .entry)) text node) (now (out .entry)) (now (out .exit)) at r ⌝ }
 {
     if node.tag != tag::LIST_VALUE {
         return at;

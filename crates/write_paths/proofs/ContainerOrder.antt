@@ -11,15 +11,17 @@ use lib.Seq.{getD-append-seam, ext-getD}
 use lib.Dec.{eqb}
 use Rattle.laws.specs.Counted.{allOf, joinOf, those}
 use Rattle.laws.proofs.Members.{All, all-join, length-join}
-use Rattle.texts.specs.Text.{before}
+use Rattle.laws.specs.Sorted.{insert, isort}
+use Rattle.laws.proofs.Sorted.{all-isort}
+use Rattle.texts.specs.Text.{before, byKey}
 use Rattle.image.specs.Sections.{Sections, nodeCount, nodeWord, isContainer}
 use Rattle.draft.specs.Numbering.{oldOf}
-use Rattle.draft_image.specs.Strings.{pathOf, byPath, sortBy}
+use Rattle.draft_image.specs.Strings.{pathOf, byPath}
 use Rattle.draft_image.specs.Ready.{OldsAt}
 use Rattle.draft.specs.Draft.{placed, pathsRule}
-use Rattle.write_sorting.specs.Sorted.{upFrom, insert, isort, byKey, Rises, Unlike, Twice}
+use Rattle.write_sorting.specs.Sorted.{upFrom, Rises, Unlike, Twice}
 use Rattle.write_sorting.proofs.NumberedWords.{upFrom-length, upFrom-at, upFrom-append}
-use Rattle.write_sorting.proofs.KeyOrder.{rises-unlike, level-twice, isort-sortBy}
+use Rattle.write_sorting.proofs.KeyOrder.{rises-unlike, level-twice}
 use Rattle.write_paths.specs.Listed.{tagAt, containersIn, containers, Permutation}
 use Rattle.write_paths.proofs.Rule.{twice, once}
 
@@ -55,25 +57,11 @@ insert-agrees j k x [] e a = refl
 insert-agrees j k x (y ∷ ys) e a =
     rw (e, a .0) (ap (λ (l : List ℕ). cond (before (k y) (k x)) (y ∷ l) (x ∷ y ∷ ys)) (insert-agrees j k x ys e (a .1)))
 
-all-inserted : (P : ℕ → Type 0) (lt : ℕ → ℕ → Bool) (x : ℕ) (l : List ℕ) → P x → All P l → All P (insert lt x l)
-unfolding insert
-all-inserted P lt x [] p a = (p, tt)
-all-inserted P lt x (y ∷ ys) p a = go (lt y x) (all-inserted P lt x ys p (a .1))
-  where
-    go : (b : Bool) → All P (insert lt x ys) → All P (cond b (y ∷ insert lt x ys) (x ∷ y ∷ ys))
-    go true r = (a .0, r)
-    go false r = (p, a)
-
-all-sorted : (P : ℕ → Type 0) (lt : ℕ → ℕ → Bool) (l : List ℕ) → All P l → All P (isort lt l)
-unfolding isort
-all-sorted P lt [] a = tt
-all-sorted P lt (x ∷ xs) a = all-inserted P lt x (isort lt xs) (a .0) (all-sorted P lt xs (a .1))
-
 pub sort-agrees : (j k : ℕ → List ℕ) (l : List ℕ) → All (λ y. j y ≡ k y) l → isort (byKey j) l ≡ isort (byKey k) l
 unfolding isort
 sort-agrees j k [] a = refl
 sort-agrees j k (x ∷ xs) a =
-    insert-agrees j k x (isort (byKey j) xs) (a .0) (all-sorted (λ y. j y ≡ k y) (byKey j) xs (a .1))
+    insert-agrees j k x (isort (byKey j) xs) (a .0) (all-isort (byKey j) (λ y. j y ≡ k y) xs (a .1))
     ∙ ap (insert (byKey k) x) (sort-agrees j k xs (a .1))
 
 -- ---- sorting names of things sorts the things
@@ -156,7 +144,7 @@ module _ (s : Sections) (order : List ℕ) where
     named a h = ap key (names-at (length boxes) a h) ∙ agrees a h
 
     pub sorted-below : All (λ a. a < length boxes) (isort (byKey key) (upFrom 0 (length boxes)))
-    sorted-below = all-sorted (λ a. a < length boxes) (byKey key) (upFrom 0 (length boxes)) (all-below (λ a. a < length boxes) (length boxes) (λ i h. h))
+    sorted-below = all-isort (byKey key) (λ a. a < length boxes) (upFrom 0 (length boxes)) (all-below (λ a. a < length boxes) (length boxes) (λ i h. h))
 
     module _ (r : Permutation (nodeCount s) order) (all : allOf (nodeCount s) (placed s) ≡ true) where
       -- neighbours rise: rule 22 passes, and the places are in the order of the index
@@ -173,7 +161,7 @@ module _ (s : Sections) (order : List ℕ) where
         unfolding byPath
         paths-order =
             ap (map (λ a. getD boxes a 0)) same-sort ∙ sort-map (pathOf s order) (λ a. getD boxes a 0) (upFrom 0 (length boxes))
-            ∙ ap (isort (byKey (pathOf s order))) (names-map boxes) ∙ isort-sortBy (pathOf s order) boxes unlike
+            ∙ ap (isort (byKey (pathOf s order))) (names-map boxes)
 
       -- two neighbours do not: it refuses
       pub paths-refuse : (i : ℕ) → suc i < length boxes

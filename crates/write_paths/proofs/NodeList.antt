@@ -8,8 +8,9 @@ use lib.ListN.{length, getD, take, drop, length-take}
 use lib.Seq.{sets, getD-take, getD-drop, drop-drop, take-at, ext-getD, length-sets}
 use Rattle.laws.specs.Counted.{joinOf, allOf}
 use Rattle.laws.proofs.Members.{length-join, all-of, all-so, all-ext}
-use Rattle.texts.specs.Text.{before, rising}
-use Rattle.write_sorting.specs.Sorted.{upFrom, isort, byKey, part}
+use Rattle.laws.specs.Sorted.{isort}
+use Rattle.texts.specs.Text.{before, rising, byKey}
+use Rattle.write_sorting.specs.Sorted.{upFrom, part}
 use Rattle.write_text_keys.specs.declared.Tables.{Tables}
 use Rattle.write_text_keys.specs.Keys.{keyOf, keyIn}
 use Rattle.write_paths.specs.Arranged.{sortedNames, Arranged}

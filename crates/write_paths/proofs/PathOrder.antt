@@ -9,15 +9,16 @@ use lib.Seq.{sets, getD-take, getD-drop, length-sets}
 use lib.Dec.{eqb}
 use Rattle.laws.specs.Counted.{allOf, those}
 use Rattle.laws.proofs.Members.{All, all-of, all-append, all-map}
-use Rattle.texts.specs.Text.{before, rising}
+use Rattle.laws.specs.Sorted.{isort}
+use Rattle.laws.proofs.Sorted.{length-isort}
+use Rattle.texts.specs.Text.{before, rising, byKey}
 use Rattle.image.specs.Sections.{Sections, nodeCount, f, isContainer, goodOptional}
 use Rattle.index.specs.Paths.{canonicalPath}
 use Rattle.draft.specs.Draft.{placed, pathsRule}
 use Rattle.draft.specs.Numbering.{oldOf}
 use Rattle.draft_image.specs.Strings.{pathOf, byPath}
 use Rattle.draft_image.specs.Ready.{OldsAt}
-use Rattle.write_sorting.specs.Sorted.{upFrom, isort, byKey, Rises}
-use Rattle.write_sorting.proofs.ListProperties.{length-isort}
+use Rattle.write_sorting.specs.Sorted.{upFrom, Rises}
 use Rattle.write_text_keys.specs.declared.Tables.{Tables}
 use Rattle.write_text_keys.specs.Keys.{keyOf, keyIn, nodeOf, longOf, lengthFrom}
 use Rattle.write_text_keys.proofs.CanonicalPaths.{path-long, key-path, every-container}

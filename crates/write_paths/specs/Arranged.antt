@@ -6,8 +6,9 @@ use mathlib.Core.Bool.{Bool, true, cond}
 use lib.ListN.{length, getD, take, drop}
 use lib.Dec.{eqb}
 use Rattle.laws.specs.Counted.{allOf}
+use Rattle.laws.specs.Sorted.{isort}
 use Rattle.words.specs.Words.{NONE}
-use Rattle.texts.specs.Text.{rising}
+use Rattle.texts.specs.Text.{rising, byKey}
 use Rattle.image.specs.Sections.{Sections, nodeWords, nodeCount, f, isContainer, goodOptional}
 use Rattle.tree.specs.Reach.{Climbs}
 use Rattle.index.specs.Paths.{canonicalPath}
@@ -15,7 +16,7 @@ use Rattle.draft.specs.Draft.{pathsRule}
 use Rattle.draft.specs.Numbering.{oldOf}
 use Rattle.draft_image.specs.Strings.{byPath, pathOf}
 use Rattle.draft_image.specs.Ready.{OldsAt}
-use Rattle.write_sorting.specs.Sorted.{upFrom, isort, byKey}
+use Rattle.write_sorting.specs.Sorted.{upFrom}
 use Rattle.write_text_keys.specs.Keys.{longOf}
 use Rattle.write_text_keys.specs.declared.Tables.{Tables}
 use Rattle.write_paths.specs.declared.Indexed.{Indexed}

@@ -9,6 +9,7 @@ use lib.ListN.{length, getD, drop, length-drop}
 use lib.Seq.{getD-take, getD-drop, length-take-le, ext-getD}
 use lib.Dec.{leb}
 use borrow.Author.Tests.{le-leb, lt-leb, ne-eqb}
+use Rattle.texts.specs.Text.{byKey}
 use Rattle.laws.specs.Refusal.{unless, _▸_}
 use Rattle.laws.specs.Counted.{sumOf}
 use Rattle.laws.proofs.First.{first, second, pass, fail}
@@ -33,7 +34,6 @@ use Rattle.write_text_uses.proofs.Bounds.{uses-bound, olds-below}
 use Rattle.write_text_uses.proofs.AllUses.{uses-are}
 use Rattle.write_text_keys.specs.Keys.{keyOf, longOf}
 use Rattle.write_interning.specs.Uses.{storedOf, joined, Offsets, RisesFrom}
-use Rattle.write_sorting.specs.Sorted.{byKey}
 use Rattle.write_paths.specs.declared.Indexed.{Indexed}
 use Rattle.write_paths.specs.declared.Indexed.the-variants as indexed
 use Rattle.write_paths.specs.Arranged.{indexedOf, Indexes}

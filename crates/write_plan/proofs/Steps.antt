@@ -5,6 +5,7 @@ use mathlib.Core.List.{List}
 use mathlib.Core.Bool.{Bool, true, false}
 use native.Mathlib.Omega.{arith}
 use lib.ListN.{length, getD, drop}
+use Rattle.texts.specs.Text.{byKey}
 use Rattle.image.specs.Sections.{Sections, nodeWords, nodeCount}
 use Rattle.tree.specs.Tree.{readWalk, allSeen}
 use Rattle.tree.specs.Work.{treeWords}
@@ -22,7 +23,6 @@ use Rattle.write_text_uses.specs.Uses.{wordsFrom, Collectable, Collected}
 use Rattle.write_text_keys.specs.declared.Tables.{Tables}
 use Rattle.write_text_keys.specs.Keys.{keyIn, Placed}
 use Rattle.write_interning.specs.Uses.{RisesFrom}
-use Rattle.write_sorting.specs.Sorted.{byKey}
 use Rattle.write_paths.specs.declared.Indexed.{Indexed}
 use Rattle.write_paths.specs.declared.Indexed.the-variants as indexed
 use Rattle.write_paths.specs.Arranged.{Rooted, Indexes}

@@ -2,14 +2,17 @@
 use Prim.Native.Nat.{ℕ, zero, suc, _+_, _*_, _-_, _≤_, _<_}
 use mathlib.Core.Path.{_≡_, refl, sym, ap, _∙_}
 use mathlib.Core.List.{List, [], _∷_, _++_, map, append-assoc}
-use mathlib.Core.Bool.{Bool, true, false, cond}
+use mathlib.Core.Bool.{true, cond}
 use native.Mathlib.Omega.{arith}
 use native.Mathlib.Decide.{decLt}
 use lib.ListN.{length, getD, take, drop, length-append, length-map, List·getD-append}
 use lib.Seq.{getD-append-add, getD-drop, drop-drop, drop-at, length-take-le, ext-getD, getD-append-seam}
-use Rattle.laws.specs.Counted.{joinOf, sumOf, those}
+use Rattle.laws.specs.Counted.{joinOf, sumOf}
+use Rattle.laws.specs.Sorted.{isort}
+use Rattle.laws.proofs.Members.{those-length}
+use Rattle.laws.proofs.Sorted.{all-isort, length-isort}
 use Rattle.records.specs.Records.{containerOf}
-use Rattle.texts.specs.Text.{before}
+use Rattle.texts.specs.Text.{before, byKey}
 use Rattle.image.specs.Sections.{Sections, nodeCount, f, isContainer, goodOptional}
 use Rattle.draft.specs.Draft.{tablesRule, reachRule, shapeRule, pathsRule}
 use Rattle.draft.specs.Numbering.{numbering, oldOf}
@@ -19,9 +22,9 @@ use Rattle.write_text_uses.specs.Uses.{useWords, withWords}
 use Rattle.write_text_uses.proofs.Fits.{uses-length, use-at}
 use Rattle.write_text_uses.proofs.Bounds.{olds-below}
 use Rattle.write_text_uses.proofs.Sums.{sum-ordered}
-use Rattle.write_sorting.specs.Sorted.{isort, byKey, Rises}
-use Rattle.write_sorting.proofs.ListProperties.{at-all, all-at, all-isort, length-isort}
-use Rattle.write_sorting.proofs.KeyOrder.{unlike-rises, isort-sortBy}
+use Rattle.write_sorting.specs.Sorted.{Rises}
+use Rattle.write_sorting.proofs.ListProperties.{at-all, all-at}
+use Rattle.write_sorting.proofs.KeyOrder.{unlike-rises}
 use Rattle.write_interning.specs.Uses.{textsOf}
 use Rattle.write_text_keys.specs.Keys.{keyOf, longOf}
 use Rattle.write_text_keys.proofs.Uses.{key-text}
@@ -29,16 +32,6 @@ use Rattle.write_text_keys.proofs.CanonicalPaths.{key-path, every-container}
 use Rattle.write_paths.specs.Listed.{containers}
 use Rattle.write_paths.proofs.Rule.{twice, those-at}
 use Rattle.write_plan.proofs.Premises.{once, renumbers, rooted}
-
-those-long : (n : ℕ) (t : ℕ → Bool) → length (those n t) ≡ sumOf n (λ x. cond (t x) 1 0)
-unfolding those sumOf
-those-long zero t = refl
-those-long (suc n) t = length-append (those n t) (cond (t n) (n ∷ []) []) ∙ go (t n) (those-long n t)
-  where
-    go : (b : Bool) → length (those n t) ≡ sumOf n (λ x. cond (t x) 1 0)
-        → length (those n t) + length (cond b (n ∷ []) []) ≡ sumOf n (λ x. cond (t x) 1 0) + cond b 1 0
-    go true e = omega arith
-    go false e = omega arith
 
 -- ---- the index rises
 
@@ -52,7 +45,7 @@ module _ (s : Sections) (p : tablesRule s ≡ 0) (q : reachRule s ≡ 0) (free :
 
   sorted : isort (byKey (pathOf s order)) (containers s order) ≡ byPath s order
   unfolding byPath
-  sorted = isort-sortBy (pathOf s order) (containers s order) unlike
+  sorted = refl
 
   pub index-rises : Rises (byKey (pathOf s order)) (byPath s order)
   index-rises i h =
@@ -76,7 +69,7 @@ module _ (s : Sections) (p : tablesRule s ≡ 0) (q : reachRule s ≡ 0) (free :
   pub boxes-long : length (byPath s order) ≡ sumOf (nodeCount s) (containerOf s)
   boxes-long =
       ap {B = ℕ} length (sym sorted) ∙ length-isort (byKey (pathOf s order)) (containers s order)
-      ∙ those-long (nodeCount s) (λ j. isContainer s (oldOf order j)) ∙ containers-sum ∙ sum-ordered (nodeCount s) order (once s p q) (containerOf s)
+      ∙ those-length (nodeCount s) (λ j. isContainer s (oldOf order j)) ∙ containers-sum ∙ sum-ordered (nodeCount s) order (once s p q) (containerOf s)
     where
       containers-sum : sumOf (nodeCount s) (λ j. cond (isContainer s (oldOf order j)) 1 0) ≡ sumOf (nodeCount s) (λ j. containerOf s (oldOf order j))
       containers-sum = unfold containerOf in refl

@@ -4,7 +4,7 @@ ghost use mathlib.Core.Path.{_≡_};
 ghost use mathlib.Core.List.{List};
 ghost use Prim.Native.Nat.{ℕ, _+_, _≤_};
 ghost use lib.ListN.{length, drop};
-ghost use Rattle.write_sorting.specs.Sorted.{byKey};
+ghost use Rattle.texts.specs.Text.{byKey};
 ghost use Rattle.write_interning.specs.Uses.{RisesFrom};
 ghost use Rattle.write_text_keys.specs.Keys.{keyIn, Placed};
 ghost use Rattle.draft.specs.Source.{draftOf};

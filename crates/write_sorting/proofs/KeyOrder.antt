@@ -1,17 +1,19 @@
--- A list sorted by keys: its neighbours rise where no two keys are one, and then it is the list that draft_image/specs/Strings.antt sorts.
+-- A list sorted by keys: its neighbours rise where no two keys are one.
 use Prim.Native.Nat.{ℕ, suc, _<_}
-use mathlib.Core.Path.{_≡_, refl, sym, ap, _∙_}
+use mathlib.Core.Path.{_≡_, sym, _∙_}
 use mathlib.Core.Logic.{_⊎_, inl, inr, ⊎-elim}
 use mathlib.Core.List.{List, [], _∷_}
-use mathlib.Core.Bool.{true, false, cond}
+use mathlib.Core.Bool.{true, false}
 use native.Mathlib.Omega.{arith}
 use lib.ListN.{length, getD}
-use Rattle.texts.specs.Text.{before, same}
-use Rattle.texts.proofs.Text.{before-unlike, before-asym, unlike-before, same-equal, same-unlike}
-use Rattle.draft_image.specs.Strings.{insertBy, sortBy}
-use Rattle.write_sorting.specs.Sorted.{byKey, insert, isort, Rises, Unlike, Twice}
+use Rattle.laws.specs.Sorted.{isort}
+use Rattle.laws.proofs.Members.{All}
+use Rattle.laws.proofs.Sorted.{length-isort}
+use Rattle.texts.specs.Text.{same, byKey}
+use Rattle.texts.proofs.Text.{before-unlike, unlike-before, same-equal, same-unlike}
+use Rattle.write_sorting.specs.Sorted.{Rises, Unlike, Twice}
 use Rattle.write_sorting.proofs.Laws.{cases, differ, key-strict}
-use Rattle.write_sorting.proofs.ListProperties.{All, Pairs, all-isort, pairs-at, at-pairs, pairs-isort, isort-pairs, length-isort}
+use Rattle.write_sorting.proofs.ListProperties.{Pairs, pairs-at, at-pairs, pairs-isort, isort-pairs}
 use Rattle.write_sorting.proofs.OrderedLists.{ordered-isort, rises-pairs}
 
 module _ (key : ℕ → List ℕ) where
@@ -61,26 +63,3 @@ module _ (key : ℕ → List ℕ) where
       (λ s. differ (sym (unlike-rises l (pairs-at Apart l s) i (omega (arith, length-isort (byKey key) l))) ∙ e))
       (λ t. t)
       (all-or l)
-
-  -- ---- the other sort by keys, which differs where keys are one alone
-
-  by-step : (x y : ℕ) (ys : List ℕ) → insertBy key x (y ∷ ys) ≡ cond (before (key x) (key y)) (x ∷ y ∷ ys) (y ∷ insertBy key x ys)
-  unfolding insertBy
-  by-step x y ys = refl
-
-  insert-by : (x : ℕ) (l : List ℕ) → All (Apart x) l → insert (byKey key) x l ≡ insertBy key x l
-  unfolding insert insertBy
-  insert-by x [] a = refl
-  insert-by x (y ∷ ys) a =
-      ⊎-elim
-      (λ p. rw (before-asym (key x) (key y) p) (sym (by-step x y ys ∙ rw p)))
-      (λ p. rw p (ap (λ (r : List ℕ). y ∷ r) (insert-by x ys (a .1)) ∙ sym (by-step x y ys ∙ rw (before-asym (key y) (key x) p))))
-      (unlike-before (key x) (key y) (a .0))
-
-  sort-pairs : (l : List ℕ) → Pairs Apart l → isort (byKey key) l ≡ sortBy key l
-  unfolding isort sortBy
-  sort-pairs [] s = refl
-  sort-pairs (x ∷ xs) s = insert-by x (isort (byKey key) xs) (all-isort (byKey key) (Apart x) xs (s .0)) ∙ ap (insertBy key x) (sort-pairs xs (s .1))
-
-  pub isort-sortBy : (l : List ℕ) → Unlike key l → isort (byKey key) l ≡ sortBy key l
-  isort-sortBy l u = sort-pairs l (at-pairs Apart l u)

@@ -5,8 +5,10 @@ use mathlib.Core.List.{List, [], _∷_, _++_}
 use mathlib.Core.Bool.{Bool, true, false, cond, false≢true}
 use native.Mathlib.Omega.{arith}
 use lib.ListN.{length}
+use Rattle.laws.specs.Sorted.{insert, isort}
 use Rattle.texts.proofs.Text.{before-self, before-trans, before-apart}
-use Rattle.write_sorting.specs.Sorted.{byKey, insert, isort, mergeWith, merge, Strict, rightFirst}
+use Rattle.texts.specs.Text.{byKey}
+use Rattle.write_sorting.specs.Sorted.{mergeWith, merge, Strict, rightFirst}
 
 -- the two cases of a test, each with its equation
 pub cases : {P : Type 0} (t : Bool) → (t ≡ true → P) → (t ≡ false → P) → P

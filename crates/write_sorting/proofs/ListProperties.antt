@@ -1,17 +1,14 @@
 -- What holds of each element of a list, or of each and every later one, and that a sort keeps it.
 use Prim.Native.Nat.{ℕ, zero, suc, _<_}
-use mathlib.Core.Path.{_≡_, refl, ap, _∙_}
+use mathlib.Core.Path.{_≡_, refl}
 use mathlib.Core.List.{List, [], _∷_}
 use mathlib.Core.Bool.{Bool}
 use native.Mathlib.Omega.{arith}
 use lib.ListN.{length, getD}
-use Rattle.write_sorting.specs.Sorted.{insert, isort}
+use Rattle.laws.specs.Sorted.{insert, isort}
+use Rattle.laws.proofs.Members.{All}
+use Rattle.laws.proofs.Sorted.{all-insert, all-isort}
 use Rattle.write_sorting.proofs.Laws.{cases}
-
--- P of each element
-abbrev pub All : (ℕ → Type 0) → List ℕ → Type 0
-All P [] = Unit {0}
-All P (x ∷ xs) = P x × All P xs
 
 -- R of each element and every later one
 abbrev pub Pairs : (ℕ → ℕ → Type 0) → List ℕ → Type 0
@@ -62,21 +59,6 @@ in-at k l (there {xs = xs} m) = (suc (in-at k xs m .0), omega (arith, in-at k xs
 -- ---- a sort has the same elements
 
 module _ (lt : ℕ → ℕ → Bool) where
-  pub length-insert : (x : ℕ) (l : List ℕ) → length (insert lt x l) ≡ suc (length l)
-  unfolding insert
-  length-insert x [] = refl
-  length-insert x (y ∷ ys) = cases (lt y x) (λ e. rw e (ap suc (length-insert x ys))) (λ e. rw e)
-
-  pub length-isort : (l : List ℕ) → length (isort lt l) ≡ length l
-  unfolding isort
-  length-isort [] = refl
-  length-isort (x ∷ xs) = length-insert x (isort lt xs) ∙ ap suc (length-isort xs)
-
-  pub all-insert : (P : ℕ → Type 0) (x : ℕ) (l : List ℕ) → P x → All P l → All P (insert lt x l)
-  unfolding insert
-  all-insert P x [] p a = (p, tt)
-  all-insert P x (y ∷ ys) p a = cases (lt y x) (λ e. rw e (a .0, all-insert P x ys p (a .1))) (λ e. rw e (p, a))
-
   pub insert-all : (P : ℕ → Type 0) (x : ℕ) (l : List ℕ) → All P (insert lt x l) → P x × All P l
   unfolding insert
   insert-all P x [] a = a
@@ -84,11 +66,6 @@ module _ (lt : ℕ → ℕ → Bool) where
       cases (lt y x)
       (λ e. let b = rw e at a in let r = insert-all P x ys (b .1) in (r .0, (b .0, r .1)))
       (λ e. rw e at a)
-
-  pub all-isort : (P : ℕ → Type 0) (l : List ℕ) → All P l → All P (isort lt l)
-  unfolding isort
-  all-isort P [] a = tt
-  all-isort P (x ∷ xs) a = all-insert P x (isort lt xs) (a .0) (all-isort P xs (a .1))
 
   in-new : (x : ℕ) (l : List ℕ) → In x (insert lt x l)
   unfolding insert
@@ -112,7 +89,7 @@ module _ (lt : ℕ → ℕ → Bool) where
     pairs-insert x [] a s = (tt, tt)
     pairs-insert x (y ∷ ys) a s =
         cases (lt y x)
-        (λ e. rw e (all-insert (R y) x ys (turn x y (a .0)) (s .0), pairs-insert x ys (a .1) (s .1)))
+        (λ e. rw e (all-insert lt (R y) x ys (turn x y (a .0)) (s .0), pairs-insert x ys (a .1) (s .1)))
         (λ e. rw e (a, s))
 
     insert-pairs : (x : ℕ) (l : List ℕ) → Pairs R (insert lt x l) → All (R x) l × Pairs R l
@@ -129,7 +106,7 @@ module _ (lt : ℕ → ℕ → Bool) where
     pub pairs-isort : (l : List ℕ) → Pairs R l → Pairs R (isort lt l)
     unfolding isort
     pairs-isort [] s = tt
-    pairs-isort (x ∷ xs) s = pairs-insert x (isort lt xs) (all-isort (R x) xs (s .0)) (pairs-isort xs (s .1))
+    pairs-isort (x ∷ xs) s = pairs-insert x (isort lt xs) (all-isort lt (R x) xs (s .0)) (pairs-isort xs (s .1))
 
     pub isort-pairs : (l : List ℕ) → Pairs R (isort lt l) → Pairs R l
     unfolding isort

@@ -10,7 +10,8 @@ use borrow.Author.Tests.{ltb-true, ltb-false}
 use lib.Dec.{ltb}
 use lib.ListN.{length, take, drop, set, getD, length-set, length-append, length-drop, List·getD-append, drop-of-length-le}
 use lib.Seq.{drop-cons, take-suc-set, take-all, take-add, drop-drop, getD-drop, drop-set-lt, length-take-le, take-at, drop-at, paste, paste-suc, length-paste, getD-take}
-use Rattle.write_sorting.specs.Sorted.{merge, isort, rightFirst, takesRight, Strict, part, Ordered}
+use Rattle.laws.specs.Sorted.{isort}
+use Rattle.write_sorting.specs.Sorted.{merge, rightFirst, takesRight, Strict, part, Ordered}
 use Rattle.write_sorting.proofs.Laws.{cases, differ, merge-nil, sort-append, first-left, first-right}
 use Rattle.write_sorting.proofs.OrderedLists.{ordered-isort, merge-ordered}
 

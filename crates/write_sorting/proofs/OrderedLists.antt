@@ -6,9 +6,12 @@ use mathlib.Core.Bool.{Bool, true, false}
 use native.Mathlib.Omega.{arith}
 use native.Mathlib.Decide.{ℕ-discrete}
 use lib.ListN.{length, getD}
-use Rattle.write_sorting.specs.Sorted.{insert, isort, merge, Strict, Rises, Ordered}
+use Rattle.laws.specs.Sorted.{insert, isort}
+use Rattle.laws.proofs.Members.{All}
+use Rattle.laws.proofs.Sorted.{all-insert}
+use Rattle.write_sorting.specs.Sorted.{merge, Strict, Rises, Ordered}
 use Rattle.write_sorting.proofs.Laws.{cases, differ, merge-nil, merge-step}
-use Rattle.write_sorting.proofs.ListProperties.{All, Pairs, all-map, at-all, pairs-at, at-pairs, chain, all-insert}
+use Rattle.write_sorting.proofs.ListProperties.{Pairs, all-map, at-all, pairs-at, at-pairs, chain}
 
 module _ (lt : ℕ → ℕ → Bool) (S : Strict lt) where
   -- y is not above z

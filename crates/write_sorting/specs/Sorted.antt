@@ -1,29 +1,15 @@
--- Sorting a list of numbers by a test `lt a b`, that a's key comes before b's. `isort` is the meaning of a sort: by insertion, and stable. `merge` is what a merge of two lists gives, the left first where keys are equal.
+-- Sorting a list of numbers by a test `lt a b`, that a's key comes before b's: `isort` of `laws` is its meaning, and `merge` is what a merge of two lists gives, the left first where keys are equal.
 use Prim.Native.Nat.{ℕ, zero, suc, _+_, _-_, _<_}
 use mathlib.Core.Path.{_≡_}
 use mathlib.Core.List.{List, [], _∷_}
 use mathlib.Core.Bool.{Bool, true, false, cond}
 use lib.Dec.{ltb}
 use lib.ListN.{length, getD, take, drop}
-use Rattle.texts.specs.Text.{before}
 
 -- the numbers from k on, n of them
 unfoldable pub upFrom : ℕ → ℕ → List ℕ
 upFrom k zero = []
 upFrom k (suc n) = k ∷ upFrom (suc k) n
-
--- numbers by their keys
-abbrev pub byKey : (ℕ → List ℕ) → ℕ → ℕ → Bool
-byKey key a b = before (key a) (key b)
-
--- x goes before the first element that is not below it
-unfoldable pub insert : (ℕ → ℕ → Bool) → ℕ → List ℕ → List ℕ
-insert lt x [] = x ∷ []
-insert lt x (y ∷ ys) = let r = insert lt x ys in cond (lt y x) (y ∷ r) (x ∷ y ∷ ys)
-
-unfoldable pub isort : (ℕ → ℕ → Bool) → List ℕ → List ℕ
-isort lt [] = []
-isort lt (x ∷ xs) = insert lt x (isort lt xs)
 
 -- a merge of x ∷ xs and a list, given the merge of xs and any list
 unfoldable pub mergeWith : (ℕ → ℕ → Bool) → ℕ → (List ℕ → List ℕ) → List ℕ → List ℕ
@@ -78,5 +64,5 @@ takesRight lt w n i j = cond (ltb j n) (lt (getD w j 0) (getD w (n + i) 0)) fals
 
 -- names on an `unfolding` line what a computation with this module needs
 unfoldable pub sorts : Unit {0}
-unfolding insert isort mergeWith merge
+unfolding mergeWith merge
 sorts = tt

@@ -4,8 +4,10 @@ ghost use mathlib.Core.Path.{_≡_};
 ghost use Prim.Native.Nat.{_≤_, _<_, _+_, _-_, _^_};
 ghost use lib.ListN.{length, take, drop};
 ghost use lib.Seq.{paste};
+ghost use Rattle.laws.specs.Sorted.{isort};
+ghost use Rattle.texts.specs.Text.{byKey};
 ghost use Rattle.write_text_keys.specs.Keys.{keyIn, Placed};
-ghost use Rattle.write_sorting.specs.Sorted.{byKey, isort, merge, takesRight, part, Ordered, upFrom};
+ghost use Rattle.write_sorting.specs.Sorted.{merge, takesRight, part, Ordered, upFrom};
 use draft::source::Source;
 use write_text_keys::Tables;
 

@@ -18,6 +18,7 @@ use draft::Needed;
 use draft::source::Source;
 use draft::tables;
 use image::ImageView;
+use image::header::ink_right;
 use image::refusal::BAD_INK_VERSION;
 use image::refusal::NO_ROOM;
 use image::refusal::TOO_FEW_WORDS;
@@ -212,7 +213,7 @@ pub fn encode(
         now (work .exit) ≡ encodeWorkAfter (writeWords s) (encodeRule ink s (length (now (work .entry))) (length (now (out .entry))))
         (now (work .entry))) ⌝ }
 {
-    if !draft::ink_right(ink) {
+    if !ink_right(ink) {
         return Encoded::Refused(BAD_INK_VERSION);
     }
     let source = Source {

@@ -7,13 +7,15 @@ use mathlib.Core.Bool.{Bool, true, false, cond, not, false≢true}
 use native.Mathlib.Omega.{arith}
 use native.Mathlib.Nat.{le-of-suc-le-suc}
 use native.Mathlib.Decide.{decLt}
-use lib.ListN.{length, getD, length-append}
+use lib.ListN.{length, getD}
 use borrow.Author.Tests.{not-true}
 use Rattle.laws.specs.Counted.{sumOf, those}
 use Rattle.laws.specs.Lists.{placeIn}
+use Rattle.laws.specs.Sorted.{insert, isort}
 use Rattle.laws.proofs.First.{pass, then, first-of}
-use Rattle.laws.proofs.Members.{and-true, or-left, all-of, All, all-map, all-append, sum-ext}
-use Rattle.texts.specs.Text.{before, same, rising}
+use Rattle.laws.proofs.Members.{and-true, or-left, all-of, All, all-map, all-append, sum-ext, those-length}
+use Rattle.laws.proofs.Sorted.{all-isort, length-isort}
+use Rattle.texts.specs.Text.{before, same, byKey, rising}
 use Rattle.texts.proofs.Text.{same-self, same-turned, same-unlike, unlike-before}
 use Rattle.image.specs.Sections.{Sections, nodeCount, indexCount, indexWord, isContainer}
 use Rattle.records.specs.Records.{containerOf, containersBefore}
@@ -21,9 +23,9 @@ use Rattle.index.specs.Paths.{canonicalPath, fitsPath, fits}
 use Rattle.index.specs.Index.{indexText, indexEntryRule, indexRule}
 use Rattle.draft.specs.Draft.{newPath}
 use Rattle.draft.specs.Numbering.{oldOf}
-use Rattle.draft_image.specs.Strings.{insertBy, sortBy, byPath, pathOf, offsetOf}
+use Rattle.draft_image.specs.Strings.{byPath, pathOf, offsetOf}
 use Rattle.draft_image.specs.Written.{indexOut}
-use Rattle.draft_image.proofs.IndexOrder.{sort-all, those-pass, path-node}
+use Rattle.draft_image.proofs.IndexOrder.{those-pass, path-node}
 use Rattle.written.proofs.Lists.{or-else}
 use Rattle.draft_image.proofs.Blocks.{w, index-count, index-word}
 use Rattle.written.proofs.Fields.{Given, counted, old-in, new-old, inside-written, container-same}
@@ -51,40 +53,26 @@ module _ (key : ℕ → List ℕ) where
   Apart [] = Unit {0}
   Apart (x ∷ xs) = All (Unlike x) xs × Apart xs
 
-  insert-length : (i : ℕ) (js : List ℕ) → length (insertBy key i js) ≡ suc (length js)
-  unfolding insertBy
-  insert-length i [] = refl
-  insert-length i (j ∷ js) = go (before (key i) (key j)) (insert-length i js)
-    where
-      go : (b : Bool) → length (insertBy key i js) ≡ suc (length js) → length (cond b (i ∷ j ∷ js) (j ∷ insertBy key i js)) ≡ suc (suc (length js))
-      go true r = refl
-      go false r = ap suc r
-
-  pub sort-length : (is : List ℕ) → length (sortBy key is) ≡ length is
-  unfolding sortBy
-  sort-length [] = refl
-  sort-length (i ∷ is) = insert-length i (sortBy key is) ∙ ap suc (sort-length is)
-
-  insert-rising : (i : ℕ) (js : List ℕ) → All (Unlike i) js → Rising js → Rising (insertBy key i js)
-  unfolding insertBy
+  insert-rising : (i : ℕ) (js : List ℕ) → All (Unlike i) js → Rising js → Rising (insert (byKey key) i js)
+  unfolding insert
   insert-rising i [] u r = tt
-  insert-rising i (j ∷ []) u r = go (before (key i) (key j)) refl
+  insert-rising i (j ∷ []) u r = go (before (key j) (key i)) refl
     where
-      go : (b : Bool) → before (key i) (key j) ≡ b → Rising (cond b (i ∷ j ∷ []) (j ∷ i ∷ []))
+      go : (b : Bool) → before (key j) (key i) ≡ b → Rising (cond b (j ∷ i ∷ []) (i ∷ j ∷ []))
       go true e = (e, tt)
-      go false e = (other (key i) (key j) e (u .0), tt)
-  insert-rising i (j ∷ k ∷ ks) u r = go (before (key i) (key j)) refl (before (key i) (key k)) (insert-rising i (k ∷ ks) (u .1) (r .1))
+      go false e = (other (key j) (key i) e (same-turned (key i) (key j) ∙ u .0), tt)
+  insert-rising i (j ∷ k ∷ ks) u r = go (before (key j) (key i)) refl (before (key k) (key i)) (insert-rising i (k ∷ ks) (u .1) (r .1))
     where
-      go : (a : Bool) → before (key i) (key j) ≡ a → (b : Bool) → Rising (cond b (i ∷ k ∷ ks) (k ∷ insertBy key i ks))
-          → Rising (cond a (i ∷ j ∷ k ∷ ks) (j ∷ cond b (i ∷ k ∷ ks) (k ∷ insertBy key i ks)))
-      go true e b q = (e, r)
-      go false e true q = (other (key i) (key j) e (u .0), q)
-      go false e false q = (r .0, q)
+      go : (a : Bool) → before (key j) (key i) ≡ a → (b : Bool) → Rising (cond b (k ∷ insert (byKey key) i ks) (i ∷ k ∷ ks))
+          → Rising (cond a (j ∷ cond b (k ∷ insert (byKey key) i ks) (i ∷ k ∷ ks)) (i ∷ j ∷ k ∷ ks))
+      go true e true q = (r .0, q)
+      go true e false q = (e, q)
+      go false e b q = (other (key j) (key i) e (same-turned (key i) (key j) ∙ u .0), r)
 
-  pub sort-rising : (is : List ℕ) → Apart is → Rising (sortBy key is)
-  unfolding sortBy
+  pub sort-rising : (is : List ℕ) → Apart is → Rising (isort (byKey key) is)
+  unfolding isort
   sort-rising [] a = tt
-  sort-rising (i ∷ is) a = insert-rising i (sortBy key is) (sort-all key (Unlike i) is (a .0)) (sort-rising is (a .1))
+  sort-rising (i ∷ is) a = insert-rising i (isort (byKey key) is) (all-isort (byKey key) (Unlike i) is (a .0)) (sort-rising is (a .1))
 
   pub rising-at : (xs : List ℕ) (m : ℕ) → m < length xs → Rising xs → rising (λ k. key (getD xs k 0)) m ≡ true
   rising-at xs zero h r = refl
@@ -98,16 +86,6 @@ module _ (key : ℕ → List ℕ) where
   apart-last (x ∷ xs) n a u = (all-append (Unlike x) xs (n ∷ []) (a .0) (u .0, tt), apart-last xs n (a .1) (u .1))
 
 -- ---- the numbers below n that pass a test
-
-those-length : (n : ℕ) (t : ℕ → Bool) → length (those n t) ≡ sumOf n (λ x. cond (t x) 1 0)
-unfolding those sumOf
-those-length zero t = refl
-those-length (suc n) t = length-append (those n t) (cond (t n) (n ∷ []) []) ∙ go (t n) (those-length n t)
-  where
-    go : (b : Bool) → length (those n t) ≡ sumOf n (λ x. cond (t x) 1 0)
-        → length (those n t) + length (cond b (n ∷ []) []) ≡ sumOf n (λ x. cond (t x) 1 0) + cond b 1 0
-    go true e = omega arith
-    go false e = omega arith
 
 those-apart : (key : ℕ → List ℕ) (n : ℕ) (t : ℕ → Bool) → ((x y : ℕ) → x < y → y < n → t x ≡ true → t y ≡ true → same (key x) (key y) ≡ false) → Apart key (those n t)
 unfolding those
@@ -209,4 +187,4 @@ module _ {s : Sections} {order : List ℕ} {kept : List (List ℕ)} (g : Given s
       one j h = unfold containerOf in ap (λ (b : Bool). cond b 1 0) (container-same g j h)
 
       all : length (those (nodeCount s) (λ j. isContainer s (oldOf order j))) ≡ length boxes
-      all = unfold byPath in sym (sort-length (pathOf s order) (those (nodeCount s) (λ j. isContainer s (oldOf order j))))
+      all = unfold byPath in sym (length-isort (byKey (pathOf s order)) (those (nodeCount s) (λ j. isContainer s (oldOf order j))))

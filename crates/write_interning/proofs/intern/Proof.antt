@@ -3,8 +3,10 @@ use mathlib.Core.Path.{sym, ap, _∙_, subst}
 use mathlib.Core.List.{List}
 use native.Mathlib.Omega.{arith}
 use lib.ListN.{length}
+use Rattle.laws.specs.Sorted.{isort}
+use Rattle.texts.specs.Text.{byKey}
 use Rattle.write_text_keys.specs.Keys.{keyOf}
-use Rattle.write_sorting.specs.Sorted.{upFrom, byKey, isort}
+use Rattle.write_sorting.specs.Sorted.{upFrom}
 use Rattle.write_interning.specs.Uses.{storedOf, joined, storedAnswer, Offsets, Firsts}
 use borrow.Author.Needs.{needs}
 use Rattle.write_interning.proofs.intern.Statement.{statement}

@@ -3,8 +3,8 @@ use mathlib.Core.Path.{_≡_, ap, _∙_}
 use mathlib.Core.List.{List}
 use native.Mathlib.Omega.{arith}
 use lib.ListN.{take, drop}
+use Rattle.texts.specs.Text.{byKey}
 use Rattle.write_text_keys.specs.Keys.{keyOf, keyIn}
-use Rattle.write_sorting.specs.Sorted.{byKey}
 use Rattle.write_sorting.proofs.MergeInPlace.{drop-later}
 use Rattle.write_interning.specs.Uses.{headOf}
 use Rattle.write_interning.proofs.Numbers.{Order, order-isort}

@@ -5,8 +5,9 @@ use mathlib.Core.Bool.{Bool}
 use native.Mathlib.Omega.{arith}
 use lib.ListN.{length, take, drop}
 use lib.Seq.{length-take-le}
+use Rattle.texts.specs.Text.{byKey}
 use Rattle.write_text_keys.specs.Keys.{keyOf, keyIn}
-use Rattle.write_sorting.specs.Sorted.{byKey, Strict}
+use Rattle.write_sorting.specs.Sorted.{Strict}
 use Rattle.write_sorting.proofs.Laws.{key-strict, isort-short}
 use Rattle.write_sorting.proofs.MergeInPlace.{Halves, halves, halves-sorted, halves-ordered, back}
 use borrow.Author.Needs.{needs}

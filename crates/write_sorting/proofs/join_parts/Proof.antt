@@ -1,8 +1,8 @@
 use mathlib.Core.Path.{sym, ap, _∙_}
 use native.Mathlib.Omega.{arith}
 use lib.ListN.{drop, length-drop}
+use Rattle.texts.specs.Text.{byKey}
 use Rattle.write_text_keys.specs.Keys.{keyIn}
-use Rattle.write_sorting.specs.Sorted.{byKey}
 use Rattle.write_sorting.proofs.Laws.{key-strict}
 use Rattle.write_sorting.proofs.MergeInPlace.{down-joined, paste-behind}
 use borrow.Author.Needs.{needs}

@@ -3,8 +3,8 @@ use mathlib.Core.Path.{refl, _∙_}
 use mathlib.Core.List.{List}
 use mathlib.Core.Bool.{Bool}
 use native.Mathlib.Omega.{arith}
+use Rattle.texts.specs.Text.{byKey}
 use Rattle.write_text_keys.specs.Keys.{keyOf, keyIn}
-use Rattle.write_sorting.specs.Sorted.{byKey}
 use Rattle.write_sorting.proofs.MergeInPlace.{Copied, copied, copied-ordered, copied-merged, merged-none, merged-all}
 use borrow.Author.Needs.{needs}
 use Rattle.write_sorting.proofs.merge.Statement.{statement}

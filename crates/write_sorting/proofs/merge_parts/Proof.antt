@@ -5,8 +5,9 @@ use mathlib.Core.List.{List}
 use mathlib.Core.Bool.{Bool}
 use native.Mathlib.Omega.{arith}
 use lib.ListN.{drop}
+use Rattle.texts.specs.Text.{byKey}
 use Rattle.write_text_keys.specs.Keys.{keyOf, keyIn}
-use Rattle.write_sorting.specs.Sorted.{byKey, takesRight}
+use Rattle.write_sorting.specs.Sorted.{takesRight}
 use Rattle.write_sorting.proofs.MergeInPlace.{Placing, placing-none, placing-left, placing-right, placing-done, placing-behind}
 use borrow.Author.Needs.{needs}
 use Rattle.write_sorting.proofs.merge_parts.Statement.{statement}
