@@ -2,6 +2,7 @@
  * Prints the image's length, then `ok V N`; or `no K`, the number of the first rule broken. */
 #include <inttypes.h>
 #include <stdio.h>
+#include <stdlib.h>
 #include <string.h>
 
 #include "story_image.h"
@@ -30,6 +31,7 @@ static uint32_t named[NAMED][3] = {{0, 0, 3}};
 static uint32_t definitions[DEFINITIONS][4] = {{0, 0, 0, ITEMS}};
 static uint32_t items[ITEMS][3] = {{0, 0, 1}, {0, 0, 4}};
 
+static uint32_t work[WORK];
 static uint8_t strings[128];
 static size_t strings_length;
 
@@ -54,24 +56,36 @@ static void put_texts(void) {
     put_text(&items[1][0], "clip");
 }
 
+/* Writes the image, or says with STORY_IMAGE_NO_ROOM how long it is. No list values, so no payload: any pointer that is
+ * not null. */
+static uint32_t put_image(uint8_t *image, size_t room, uint32_t *length) {
+    return story_image_write(21, nodes[0], NODES * 10, children, CHILDREN, named[0], NAMED * 3, definitions[0],
+                             DEFINITIONS * 4, items[0], ITEMS * 3, strings, 0, strings, strings_length, work, WORK,
+                             image, room, length, 1);
+}
+
 static int refused(uint32_t number) {
     printf("no %" PRIu32 "\n", number);
     return 1;
 }
 
 int main(int count, char **arguments) {
-    static uint32_t work[WORK];
-    static uint8_t image[1024];
-    uint32_t length, view[STORY_IMAGE_VIEW_WORDS];
+    uint32_t length = 0, view[STORY_IMAGE_VIEW_WORDS];
+    uint8_t none;
     if (count != 2) {
         fprintf(stderr, "usage: write IMAGE\n");
         return 2;
     }
     put_texts();
-    /* no list values, so no payload: any pointer that is not null */
-    uint32_t number = story_image_write(21, nodes[0], NODES * 10, children, CHILDREN, named[0], NAMED * 3,
-                                        definitions[0], DEFINITIONS * 4, items[0], ITEMS * 3, strings, 0, strings,
-                                        strings_length, work, WORK, image, sizeof image, &length, 1);
+    uint32_t number = put_image(&none, 0, &length);
+    if (length == 0)
+        return refused(number);
+    uint8_t *image = malloc(length);
+    if (image == NULL) {
+        fprintf(stderr, "write: no memory\n");
+        return 2;
+    }
+    number = put_image(image, length, &length);
     if (number != 0)
         return refused(number);
     printf("%" PRIu32 " bytes\n", length);

@@ -3,7 +3,7 @@
 //! Prints the image's length, then `ok V N`; or the refusal.
 
 use std::error::Error;
-use story_image::{Draft, Image, NONE, load_words, write};
+use story_image::{Draft, Image, NONE, load_words};
 
 const CONTAINER: u32 = 1;
 const COMMAND: u32 = 3;
@@ -58,9 +58,8 @@ fn written() -> Result<Vec<u8>, Box<dyn Error>> {
         strings: &strings.0,
     };
     let mut work = vec![0; draft.work_words()];
-    let mut image = vec![0; 1024];
-    let length = write(21, &draft, &mut work, &mut image)?;
-    image.truncate(length);
+    let mut image = vec![0; draft.image_length(21, &mut work)?];
+    draft.write(21, &mut work, &mut image)?;
     Ok(image)
 }
 

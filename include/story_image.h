@@ -455,10 +455,12 @@ size_t story_image_write_words(const uint32_t *nodes, size_t nodes_length, const
 /* Writes the image of a draft at the start of the output: sections 0 to 4 as words (nodes, children, named entries,
  * definitions, items; lengths are counts of words), payload and strings as bytes; any numbering with root 0, texts
  * anywhere in the strings. Children, named entries and payloads lie in the order of the nodes that have them. 0, and
- * the image's length as the first of the written words. Or 3, 7, 19 to 23, and output and written words stay as they
- * were. Work words needed: story_image_write_words; numbers 3, 19
- * and 7 leave all work words as they were, else as many as are needed are 0 on return. No word for the length counts
- * as a lack of work words: 7, after 3 and 19. */
+ * the image's length as the first of the written words. Or 3, 7, 19 to 23, and the output stays as it was. With 23 the
+ * first of the written words is the length that the image needs, so a call with an output of length 0 asks for it; an
+ * image of more than 4294967295 bytes and every other number leave the word as it was (0 before the call tells this
+ * apart: no image is empty). Work words needed: story_image_write_words; numbers 3, 19 and 7 leave all work words as
+ * they were, else as many as are needed are 0 on return. No word for the length counts as a lack of work words: 7,
+ * after 3 and 19. */
 uint32_t story_image_write(uint32_t ink_version, const uint32_t *nodes, size_t nodes_length, const uint32_t *children,
                            size_t children_length, const uint32_t *named, size_t named_length,
                            const uint32_t *definitions, size_t definitions_length, const uint32_t *items,

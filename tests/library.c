@@ -585,6 +585,7 @@ static uint32_t put(const struct draft *draft, uint32_t ink, size_t words, uint8
     CHECK(number != 0 || memcmp(before + written[0], output + written[0], length - written[0]) == 0,
           "bytes past the image stay");
     CHECK(written[1] == MARK, "one word for the length");
+    CHECK((written[0] == MARK) == (number != 0 && number != STORY_IMAGE_NO_ROOM), "%u: the length", (unsigned)number);
     *long_as = written[0];
     free(work);
     free(before);
@@ -605,7 +606,7 @@ static void drafts(const char *folder) {
     memset(output, 0x77, 1000);
     uint32_t length;
     CHECK(put(&draft, 22, 16, output, 139, &length) == STORY_IMAGE_BAD_INK_VERSION, "ink version 22");
-    CHECK(put(&draft, 21, 16, output, 139, &length) == STORY_IMAGE_NO_ROOM, "139 bytes");
+    CHECK(put(&draft, 21, 16, output, 139, &length) == STORY_IMAGE_NO_ROOM && length == 140, "139 bytes, 140 needed");
     CHECK(put(&draft, 21, 15, output, 140, &length) == STORY_IMAGE_TOO_FEW_WORDS, "15 words");
     CHECK(put(&draft, 21, 17, output, 1000, &length) == STORY_IMAGE_OK && length == STORY_IMAGE_SMALLEST_BYTES,
           "the smallest draft");
@@ -652,7 +653,8 @@ static void drafts(const char *folder) {
     CHECK(put(&draft, 18, write_words(&draft), exact, length, &again) == 0 && again == length &&
               memcmp(exact, output, length) == 0,
           "the same bytes in exactly as much room");
-    CHECK(put(&draft, 18, 100, exact, length - 1, &again) == STORY_IMAGE_NO_ROOM, "a byte too few");
+    CHECK(put(&draft, 18, 100, exact, length - 1, &again) == STORY_IMAGE_NO_ROOM && again == length, "a byte too few");
+    CHECK(put(&draft, 18, 100, exact, 0, &again) == STORY_IMAGE_NO_ROOM && again == length, "no output asks for the length");
     free(exact);
     free(image.bytes);
 

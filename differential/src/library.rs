@@ -60,7 +60,7 @@ pub trait Queries {
 }
 
 pub trait Writer {
-    /// The number, and the length written if it is 0.
+    /// The number, and the length that was written with 0, is needed with 23.
     fn write(&self, ink: u32, draft: &Draft, work: &mut [u32], output: &mut [u8]) -> (u32, usize);
 }
 

@@ -24,10 +24,11 @@ pub enum Mistake {
     WrittenByte,
     PastOutput,
     NoTwentyThree,
+    Needed,
     DraftNumber,
 }
 
-pub const MISTAKES: [Mistake; 17] = [
+pub const MISTAKES: [Mistake; 18] = [
     Mistake::Number,
     Mistake::WorkLeft,
     Mistake::NoSeven,
@@ -44,6 +45,7 @@ pub const MISTAKES: [Mistake; 17] = [
     Mistake::WrittenByte,
     Mistake::PastOutput,
     Mistake::NoTwentyThree,
+    Mistake::Needed,
     Mistake::DraftNumber,
 ];
 
@@ -214,7 +216,10 @@ impl Writer for Published {
         work[..words].fill(0);
         let number = match written {
             Written::Image(image) if reference::load(&image).is_err() => 21,
-            Written::Image(image) if image.len() > output.len() => 23 * u32::from(!self.has(Mistake::NoTwentyThree)),
+            Written::Image(image) if image.len() > output.len() => {
+                let needed = if self.has(Mistake::Needed) { output.len() } else { image.len() };
+                return (23 * u32::from(!self.has(Mistake::NoTwentyThree)), needed);
+            }
             Written::Image(image) => {
                 output[..image.len()].copy_from_slice(&image);
                 if self.has(Mistake::WrittenByte) {

@@ -94,9 +94,10 @@ fn written(case: &Case, image: &[u8], ours: &dyn Writer, random: &mut Random, ta
 
     let mut short = vec![0xa5; image.len() - 1];
     let mut work = vec![MARK; words];
-    let (number, _) = ours.write(case.ink, &case.draft, &mut work, &mut short);
-    let right = number == 23 && short.iter().all(|byte| *byte == 0xa5) && work.iter().all(|word| *word == 0);
-    tally.check(right, || format!("draft {}: {number} with a byte too few", case.name), image);
+    let (number, needed) = ours.write(case.ink, &case.draft, &mut work, &mut short);
+    let told = number == 23 && needed == image.len();
+    let right = told && short.iter().all(|byte| *byte == 0xa5) && work.iter().all(|word| *word == 0);
+    tally.check(right, || format!("draft {}: {number}, {needed} needed, with a byte too few", case.name), image);
 
     let mut few = vec![MARK; words - 1];
     let mut output = vec![0xa5; image.len()];

@@ -218,6 +218,7 @@ unsafe extern "C" {
         answer_length: usize,
     ) -> u32;
 
+    /// The length is written with 0, and with 23 where a word can say how long the image is.
     pub fn story_image_write(
         ink_version: u32,
         nodes: *const u32,

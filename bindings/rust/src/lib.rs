@@ -22,7 +22,7 @@ mod refusal;
 mod view;
 
 pub use builder::{BuildError, DraftBuilder, ListEntry, NodeKind, Room};
-pub use draft::{Draft, write};
+pub use draft::{Draft, WriteError, write};
 pub use image::{Image, NamedChildView, NodeKindView, NodeView, ValueView, load_words};
 pub use lists::{DefinitionView, ListEntryView, ListView};
 pub use names::{CommandType, Op};

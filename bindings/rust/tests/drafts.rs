@@ -29,13 +29,16 @@ fn smallest() {
 #[test]
 fn refused() {
     let draft = Draft { nodes: &ROOT[1..], ..Draft::default() };
-    assert_eq!(write(21, &draft, &mut [0; 16], &mut [0; 140]), Err(Refusal::BAD_DRAFT));
+    assert_eq!(write(21, &draft, &mut [0; 16], &mut [0; 140]), Err(WriteError::Refused(Refusal::BAD_DRAFT)));
+    assert_eq!(draft.image_length(21, &mut [0; 16]), Err(Refusal::BAD_DRAFT));
     let draft = Draft { nodes: &ROOT, ..Draft::default() };
     let mut output = [7; 139];
-    assert_eq!(write(21, &draft, &mut [0; 16], &mut output), Err(Refusal::NO_ROOM));
+    assert_eq!(write(21, &draft, &mut [0; 16], &mut output), Err(WriteError::Short { needed: 140 }));
     assert_eq!(output, [7; 139]);
-    assert_eq!(write(17, &draft, &mut [0; 16], &mut output), Err(Refusal::BAD_INK_VERSION));
-    assert_eq!(write(21, &draft, &mut [0; 15], &mut output), Err(Refusal::TOO_FEW_WORDS));
+    assert_eq!(write(17, &draft, &mut [0; 16], &mut output), Err(WriteError::Refused(Refusal::BAD_INK_VERSION)));
+    assert_eq!(write(21, &draft, &mut [0; 15], &mut output), Err(WriteError::Refused(Refusal::TOO_FEW_WORDS)));
+    let told = WriteError::Short { needed: 140 }.to_string();
+    assert_eq!(told, "refused with 23: the output is too short, the image has 140 bytes");
 }
 
 /// What a view shows of what the builder was told.

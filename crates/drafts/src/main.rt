@@ -1,10 +1,12 @@
 // Writes the small examples of FORMAT.md's rows 3, 7 and 19 to 23, and of the drafts at the edges. Standard input holds records of
 // words: ink version, output bytes and work words lent, the lengths of the draft's seven slices; then the slices. A line is printed for
-// each: its place, the number, the length that was written, the CRC-32 of the lent output and how many of the lent work words are 0.
+// each: its place, the number, the length that was written or with 23 is needed, the CRC-32 of the lent output and how many of the lent
+// work words are 0.
 use draft_words::after;
 use draft_words::first;
 use draft_words::front;
 use draft_words::read_words;
+use image::refusal::NO_ROOM;
 use libc::STDIN_FILENO;
 use libc::STDOUT_FILENO;
 use writer::Encoded;
@@ -85,6 +87,10 @@ fn print_answer(answer: Encoded) {
     match answer {
         Encoded::Written(length) => {
             print_number(0);
+            print_number(length as u64);
+        }
+        Encoded::Short(length) => {
+            print_number(NO_ROOM as u64);
             print_number(length as u64);
         }
         Encoded::Refused(number) => {

@@ -24,7 +24,7 @@ use Rattle.promises.specs.Answers.{ofLoaded}
 use Rattle.load.specs.declared.Loaded.{Loaded}
 use Rattle.load.specs.declared.Loaded.the-variants as Loaded
 use Rattle.writer.specs.declared.Encoded.{Encoded}
-use Rattle.writer.specs.declared.Encoded.the-variants.{Written, Refused}
+use Rattle.writer.specs.declared.Encoded.the-variants.{Written, Short, Refused}
 use Rattle.replay.specs.Recorded.{recorded, recordedLoad, refusedAlike, sameWritten}
 
 -- ---- word by word
@@ -112,6 +112,10 @@ module _ (a : Encoded) (out image : List ℕ) (number : ℕ) where
   pub image-compared : (n : ℕ) (part : List ℕ) (r : Bool) → a ≡ Written n → number ≡ 0 → part ≡ take n out → r ≡ same part image → r ≡ sameWritten a out number image
   unfolding sameWritten
   image-compared n part r e z p h = rw e (eq-yes number 0 _ _ r z (h ∙ ap (λ (l : List ℕ). same l image) p))
+
+  pub short-compared : (n : ℕ) (r : Bool) → a ≡ Short n → r ≡ refusedAlike 23 number → r ≡ sameWritten a out number image
+  unfolding sameWritten
+  short-compared n r e h = rw e h
 
   pub refusal-compared : (k : ℕ) (r : Bool) → a ≡ Refused k → r ≡ refusedAlike k number → r ≡ sameWritten a out number image
   unfolding sameWritten

@@ -13,7 +13,7 @@ use Rattle.image.specs.Refusals.{notFound, draftShape}
 use Rattle.load.specs.declared.Loaded.{Loaded}
 use Rattle.promises.specs.Answers.{ofLoaded}
 use Rattle.writer.specs.declared.Encoded.{Encoded}
-use Rattle.writer.specs.declared.Encoded.the-variants.{Written, Refused}
+use Rattle.writer.specs.declared.Encoded.the-variants.{Written, Short, Refused}
 
 -- whether a record has the answer at `at`: 0 and then `count` words, which are these, or 18 for none
 unfoldable pub recorded : List ℕ → ℕ → ℕ → Option (List ℕ) → Bool
@@ -32,4 +32,5 @@ refusedAlike ours theirs = cond (eqb theirs 0) false (cond (eqb theirs draftShap
 -- whether a draft's answer and output are as recorded: the number 0 and the image, or a refusal
 unfoldable pub sameWritten : Encoded → List ℕ → ℕ → List ℕ → Bool
 sameWritten (Written n) out number image = cond (eqb number 0) (same (take n out) image) false
+sameWritten (Short n) out number image = refusedAlike 23 number
 sameWritten (Refused ours) out number image = refusedAlike ours number

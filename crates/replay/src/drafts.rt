@@ -7,6 +7,7 @@ use draft_words::after;
 use draft_words::first;
 use draft_words::front;
 use draft_words::read_words;
+use image::refusal::NO_ROOM;
 use writer::Encoded;
 
 // What a record begins with.
@@ -72,6 +73,7 @@ fn same(answer: Encoded, out: &[u8], number: u32, image: &[u8]) -> bool
             }
             texts::equal(front(out, length), image)
         }
+        Encoded::Short(_) => refused_alike(NO_ROOM, number),
         Encoded::Refused(ours) => refused_alike(ours, number),
     }
 }

@@ -1,4 +1,5 @@
 // Writing an image from a draft.
+use image::refusal::NO_ROOM;
 use writer::Encoded;
 ghost use mathlib.Core.Path.{_≡_};
 ghost use lib.ListN.{length};
@@ -14,6 +15,7 @@ fn number_of(answer: Encoded) -> u32
 {
     match answer {
         Encoded::Written(_) => 0,
+        Encoded::Short(_) => NO_ROOM,
         Encoded::Refused(number) => number,
     }
 }
@@ -55,7 +57,8 @@ fn write_without_words(
 }
 
 // Writes the image of a draft at the start of the output and its length into the first word of `written`; or gives the number of the
-// first rule broken, and leaves the output and `written` as they were. A `written` without a word counts as a lack of work words.
+// first rule broken, and leaves the output as it was, and `written` too, but that with 23 it says how long the image is, if a word can.
+// A `written` without a word counts as a lack of work words.
 #[no_mangle]
 pub extern "C" fn story_image_write(
     ink: u32,
@@ -103,6 +106,10 @@ pub extern "C" fn story_image_write(
         Encoded::Written(length) => {
             written[0] = length;
             0
+        }
+        Encoded::Short(needed) => {
+            written[0] = needed;
+            NO_ROOM
         }
         Encoded::Refused(number) => number,
     }

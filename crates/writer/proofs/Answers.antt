@@ -19,7 +19,7 @@ use Rattle.write_text_uses.specs.Uses.{storedBytes}
 use Rattle.write_image.proofs.SectionLengths.{length-is}
 use Rattle.write_image.proofs.Premises.{uses-fewer}
 use Rattle.writer.specs.Answer.{fitsOutput}
-use Rattle.writer.proofs.Numbers.{reach-clears, shape-clears, paths-clear, room-clears, both-clear}
+use Rattle.writer.proofs.Numbers.{reach-clears, shape-clears, paths-clear, room-clears, both-clear, reach-below, shape-below, paths-below, room-left}
 
 -- the tests of 23 while the image is planned: a word can count the texts in use, and say how long the stored ones are
 abbrev lengthsRule : Sections → ℕ
@@ -46,11 +46,17 @@ unfolding _▸_
 alike zero x y d e = e refl d
 alike (suc a) x y d e = refl
 
+two-tests : (b c : Bool) → ((unless b 23 ▸ unless c 23) ≡ 0 → ⊥) → (unless b 23 ▸ unless c 23) ≡ 23
+unfolding unless _▸_
+two-tests true true d = absurd (d refl)
+two-tests true false d = refl
+two-tests false c d = refl
+
 module _ (ink : ℕ) (s : Sections) (work room : ℕ) where
   rows : (x : ℕ) → ((reachRule s ▸ shapeRule s ▸ pathsRule s) ▸ x) ≡ (reachRule s ▸ shapeRule s ▸ pathsRule s ▸ x)
   rows x = onward _ _ _ ∙ ap (λ (r : ℕ). reachRule s ▸ r) (onward _ _ _)
 
-  no-room : NONE < length (imageFor ink s) → unless (fitsOutput ink s room) 23 ≡ 23
+  pub no-room : NONE < length (imageFor ink s) → unless (fitsOutput ink s room) 23 ≡ 23
   no-room h = fail (fitsOutput ink s room) 23 (go (leb (length (imageFor ink s)) room) (lt-leb (length (imageFor ink s)) NONE h))
     where
       go : (a : Bool) {b : Bool} → b ≡ false → (a && b) ≡ false
@@ -96,20 +102,33 @@ module _ (ink : ℕ) (s : Sections) (work room : ℕ) where
             ∙ both-clear _ _ (reach-clears s) (both-clear _ _ (shape-clears s) (both-clear _ _ (paths-clear s) (room-clears (fitsOutput ink s room))))
 
         -- an image has more bytes than it uses texts, and is longer than its strings
-        too-long : reachRule s ≡ 0 → (b c : Bool) → leb (length (uses s (numbering s))) NONE ≡ b → leb (length (storedBytes s)) NONE ≡ c
-            → ((unless b 23 ▸ unless c 23) ≡ 0 → ⊥) → unless (fitsOutput ink s room) 23 ≡ (unless b 23 ▸ unless c 23)
+        lengths-long : reachRule s ≡ 0 → (b c : Bool) → leb (length (uses s (numbering s))) NONE ≡ b → leb (length (storedBytes s)) NONE ≡ c
+            → ((unless b 23 ▸ unless c 23) ≡ 0 → ⊥) → NONE < length (imageFor ink s)
         unfolding unless _▸_
-        too-long r true true e f d = absurd (d refl)
-        too-long r false c e f d =
-            no-room (omega (arith, leb-false (length (uses s (numbering s))) NONE e, uses-fewer s p r, length-is ink s p r))
-        too-long r true false e f d = no-room (omega (arith, leb-false (length (storedBytes s)) NONE f, length-is ink s p r))
+        lengths-long r true true e f d = absurd (d refl)
+        lengths-long r false c e f d = omega (arith, leb-false (length (uses s (numbering s))) NONE e, uses-fewer s p r, length-is ink s p r)
+        lengths-long r true false e f d = omega (arith, leb-false (length (storedBytes s)) NONE f, length-is ink s p r)
+
+        too-long : reachRule s ≡ 0 → (lengthsRule s ≡ 0 → ⊥) → unless (fitsOutput ink s room) 23 ≡ lengthsRule s
+        too-long r d =
+            no-room (lengths-long r (leb (length (uses s (numbering s))) NONE) (leb (length (storedBytes s)) NONE) refl refl d)
+            ∙ sym (two-tests (leb (length (uses s (numbering s))) NONE) (leb (length (storedBytes s)) NONE) d)
+
+        -- the plan gives 23 only where no word can say how long the image is
+        pub plan-long : planned s ≡ 23 → NONE < length (imageFor ink s)
+        plan-long e =
+            let after-reach = room-left (reachRule s) _ (reach-below s) e in
+            let after-shape = room-left (shapeRule s) _ (shape-below s) (after-reach .1) in
+            let after-paths = room-left (pathsRule s) _ (paths-below s) (after-shape .1) in
+            lengths-long (after-reach .0) (leb (length (uses s (numbering s))) NONE) (leb (length (storedBytes s)) NONE) refl refl
+            (λ z. let r : _≡_ {A = ℕ} 23 0 = sym (after-paths .1) ∙ z in omega arith)
 
         -- the plan's refusal
         pub plan-wrong : (planned s ≡ 0 → ⊥) → encodeRule ink s work room ≡ planned s
         plan-wrong d =
             after-words ∙ sym (rows (unless (fitsOutput ink s room) 23))
             ∙ alike (reachRule s ▸ shapeRule s ▸ pathsRule s) (lengthsRule s) (unless (fitsOutput ink s room) 23) (λ e. d (sym (rows _) ∙ e))
-            (λ e. too-long (both _ _ e .0) (leb (length (uses s (numbering s))) NONE) (leb (length (storedBytes s)) NONE) refl refl)
+            (λ e. too-long (both _ _ e .0))
             ∙ rows (lengthsRule s)
 
         -- the plan is made: what is left is the room

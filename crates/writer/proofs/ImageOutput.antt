@@ -16,7 +16,7 @@ use Rattle.write_image.specs.declared.size.Size.{Size}
 use Rattle.write_image.specs.declared.size.Size.the-variants.{Bytes, TooLong}
 use Rattle.write_image.specs.Length.{lengthBy, sizeOf, imageLength}
 use Rattle.write_image.specs.Given.{Ready}
-use Rattle.writer.specs.declared.Encoded.the-variants.{Written, Refused}
+use Rattle.writer.specs.declared.Encoded.the-variants.{Written, Short, Refused}
 use Rattle.writer.specs.Answer.{fitsOutput, EncodeAnswered}
 use Rattle.writer.specs.Planned.{numbersBy, tablesBy, entriesBy, Drawn}
 use Rattle.writer.proofs.PlanToImage.{rules, most, entries-known, ready}
@@ -38,8 +38,8 @@ module _ (ink : ℕ) (s : Sections) (w : List ℕ) (l : Layout) (u : Uses) (d : 
       sized : (m ≡ imageLength s) × (imageLength s ≤ NONE)
       sized = size-bytes (imageLength s) m a known q
 
-      pub put-short : length out₀ < m → EncodeAnswered ink s (unless (fitsOutput ink s (length out₀)) 23) out₀ out₀ (Refused 23)
-      put-short h = image-short ink s (d .tables) (rules s (d .tables) (d .planned) .0) out₀ (sized .1) (omega (arith, sized .0))
+      pub put-short : length out₀ < m → EncodeAnswered ink s (unless (fitsOutput ink s (length out₀)) 23) out₀ out₀ (Short m)
+      put-short h = image-short ink s (d .tables) (rules s (d .tables) (d .planned) .0) out₀ m (sized .1) (omega (arith, sized .0)) (sized .0)
 
       module _ (h : m ≤ length out₀) where
         pub fill-asks : Ready s w (numbersBy l u) (tablesBy l u) (entriesBy s u) × (imageLength s ≤ length out₀)

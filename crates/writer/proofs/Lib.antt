@@ -1,4 +1,5 @@
 pub mod Numbers
+pub mod AnswerByRule
 pub mod Answers
 pub mod PlanToImage
 pub mod Outcomes

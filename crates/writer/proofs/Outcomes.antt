@@ -2,7 +2,7 @@
 use Prim.Native.Nat.{ℕ, zero, suc, _+_, _≤_, _<_}
 use mathlib.Core.Path.{_≡_, refl, sym, ap, _∙_, subst}
 use mathlib.Core.List.{List, _++_}
-use mathlib.Core.Bool.{Bool, true, false, cond, _&&_}
+use mathlib.Core.Bool.{Bool, true, false, cond, _&&_, true≢false}
 use native.Mathlib.Omega.{arith}
 use lib.ListN.{length, drop, replicate}
 use lib.Dec.{leb}
@@ -21,9 +21,10 @@ use Rattle.write_image.specs.declared.size.Size.the-variants.{Bytes, TooLong}
 use Rattle.write_image.specs.Length.{sizeOf, imageLength}
 use Rattle.write_image.proofs.SectionLengths.{length-is}
 use Rattle.writer.specs.declared.Encoded.{Encoded}
-use Rattle.writer.specs.declared.Encoded.the-variants.{Written, Refused}
-use Rattle.writer.specs.Answer.{encodedBy, encodedOf, fitsOutput, EncodeAnswered, WrittenWith}
-use Rattle.writer.proofs.Answers.{ink-wrong, tables-wrong, words-few, cleared, plan-wrong, room-decides}
+use Rattle.writer.specs.declared.Encoded.the-variants.{Written, Short, Refused}
+use Rattle.writer.specs.Answer.{encodedOf, fitsOutput, EncodeAnswered, WrittenWith}
+use Rattle.writer.proofs.Answers.{ink-wrong, tables-wrong, words-few, cleared, plan-wrong, plan-long, room-decides}
+use Rattle.writer.proofs.AnswerByRule.{by-zero, by-room, by-refusal}
 use Rattle.writer.proofs.Numbers.{tables-leave}
 
 -- ---- the size of the image
@@ -56,44 +57,61 @@ size-long long a e q = long-by long (leb long NONE) refl (sym q ∙ e)
 
 -- ---- answers
 
--- a refusal leaves the output
-pub refused : (ink : ℕ) (s : Sections) (r k : ℕ) (out : List ℕ) → r ≡ k → (k ≡ 0 → ⊥) → EncodeAnswered ink s r out out (Refused k)
-unfolding encodedBy outAfter
-refused ink s r zero out e d = absurd (d refl)
-refused ink s r (suc k) out e d = record { answer = rw e refl; output = rw (e, ne-eqb (suc k) 0 (λ q. omega arith)) refl }
+-- the output stays, whatever the number
+left : (r k : ℕ) (image out : List ℕ) → r ≡ k → (k ≡ 0 → ⊥) → out ≡ outAfter r image out
+unfolding outAfter
+left r k image out e d = rw (e, ne-eqb k 0 d) refl
+
+-- a refusal that tells no length leaves the output
+pub refused : (ink : ℕ) (s : Sections) (r k : ℕ) (out : List ℕ) → r ≡ k → (k ≡ 0 → ⊥) → (k ≡ 23 → NONE < length (imageFor ink s))
+    → EncodeAnswered ink s r out out (Refused k)
+refused ink s r k out e d h =
+    record { answer = rw e (sym (by-refusal k (length (imageFor ink s)) d h)); output = left r k (imageFor ink s) out e d }
 
 module _ (ink : ℕ) (s : Sections) (p : tablesRule s ≡ 0) (q : reachRule s ≡ 0) (out₀ : List ℕ) where
   abbrev image : List ℕ
   image = imageFor ink s
 
   -- an image that does not fit
-  no-room : (a b : Bool) → leb (length image) (length out₀) ≡ a → leb (length image) NONE ≡ b → (a && b) ≡ false
-      → EncodeAnswered ink s (unless (fitsOutput ink s (length out₀)) 23) out₀ out₀ (Refused 23)
-  no-room a b e f n = refused ink s (unless (fitsOutput ink s (length out₀)) 23) 23 out₀ (fail (fitsOutput ink s (length out₀)) 23 (rw (e, f) n)) (λ k. omega arith)
+  no-room : (a b : Bool) → leb (length image) (length out₀) ≡ a → leb (length image) NONE ≡ b → (a && b) ≡ false → unless (fitsOutput ink s (length out₀)) 23 ≡ 23
+  no-room a b e f n = fail (fitsOutput ink s (length out₀)) 23 (rw (e, f) n)
 
   pub image-long : NONE < imageLength s → EncodeAnswered ink s (unless (fitsOutput ink s (length out₀)) 23) out₀ out₀ (Refused 23)
-  image-long h = by (leb (length image) (length out₀)) refl
+  image-long h = refused ink s (unless (fitsOutput ink s (length out₀)) 23) 23 out₀ (by (leb (length image) (length out₀)) refl) (λ k. omega arith) (λ k. above)
     where
-      long : leb (length image) NONE ≡ false
-      long = lt-leb (length image) NONE (omega (arith, length-is ink s p q))
+      above : NONE < length image
+      above = omega (arith, length-is ink s p q)
 
-      by : (a : Bool) → leb (length image) (length out₀) ≡ a → EncodeAnswered ink s (unless (fitsOutput ink s (length out₀)) 23) out₀ out₀ (Refused 23)
+      long : leb (length image) NONE ≡ false
+      long = lt-leb (length image) NONE above
+
+      by : (a : Bool) → leb (length image) (length out₀) ≡ a → unless (fitsOutput ink s (length out₀)) 23 ≡ 23
       by true e = no-room true false e long refl
       by false e = no-room false false e long refl
 
-  pub image-short : imageLength s ≤ NONE → length out₀ < imageLength s → EncodeAnswered ink s (unless (fitsOutput ink s (length out₀)) 23) out₀ out₀ (Refused 23)
-  image-short g h =
-      no-room false true (lt-leb (length image) (length out₀) (omega (arith, length-is ink s p q))) (le-leb (length image) NONE (omega (arith, length-is ink s p q)))
-      refl
+  pub image-short : (m : ℕ) → imageLength s ≤ NONE → length out₀ < imageLength s → m ≡ imageLength s
+      → EncodeAnswered ink s (unless (fitsOutput ink s (length out₀)) 23) out₀ out₀ (Short m)
+  image-short m g h e =
+      let long : m ≡ length image = e ∙ sym (length-is ink s p q) in
+      let word : length image ≤ NONE = omega (arith, length-is ink s p q) in
+      let short : leb (length image) (length out₀) ≡ false = lt-leb (length image) (length out₀) (omega (arith, length-is ink s p q)) in
+      let r = no-room false true short (le-leb (length image) NONE word) refl in
+      record {
+        answer = ap Short long ∙ sym (by-room (unless (fitsOutput ink s (length out₀)) 23) (length image) r word);
+        output = left (unless (fitsOutput ink s (length out₀)) 23) 23 image out₀ r (λ k. omega arith);
+      }
 
   pub image-put : (m : ℕ) (out : List ℕ) → imageLength s ≤ NONE → imageLength s ≤ length out₀ → m ≡ imageLength s → out ≡ over image out₀
       → EncodeAnswered ink s (unless (fitsOutput ink s (length out₀)) 23) out₀ out (Written m)
-  unfolding encodedBy outAfter
+  unfolding outAfter
   image-put m out g h e o =
       let room : leb (length image) (length out₀) ≡ true = le-leb (length image) (length out₀) (omega (arith, length-is ink s p q)) in
       let word : leb (length image) NONE ≡ true = le-leb (length image) NONE (omega (arith, length-is ink s p q)) in
       let r : unless (fitsOutput ink s (length out₀)) 23 ≡ 0 = pass (fitsOutput ink s (length out₀)) 23 (rw (room, word) refl) in
-      record { answer = rw r (ap Written (e ∙ sym (length-is ink s p q))); output = rw r o }
+      record {
+        answer = ap Written (e ∙ sym (length-is ink s p q)) ∙ sym (by-zero (unless (fitsOutput ink s (length out₀)) 23) (length image) r);
+        output = rw r o;
+      }
 
 -- ---- with the work words that a draft needs
 
@@ -106,6 +124,7 @@ module _ (ink : ℕ) (s : Sections) (p : tablesRule s ≡ 0) (i : inkRight ink �
   unfolding planRule
   plan-refused k e d work h =
       refused ink s (encodeRule ink s work (length out₀)) k out₀ (plan-wrong ink s work (length out₀) i p (enough work h) (λ q. d (sym e ∙ q)) ∙ e) d
+      (λ q. plan-long ink s work (length out₀) i p (enough work h) (e ∙ q))
 
   -- the room decides
   pub plan-made : planRule s ≡ 0 → (out : List ℕ) (a : Encoded) → EncodeAnswered ink s (unless (fitsOutput ink s (length out₀)) 23) out₀ out a → WrittenWith ink s out₀ out a
@@ -129,7 +148,7 @@ module _ (ink : ℕ) (s : Sections) (out₀ work₀ : List ℕ) where
   early : (k : ℕ) → rule ≡ k → (k ≡ 0 → ⊥) → untouched k ≡ true → Encodes ink s out₀ work₀ out₀ work₀ (Refused k)
   unfolding encodedOf encodeWorkAfter
   early k e d u =
-      let x = refused ink s rule k out₀ e d in
+      let x = refused ink s rule k out₀ e d (λ q. absurd (true≢false (sym u ∙ ap untouched q))) in
       record { answer = x .answer; output = x .output; words = rw (e, u) refl }
 
   pub encode-ink : inkRight ink ≡ false → Encodes ink s out₀ work₀ out₀ work₀ (Refused 3)

@@ -1,22 +1,22 @@
--- What the writer answers: the length of the image, or the number of the first rule that is broken.
-use Prim.Native.Nat.{ℕ, zero, suc, _≤_}
+-- What the writer answers: the length of the image, or the number of the first rule that is broken; with 23 the length that the image
+-- needs, if a word can say it.
+use Prim.Native.Nat.{ℕ, _≤_}
 use mathlib.Core.Path.{_≡_}
 use mathlib.Core.List.{List}
-use mathlib.Core.Bool.{Bool, _&&_}
+use mathlib.Core.Bool.{Bool, cond, _&&_}
 use lib.ListN.{length}
-use lib.Dec.{leb}
+use lib.Dec.{leb, eqb}
 use Rattle.words.specs.Words.{NONE}
 use Rattle.image.specs.Sections.{Sections}
 use Rattle.draft.specs.Draft.{writeWords}
 use Rattle.draft_image.specs.Encode.{imageFor, encodeRule, outAfter, encodes}
 use Rattle.promises.specs.Answers.{Answer, given, refused}
 use Rattle.writer.specs.declared.Encoded.{Encoded}
-use Rattle.writer.specs.declared.Encoded.the-variants.{Written, Refused}
+use Rattle.writer.specs.declared.Encoded.the-variants.{Written, Short, Refused}
 
 -- by the rule, and the length that the image has
 unfoldable pub encodedBy : ℕ → ℕ → Encoded
-encodedBy zero long = Written long
-encodedBy (suc r) long = Refused (suc r)
+encodedBy r long = cond (eqb r 0) (Written long) (cond (eqb r 23 && leb long NONE) (Short long) (Refused r))
 
 -- with counts of work words and output bytes
 unfoldable pub encodedOf : ℕ → Sections → ℕ → ℕ → Encoded
@@ -25,6 +25,7 @@ encodedOf ink s work room = encodedBy (encodeRule ink s work room) (length (imag
 -- the number and the value of an answer: the length of the image that was written
 abbrev pub ofEncoded : Encoded → Answer ℕ
 ofEncoded (Written long) = given long
+ofEncoded (Short long) = refused 23
 ofEncoded (Refused r) = refused r
 
 -- ---- from step to step

@@ -31,9 +31,11 @@ use write_plan::Plan;
 use write_plan::Uses;
 use write_text_keys::Tables;
 
-// The length of the image that was written, or FORMAT.md's number.
+// The length of the image that was written, or FORMAT.md's number. `Short` is 23 with the length that the image needs; `Refused(23)` an
+// image of more than 4294967295 bytes.
 pub enum Encoded {
     Written(u32),
+    Short(u32),
     Refused(u32),
 }
 
@@ -91,7 +93,7 @@ fn put_image(
         Size::TooLong => Encoded::Refused(NO_ROOM),
         Size::Bytes(length) => {
             if out.len() < length as usize {
-                return Encoded::Refused(NO_ROOM);
+                return Encoded::Short(length);
             }
             let numbers = Numbers {
                 order: l.order,
@@ -184,8 +186,8 @@ fn write(
 }
 
 // Writes the image of a draft at the start of the output and gives its length, or the number of the first rule that the draft breaks:
-// 3, 19, 7, 20, 21, 22, 23. A refusal leaves the output as it was; 3, 19 and 7 leave the work words too, otherwise as many as are
-// needed are 0 on return.
+// 3, 19, 7, 20, 21, 22, 23. An output that is too short is told how long the image is; an empty one asks for it. A refusal leaves the
+// output as it was; 3, 19 and 7 leave the work words too, otherwise as many as are needed are 0 on return.
 pub fn encode(
     ink: u32,
     nodes: &[u32],

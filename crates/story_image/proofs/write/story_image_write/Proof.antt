@@ -1,5 +1,5 @@
 -- `story_image::write::story_image_write` meets its contract.
-use Rattle.story_image.proofs.Writes.{no-length, written-number, written-words, written-output, written-length, refused-number, refused-words, refused-output, refused-length}
+use Rattle.story_image.proofs.Writes.{no-length, written-number, written-words, written-output, written-length, short-number, short-words, short-output, short-length, refused-number, refused-words, refused-output, refused-length}
 use borrow.Author.Needs.{needs}
 use Rattle.story_image.proofs.write.story_image_write.Statement.{statement}
 use Rattle.story_image.proofs.write.story_image_write.Tie as tie
@@ -25,6 +25,12 @@ enum-known-length c = search needs
 
 slice-write-written : tie.Need-slice-write-written
 slice-write-written c = search needs
+
+enum-known-needed : tie.Need-enum-known-needed
+enum-known-needed c = search needs
+
+slice-write-written-2 : tie.Need-slice-write-written-2
+slice-write-written-2 c = search needs
 
 enum-known-number : tie.Need-enum-known-number
 enum-known-number c = search needs
@@ -53,8 +59,26 @@ same-length-5 c = search needs
 same-length-6 : tie.Need-same-length-6
 same-length-6 c = search needs
 
+same-length-7 : tie.Need-same-length-7
+same-length-7 c = search needs
+
 returns-3 : tie.Need-returns-3
 returns-3 c =
+    record {
+      number = search (needs, short-number);
+      output = search (needs, short-output);
+      words = search (needs, short-words);
+      long = search (needs, short-length);
+    }
+
+same-length-8 : tie.Need-same-length-8
+same-length-8 c = search needs
+
+same-length-9 : tie.Need-same-length-9
+same-length-9 c = search needs
+
+returns-4 : tie.Need-returns-4
+returns-4 c =
     record {
       number = search (needs, refused-number);
       output = search (needs, refused-output);
@@ -72,6 +96,8 @@ story-image-write-spec =
     encode-requires
     enum-known-length
     slice-write-written
+    enum-known-needed
+    slice-write-written-2
     enum-known-number
     same-length-2
     same-length-3
@@ -79,4 +105,8 @@ story-image-write-spec =
     returns-2
     same-length-5
     same-length-6
-    returns-3)
+    same-length-7
+    returns-3
+    same-length-8
+    same-length-9
+    returns-4)
