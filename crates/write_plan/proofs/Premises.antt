@@ -42,7 +42,7 @@ module _ (s : Sections) (p : tablesRule s ≡ 0) (q : reachRule s ≡ 0) where
         named = λ x h c. ranges s x c (tables s p .fields x h) .name;
       }
 
-  -- in the words that say the numbering
+  -- the words that say the numbering name a node after its parent
   pub parents-first : shapeRule s ≡ 0 → (w : List ℕ) (at : ℕ) → OldsAt (numbering s) w (nodeCount s) at
       → ParentsFirst (s .version) (s .nodes) w at (nodeCount s)
   unfolding nodeWord
