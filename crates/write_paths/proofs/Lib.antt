@@ -4,5 +4,6 @@ pub mod WordLoop
 pub mod ContainerLoops
 pub mod ContainerOrder
 pub mod LengthLoop
+pub mod Parents
 pub mod NodeList
 pub mod PathOrder

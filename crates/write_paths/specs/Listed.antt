@@ -31,6 +31,17 @@ containersIn version nodes w at zero = []
 containersIn version nodes w at (suc n) =
     containersIn version nodes w at n ++ cond (eqb (tagAt version nodes (getD w (at + n) 0)) 1) (getD w (at + n) 0 ∷ []) []
 
+-- word k from `at` on names a node whose parent is a container that an earlier one names
+pub record ParentListed (version : ℕ) (nodes w : List ℕ) (at k : ℕ) : Type 0 where
+  pub place : ℕ
+  pub earlier : place < k
+  pub parent : getD w (at + place) 0 ≡ wordOf version nodes (getD w (at + k) 0) 0
+  pub container : tagAt version nodes (getD w (at + place) 0) ≡ containerTag
+
+-- each of the n words from `at` on does, or names the root
+abbrev pub ParentsFirst : ℕ → List ℕ → List ℕ → ℕ → ℕ → Type 0
+ParentsFirst version nodes w at n = (k : ℕ) → k < n → (getD w (at + k) 0 ≡ 0 → ⊥) → ParentListed version nodes w at k
+
 -- the image's containers, by their numbers
 abbrev pub containers : Sections → List ℕ → List ℕ
 containers s order = those (nodeCount s) (λ j. isContainer s (oldOf order j))

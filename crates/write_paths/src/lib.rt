@@ -11,7 +11,7 @@ ghost use Rattle.image.specs.Sections.{Sections, nodeWords, nodeCount};
 ghost use Rattle.draft.specs.Draft.{placed};
 ghost use Rattle.texts.specs.Text.{rising};
 ghost use Rattle.write_text_keys.specs.Keys.{keyIn, lengthFrom, Placed};
-ghost use Rattle.write_paths.specs.Listed.{containersIn, placedIn};
+ghost use Rattle.write_paths.specs.Listed.{containersIn, placedIn, ParentsFirst};
 ghost use Rattle.write_paths.specs.Arranged.{Measured, Arranged, Rooted, Indexes};
 ghost use Rattle.draft_image.specs.Ready.{OldsAt};
 use draft::source;
@@ -111,7 +111,7 @@ fn settle(w: &mut [u32], count: usize, list: usize)
     }
 }
 
-// Measures the paths of the nodes that a list has: each length goes into two words at the node's place of a table.
+// Measures the paths of the nodes that a list has, parents first: each length goes into two words at the node's place of a table.
 fn measure(
     nodes: &[u32],
     w: &mut [u32],
@@ -121,15 +121,16 @@ fn measure(
     count: usize,
     source: Source,
 )
-    requires { ⌜ (list + found ≤ table) × (table + count + count ≤ length (now w)) × (count ≤ 4294967295) ⌝ }
+    requires { ⌜ (list + found ≤ table) × (table + count + count ≤ length (now w)) × (found ≤ count) × (count ≤ 4294967295) ⌝ }
     requires { ⌜ ((k : ℕ) → k < found → getD (now w) (list + k) 0 < count) ⌝ }
+    requires { ⌜ ParentsFirst (source .version) (now nodes) (now w) list found ⌝ }
     ensures { λ _. ⌜ (let size = lengthFrom count (source .version) (now (nodes .entry)) in
         Measured (now (w .entry)) list found table count size (now (w .exit)) found) ⌝ }
 {
     let mut i = 0;
     while i < found {
         let node = source::word(w, list + i);
-        let len = write_text_keys::path_length(nodes, node, count, source);
+        let len = write_text_keys::path_length(nodes, w, table, node, source);
         let at = table + node as usize + node as usize;
         w[at] = (len % 4294967296) as u32;
         w[at + 1] = (len / 4294967296) as u32;
@@ -199,7 +200,7 @@ pub fn sort_paths(
     requires { ⌜ (count + count ≤ t .at) × (t .paths + count ≤ t .lengths) × (t .at + t .lengths + count + count ≤ order)
         × (order + count ≤ length (now w)) ⌝ }
     requires { ⌜ (t .texts ≡ 0) × (count ≤ length (now nodes) / nodeWords (source .version)) × (count ≤ 4294967295) ⌝ }
-    requires { ⌜ ((j : ℕ) → j < count → getD (now w) (order + j) 0 < count) ⌝ }
+    requires { ⌜ ((j : ℕ) → j < count → getD (now w) (order + j) 0 < count) × ParentsFirst (source .version) (now nodes) (now w) order count ⌝ }
     ensures { λ r. ⌜ ((s : Sections) (olds : List ℕ) → s .nodes ≡ now (nodes .entry) → s .strings ≡ now (strings .entry)
         → s .version ≡ source .version → nodeCount s ≡ count → Rooted s olds → OldsAt olds (now (w .entry)) count order
         → Indexes s olds t (now (w .entry)) (now (w .exit)) r) ⌝ }

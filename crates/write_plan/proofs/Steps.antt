@@ -25,12 +25,13 @@ use Rattle.write_text_keys.specs.Keys.{keyIn, Placed}
 use Rattle.write_interning.specs.Uses.{RisesFrom}
 use Rattle.write_paths.specs.declared.Indexed.{Indexed}
 use Rattle.write_paths.specs.declared.Indexed.the-variants as indexed
+use Rattle.write_paths.specs.Listed.{ParentsFirst}
 use Rattle.write_paths.specs.Arranged.{Rooted, Indexes}
 use Rattle.write_plan.specs.declared.Layout.{Layout}
 use Rattle.write_plan.specs.declared.Plan.{Plan}
 use Rattle.write_plan.specs.declared.Plan.the-variants.{Refused}
 use Rattle.write_plan.specs.Planned.{layoutOf, PlanOf, StoredPlan, Shaped, ShapedTables}
-use Rattle.write_plan.proofs.Premises.{rooted}
+use Rattle.write_plan.proofs.Premises.{rooted, parents-first}
 use Rattle.write_plan.proofs.PlanSteps.{number-fit, number-leads, number-low, number-room, seen-whole, laid, few-nodes, olds-known, olds-in, plan-unreached, reach-passes, plan-shape, plan-paths, indexed-refused, collect-asks, store-room, store-placed, store-rises, planned}
 
 abbrev pub tablesBy : Layout → ℕ → Tables
@@ -101,11 +102,18 @@ module _ (version : ℕ) (ns cs ms ds is ps ss w₁ : List ℕ) (l : Layout) (kn
   pub paths-asks : ((length ns / nodeWords version + length ns / nodeWords version ≤ l .at) × (l .paths + length ns / nodeWords version ≤ l .lengths)
       × (l .at + l .lengths + length ns / nodeWords version + length ns / nodeWords version ≤ l .order) × (l .order + length ns / nodeWords version ≤ length w₁))
       × ((_≡_ {A = ℕ} 0 0 × (length ns / nodeWords version ≤ length ns / nodeWords version) × (length ns / nodeWords version ≤ 4294967295))
-      × ((j : ℕ) → j < length ns / nodeWords version → getD w₁ (l .order + j) 0 < length ns / nodeWords version))
+      × (((j : ℕ) → j < length ns / nodeWords version → getD w₁ (l .order + j) 0 < length ns / nodeWords version)
+      × ParentsFirst version ns w₁ (l .order) (length ns / nodeWords version)))
   paths-asks =
       let room = laid version ns cs ms ds is ps ss p in (
         rw (el, long) (room .sort, room .lists, room .sizes, room .numbers),
-        ((refl, omega arith, few-nodes version ns cs ms ds is ps ss p q w₁ long numbers), λ j h. rw el (olds-in version ns cs ms ds is ps ss p q w₁ long numbers j h)),
+        (
+          (refl, omega arith, few-nodes version ns cs ms ds is ps ss p q w₁ long numbers),
+          (
+            λ j h. rw el (olds-in version ns cs ms ds is ps ss p q w₁ long numbers j h),
+            parents-first t p q r w₁ (l .order) (λ j h. rw el (olds-known version ns cs ms ds is ps ss p q w₁ long numbers j h)),
+          ),
+        ),
       )
 
   -- sorted in w₂

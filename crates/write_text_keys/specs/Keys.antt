@@ -119,14 +119,17 @@ abbrev pub joinedLength : ℕ → ℕ → ℕ → ℕ
 joinedLength zero front last = last
 joinedLength (suc parent) front last = front + (1 + last)
 
+-- node x's, below a path of length `front`; the root's is empty
+unfoldable pub lengthBelow : ℕ → ℕ → List ℕ → ℕ → ℕ
+lengthBelow front version nodes x = cond (eqb x 0) 0 (joinedLength (wordOf version nodes x 0) front (pieceLength version nodes x))
+
 -- the first argument bounds the steps up to the root
 unfoldable pub lengthFrom : ℕ → ℕ → List ℕ → ℕ → ℕ
 lengthFrom zero version nodes x = 0
 lengthFrom (suc n) version nodes x =
-    let front = lengthFrom n version nodes (wordOf version nodes x 0) in
-    cond (eqb x 0) 0 (joinedLength (wordOf version nodes x 0) front (pieceLength version nodes x))
+    let front = lengthFrom n version nodes (wordOf version nodes x 0) in lengthBelow front version nodes x
 
 -- names on an `unfolding` line what a computation with this module needs
 unfoldable pub keyed : Unit {0}
-unfolding pieceLength atEnd lastByte stepBack readBack back decided keyOf keyLength endOf lengthFrom sections decimals
+unfolding pieceLength atEnd lastByte stepBack readBack back decided keyOf keyLength endOf lengthBelow lengthFrom sections decimals
 keyed = tt

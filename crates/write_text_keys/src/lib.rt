@@ -3,13 +3,14 @@
 ghost use mathlib.Core.Path.{_≡_};
 ghost use mathlib.Core.List.{List, _++_};
 ghost use mathlib.Core.Bool.{true, false, cond};
-ghost use Prim.Native.Nat.{ℕ, _+_, _≤_, _<_};
+ghost use Prim.Native.Nat.{ℕ, _+_, _^_, _≤_, _<_};
 ghost use lib.Dec.{ltb};
 ghost use lib.ListN.{length, getD, drop};
 ghost use Rattle.texts.specs.Text.{before};
 ghost use Rattle.texts.specs.Decimal.{decimal};
+ghost use Rattle.draft.specs.Source.{wordOf};
 ghost use Rattle.write_text_keys.specs.Keys.{pieceLength, atEnd, lastByte, stepBack, readBack, back, decided, alike, nodeOf};
-ghost use Rattle.write_text_keys.specs.Keys.{longOf, keyOf, keyLength, endOf, keyIn, textIn, onePart, Placed, lengthFrom};
+ghost use Rattle.write_text_keys.specs.Keys.{longOf, keyOf, keyLength, endOf, keyIn, textIn, onePart, Placed, lengthBelow};
 use draft::source;
 use draft::source::Source;
 use image::order::comes_before;
@@ -408,25 +409,21 @@ pub fn put_key(
     );
 }
 
-// The length of the canonical path of node `x`, by at most so many steps up to the root.
-pub fn path_length(nodes: &[u32], x: u32, steps: usize, source: Source) -> usize
-    requires { ⌜ steps ≤ 4294967295 ⌝ }
-    ensures { λ r. ⌜ r ≡ lengthFrom steps (source .version) (now (nodes .entry)) x ⌝ }
+// The length of the canonical path of node `x`, by a table of lengths that has the one of the node above.
+pub fn path_length(nodes: &[u32], tab: &[u32], lengths: usize, x: u32, source: Source) -> usize
+    requires { ⌜ lengths ≤ length (now tab) ⌝ }
+    requires { ⌜ ((x ≡ 0 → ⊥) → longOf lengths (now tab) (wordOf (source .version) (now nodes) x 0) + 2 ^ 32 < 2 ^ 64) ⌝ }
+    ensures answer { λ r. ⌜ (let above = wordOf (source .version) (now (nodes .entry)) x 0 in
+        r ≡ lengthBelow (longOf lengths (now (tab .entry)) above) (source .version) (now (nodes .entry)) x) ⌝ }
+    ensures bound { λ r. ⌜ r ≤ longOf lengths (now (tab .entry)) (wordOf (source .version) (now (nodes .entry)) x 0) + 2 ^ 32 ⌝ }
 {
-    let mut at = x;
-    let mut left = steps;
-    let mut sum: usize = 0;
-    while 0 < left {
-        if at == 0 {
-            return sum;
-        }
-        sum += piece_length(nodes, at, source) as usize;
-        at = source::word_of(nodes, at, 0, source);
-        if at == 0 {
-            return sum;
-        }
-        sum += 1;
-        left -= 1;
+    if x == 0 {
+        return 0;
     }
-    sum
+    let piece = piece_length(nodes, x, source) as usize;
+    let above = source::word_of(nodes, x, 0, source);
+    if above == 0 {
+        return piece;
+    }
+    long_of(tab, lengths, above) + 1 + piece
 }

@@ -7,6 +7,7 @@ use mathlib.Core.Bool.{Bool, cond, _&&_}
 use lib.ListN.{length}
 use lib.Dec.{leb, eqb}
 use Rattle.words.specs.Words.{NONE}
+use Rattle.image.specs.Refusals.{noRoom}
 use Rattle.image.specs.Sections.{Sections}
 use Rattle.draft.specs.Draft.{writeWords}
 use Rattle.draft_image.specs.Encode.{imageFor, encodeRule, outAfter, encodes}
@@ -16,7 +17,7 @@ use Rattle.writer.specs.declared.Encoded.the-variants.{Written, Short, R
 
 -- by the rule, and the length that the image has
 unfoldable pub encodedBy : ℕ → ℕ → Encoded
-encodedBy r long = cond (eqb r 0) (Written long) (cond (eqb r 23 && leb long NONE) (Short long) (Refused r))
+encodedBy r long = cond (eqb r 0) (Written long) (cond (eqb r noRoom && leb long NONE) (Short long) (Refused r))
 
 -- with counts of work words and output bytes
 unfoldable pub encodedOf : ℕ → Sections → ℕ → ℕ → Encoded
@@ -25,7 +26,7 @@ encodedOf ink s work room = encodedBy (encodeRule ink s work room) (length (imag
 -- the number and the value of an answer: the length of the image that was written
 abbrev pub ofEncoded : Encoded → Answer ℕ
 ofEncoded (Written long) = given long
-ofEncoded (Short long) = refused 23
+ofEncoded (Short long) = refused noRoom
 ofEncoded (Refused r) = refused r
 
 -- ---- from step to step

@@ -6,6 +6,7 @@ use mathlib.Core.List.{List}
 use mathlib.Core.Bool.{true}
 use lib.ListN.{length, take}
 use Rattle.words.specs.Words.{NONE}
+use Rattle.image.specs.Refusals.{noRoom}
 use Rattle.image.specs.Sections.{Sections, nodeCount, isContainer}
 use Rattle.image.specs.Header.{version, sectionsOf}
 use Rattle.index.specs.Paths.{canonicalPath}
@@ -58,13 +59,13 @@ EncodedExactly = (ink : ℕ) (s : Sections) (work room : ℕ) → WrittenExactly
 -- what an output that is too short is told
 pub record LengthTold (ink : ℕ) (s : Sections) (work room : ℕ) : Type 0 where
   -- with 23, the length of the image wherever a word can say it
-  pub told : ofEncoded (encodedOf ink s work room) .number ≡ 23 → length (imageFor ink s) ≤ NONE → encodedOf ink s work room ≡ Short (length (imageFor ink s))
+  pub told : ofEncoded (encodedOf ink s work room) .number ≡ noRoom → length (imageFor ink s) ≤ NONE → encodedOf ink s work room ≡ Short (length (imageFor ink s))
   -- it is the image's, and more than the output has
   pub right : (n : ℕ) → encodedOf ink s work room ≡ Short n → (n ≡ length (imageFor ink s)) × (room < n)
   -- a second call with an output of so many bytes or more, and as many work words, writes the image
   pub enough : (n more : ℕ) → encodedOf ink s work room ≡ Short n → n ≤ more → encodedOf ink s work more ≡ Written n
   -- where none is told, no output is long enough
-  pub never : encodedOf ink s work room ≡ Refused 23 → (more : ℕ) → encodedOf ink s work more ≡ Refused 23
+  pub never : encodedOf ink s work room ≡ Refused noRoom → (more : ℕ) → encodedOf ink s work more ≡ Refused noRoom
 
 abbrev pub ShortTells : Type 0
 ShortTells = (ink : ℕ) (s : Sections) (work room : ℕ) → LengthTold ink s work room

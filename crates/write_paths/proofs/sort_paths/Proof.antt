@@ -1,5 +1,6 @@
 -- `write_paths::sort_paths` meets its contract.
 use borrow.Author.Tests.{not-true, not-false}
+use Rattle.write_paths.proofs.Parents.{parents-listed}
 use Rattle.write_paths.proofs.PathOrder.{containers-few, listed-below, indexed-unplaced, indexed, indexed-twice}
 use borrow.Author.Needs.{needs}
 use Rattle.write_paths.proofs.sort_paths.Statement.{statement}
@@ -26,8 +27,13 @@ measure-requires c κs =
     let to = c .before .before .before .before .before .before .before .before .before .before .before .before in
     let listed = c .before .before .before .before .list-containers .ensures in
     let few = containers-few (to .args .source .version) (to .args .nodes .now) (to .args .w .now) (to .args .order) (to .args .count) in
-    let size = listed .0 in
-    (search needs, λ k h. listed-below _ _ _ _ _ _ _ _ (search needs) (to .pre .0 .3) (to .pre .1 .1) (listed .0) (listed .1) k h)
+    let size = listed .0 in (
+      search needs,
+      (
+        λ k h. listed-below _ _ _ _ _ _ _ _ (search needs) (to .pre .0 .3) (to .pre .1 .1 .0) (listed .0) (listed .1) k h,
+        parents-listed (to .args .source .version) (to .args .nodes .now) (to .args .w .now) (to .args .order) (to .args .count) _ _ _ (to .pre .1 .1 .1) (listed .0) (search needs) (listed .1),
+      ),
+    )
 
 sort-list-requires : tie.Need-sort-list-requires
 sort-list-requires c κs =

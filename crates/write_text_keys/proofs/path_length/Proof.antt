@@ -1,85 +1,67 @@
--- `write_text_keys::path_length` meets its contract. The invariant: the sum so far and the length of what is left above are the whole.
+-- `write_text_keys::path_length` meets its contract.
 use borrow.Author.Needs.{needs}
 use native.Mathlib.Omega.{arith}
-use mathlib.Core.Path.{_≡_, sym, _∙_}
-use Prim.Native.Nat.{_+_, _-_, _*_, _≤_}
-use Rattle.write_text_keys.specs.Keys.{lengthFrom}
-use Rattle.write_text_keys.proofs.Lengths.{length-none, length-root, length-top, length-below}
+use mathlib.Core.Path.{_≡_, sym, ap, _∙_}
+use Prim.Native.Nat.{_+_, _^_, _<_}
+use Rattle.draft.specs.Source.{wordOf}
+use Rattle.write_text_keys.specs.Keys.{longOf}
+use Rattle.write_text_keys.proofs.Lengths.{below-root, below-top, below-dot}
 use Rattle.write_text_keys.proofs.path_length.Statement.{statement}
 use Rattle.write_text_keys.proofs.path_length.Tie as tie
 
-abbrev Inv-loop : tie.InvT-loop
-Inv-loop nodes x steps source at₀ left₀ sum₀ at left sum =
-    (left ≤ steps) × (sum ≤ 4294967296 * (steps - left))
-    × (lengthFrom steps (source .version) nodes x ≡ sum + lengthFrom left (source .version) nodes at)
+returns : tie.Need-returns
+returns c = (sym (below-root _ _ _ _ (c .if1 .taken)), omega arith)
 
-abbrev μ-loop : tie.MeasureT-loop
-μ-loop nodes x steps source at₀ left₀ sum₀ at left sum = left
-
-loop-holds : tie.Need-loop-holds Inv-loop μ-loop
-loop-holds c = (omega arith, omega arith, omega arith)
-
-returns : tie.Need-returns Inv-loop μ-loop
-returns c =
-    let at = c .before .before in
-    let to = at .before .before .args in
-    omega (arith, at .loop .inv .2, length-root (to .source .version) (to .nodes .now) (at .loop .left) (at .loop .at) (c .if1 .taken))
-
-piece-length-requires : tie.Need-piece-length-requires Inv-loop μ-loop
+piece-length-requires : tie.Need-piece-length-requires
 piece-length-requires c κs = search needs
 
-cast-sum : tie.Need-cast-sum Inv-loop μ-loop
-cast-sum c = search needs
+cast-piece : tie.Need-cast-piece
+cast-piece c = search needs
 
-add-sum : tie.Need-add-sum Inv-loop μ-loop
-add-sum c = search needs
-
-word-of-requires : tie.Need-word-of-requires Inv-loop μ-loop
+word-of-requires : tie.Need-word-of-requires
 word-of-requires c κs = search needs
 
-returns-2 : tie.Need-returns-2 Inv-loop μ-loop
+returns-2 : tie.Need-returns-2
 returns-2 c =
-    let at = c .before .before .before .before .before in
-    let to = at .before .before .args in
-    omega (arith, at .loop .inv .2, c .before .before .piece-length .ensures, length-top (to .source .version) (to .nodes .now) (at .loop .left) (at .loop .at) (omega arith) (c .before .before .before .if1 .left) (sym (c .before .word-of .ensures) ∙ c .if2 .taken))
+    let piece = c .before .before .piece-length in
+    (piece .ensures ∙ sym (below-top _ _ _ _ (c .before .before .before .if1 .left) (sym (c .before .word-of .ensures) ∙ c .if2 .taken)), omega arith)
 
-add-sum-2 : tie.Need-add-sum-2 Inv-loop μ-loop
-add-sum-2 c = search needs
+long-of-requires : tie.Need-long-of-requires
+long-of-requires c κs = search needs
 
-sub-left : tie.Need-sub-left Inv-loop μ-loop
-sub-left c = search needs
+-- the table's word is the parent's length, which leaves room for a piece
+above : (c : tie.After-long-of)
+    → let to = c .before .before .before .before .before .before .before .args in
+    c .long-of .result ≡ longOf (to .lengths) (to .tab .now) (wordOf (to .source .version) (to .nodes .now) (to .x) 0)
+above c =
+    let to = c .before .before .before .before .before .before .before .args in
+    c .long-of .ensures ∙ ap (longOf (to .lengths) (to .tab .now)) (c .before .before .word-of .ensures)
 
-loop-less : tie.Need-loop-less Inv-loop μ-loop
-loop-less c = search needs
+room : (c : tie.After-long-of) → c .long-of .result + 2 ^ 32 < 2 ^ 64
+room c = rw (above c) (c .before .before .before .before .before .before .before .pre .1 (c .before .before .before .before .if1 .left))
 
-loop-again : tie.Need-loop-again Inv-loop μ-loop
-loop-again c =
-    let at = c .before .before .before .before .before in
-    let to = at .before .before .args in
-    let e = length-below (to .source .version) (to .nodes .now) (at .loop .left) (at .loop .at) (omega arith) (c .before .before .before .if1 .left) (λ z. c .if2 .left (c .before .word-of .ensures ∙ z)) in
-    (omega arith, omega arith, rw (c .before .word-of .ensures, c .before .before .piece-length .ensures) (omega (arith, at .loop .inv .2, e)))
+add-result : tie.Need-add-result
+add-result c = omega (arith, room c)
 
-returns-3 : tie.Need-returns-3 Inv-loop μ-loop
+add-result-2 : tie.Need-add-result-2
+add-result-2 c = omega (arith, room c)
+
+returns-3 : tie.Need-returns-3
 returns-3 c =
-    let at = c .before in
-    let to = at .before .before .args in
-    omega (arith, at .loop .inv .2, length-none (to .source .version) (to .nodes .now) (at .loop .left) (at .loop .at) (omega arith))
+    let to = c .before .before .before .before .before .before .before .args in
+    let dot = below-dot (to .source .version) (to .nodes .now) (c .long-of .result) (to .x) (c .before .before .before .before .if1 .left) (λ z. c .before .if2 .left (c .before .before .word-of .ensures ∙ z)) in
+    rw (← above c) (omega (arith, dot, c .before .before .before .piece-length .ensures), omega arith)
 
 pub path-length-spec : {M : Type 1} → statement M
 path-length-spec =
     tie.close
     (tie.spec
-    Inv-loop
-    μ-loop
-    loop-holds
     returns
     piece-length-requires
-    cast-sum
-    add-sum
+    cast-piece
     word-of-requires
     returns-2
-    add-sum-2
-    sub-left
-    loop-less
-    loop-again
+    long-of-requires
+    add-result
+    add-result-2
     returns-3)
