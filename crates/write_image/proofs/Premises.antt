@@ -32,9 +32,8 @@ use Rattle.draft_image.specs.Ready.{NewsAt, OffsetsAt, nodeUses, namedUses, def
 use Rattle.draft_image.proofs.Joins.{sum-const, join-length, join-same}
 use Rattle.draft_image.proofs.Offsets.{offsets-left, offsets-right}
 use Rattle.write_text_uses.specs.Uses.{storedBytes}
-use Rattle.write_numbering.specs.declared.numbers.Numbers.{Numbers}
+use Rattle.draft.specs.declared.layout.Layout.{Layout}
 use Rattle.write_tree_sections.specs.Held.{OrderFits, NamedFit, childrenBy, namedBy, payloadBy}
-use Rattle.write_paths.specs.declared.path_index.Paths.{Paths}
 use Rattle.write_paths.specs.PathIndex.{IndexFit, PathsAt, LengthsAt}
 use Rattle.words.specs.Output.{over}
 use Rattle.write_text_uses.proofs.Sums.{sum-ordered}
@@ -47,7 +46,6 @@ use Rattle.write_list_sections.specs.Put.{DefinitionsPut, ItemsPut, PayloadPut}
 use Rattle.write_list_sections.specs.Entered.{textsBefore, itemsBeforeIn, payloadWords, PayloadFits}
 use Rattle.write_list_sections.proofs.DefinitionWords.{uses-are}
 use Rattle.write_list_sections.proofs.PayloadLoop.{pay-room}
-use Rattle.write_text_keys.specs.declared.Tables.{Tables}
 use Rattle.write_text_keys.specs.Keys.{keyIn}
 use Rattle.write_interning.specs.Uses.{textsOf, storedOf, joined, Offsets}
 use Rattle.write_image.specs.Length.{imageLength}
@@ -103,7 +101,7 @@ pub uses-fewer : (s : Sections) → tablesRule s ≡ 0 → reachRule s ≡ 0 →
 uses-fewer s p q =
     omega (arith, uses-bound s (numbering s) p (once s p q), uses-length s (numbering s), nodes-fewer (nodeCount s) (s .version))
 
-module _ (s : Sections) (w : List ℕ) (n : Numbers) (t : Told s w n) where
+module _ (s : Sections) (w : List ℕ) (l : Layout) (t : Told s w l) where
   abbrev order : List ℕ
   order = numbering s
 
@@ -143,37 +141,37 @@ module _ (s : Sections) (w : List ℕ) (n : Numbers) (t : Told s w n) where
   pub old-inside : (j : ℕ) → j < nodeCount s → oldOf order j < nodeCount s
   old-inside j h = get-below numbers-once j h
 
-  pub word-inside : (j : ℕ) → j < nodeCount s → getD w (n .order + j) 0 < nodeCount s
+  pub word-inside : (j : ℕ) → j < nodeCount s → getD w (l .order + j) 0 < nodeCount s
   word-inside j h = omega (arith, t .olds j h, old-inside j h)
 
-  sum-words : (b : ℕ → ℕ) → sumOf (nodeCount s) (λ m. b (getD w (n .order + m) 0)) ≡ sumOf (nodeCount s) b
+  sum-words : (b : ℕ → ℕ) → sumOf (nodeCount s) (λ m. b (getD w (l .order + m) 0)) ≡ sumOf (nodeCount s) b
   sum-words b =
-      sum-ext (nodeCount s) (λ m. b (getD w (n .order + m) 0)) (λ m. b (oldOf order m)) (λ m h. ap b (t .olds m h))
+      sum-ext (nodeCount s) (λ m. b (getD w (l .order + m) 0)) (λ m. b (oldOf order m)) (λ m h. ap b (t .olds m h))
       ∙ sum-ordered (nodeCount s) order numbers-once b
 
   -- ---- offsets of texts, run by run
 
-  text-offsets : OffsetsAt kept (textUses s order) w (n .offsets)
+  text-offsets : OffsetsAt kept (textUses s order) w (l .offsets)
   unfolding uses
-  text-offsets = offsets-left kept w (n .offsets) (textUses s order) (map (pathOf s order) (byPath s order)) (t .offsets)
+  text-offsets = offsets-left kept w (l .offsets) (textUses s order) (map (pathOf s order) (byPath s order)) (t .offsets)
 
-  front-offsets : OffsetsAt kept (nodeUses s order ++ namedUses s order) w (n .offsets)
-  front-offsets = offsets-left kept w (n .offsets) (nodeUses s order ++ namedUses s order) (definitionUses s) text-offsets
+  front-offsets : OffsetsAt kept (nodeUses s order ++ namedUses s order) w (l .offsets)
+  front-offsets = offsets-left kept w (l .offsets) (nodeUses s order ++ namedUses s order) (definitionUses s) text-offsets
 
-  pub node-offsets : OffsetsAt kept (nodeUses s order) w (n .offsets)
-  node-offsets = offsets-left kept w (n .offsets) (nodeUses s order) (namedUses s order) front-offsets
+  pub node-offsets : OffsetsAt kept (nodeUses s order) w (l .offsets)
+  node-offsets = offsets-left kept w (l .offsets) (nodeUses s order) (namedUses s order) front-offsets
 
-  pub named-offsets : OffsetsAt kept (namedUses s order) w (n .offsets + length (nodeUses s order))
-  named-offsets = offsets-right kept w (n .offsets) (nodeUses s order) (namedUses s order) front-offsets
+  pub named-offsets : OffsetsAt kept (namedUses s order) w (l .offsets + length (nodeUses s order))
+  named-offsets = offsets-right kept w (l .offsets) (nodeUses s order) (namedUses s order) front-offsets
 
-  pub definition-offsets : OffsetsAt kept (definitionUses s) w (definitionsAt s n)
+  pub definition-offsets : OffsetsAt kept (definitionUses s) w (definitionsAt s l)
   definition-offsets =
-      let e : n .offsets + length (nodeUses s order ++ namedUses s order) ≡ definitionsAt s n = omega (arith, length-append (nodeUses s order) (namedUses s order)) in
-      subst (OffsetsAt kept (definitionUses s) w) e (offsets-right kept w (n .offsets) (nodeUses s order ++ namedUses s order) (definitionUses s) text-offsets)
+      let e : l .offsets + length (nodeUses s order ++ namedUses s order) ≡ definitionsAt s l = omega (arith, length-append (nodeUses s order) (namedUses s order)) in
+      subst (OffsetsAt kept (definitionUses s) w) e (offsets-right kept w (l .offsets) (nodeUses s order ++ namedUses s order) (definitionUses s) text-offsets)
 
-  pub path-offsets : OffsetsAt kept (map (pathOf s order) (byPath s order)) w (n .offsets + length (textUses s order))
+  pub path-offsets : OffsetsAt kept (map (pathOf s order) (byPath s order)) w (l .offsets + l .texts)
   unfolding uses
-  path-offsets = offsets-right kept w (n .offsets) (textUses s order) (map (pathOf s order) (byPath s order)) (t .offsets)
+  path-offsets = rw (t .texts) (offsets-right kept w (l .offsets) (textUses s order) (map (pathOf s order) (byPath s order)) (t .offsets))
 
   -- ---- how many texts there are
 
@@ -186,7 +184,7 @@ module _ (s : Sections) (w : List ℕ) (n : Numbers) (t : Told s w n) where
       )
 
   -- there is an offset for each
-  pub texts-end : n .offsets + length (nodeUses s order) + length (namedUses s order) + length (definitionUses s) + length (byPath s order) ≤ length w
+  pub texts-end : l .offsets + length (nodeUses s order) + length (namedUses s order) + length (definitionUses s) + length (byPath s order) ≤ length w
   texts-end = omega (arith, t .offsets-end, uses-length s order, text-uses-length)
 
   -- one a named entry
@@ -200,22 +198,22 @@ module _ (s : Sections) (w : List ℕ) (n : Numbers) (t : Told s w n) where
 
 -- ---- what the writers of the first sections ask
 
-module _ (version : ℕ) (nodes children named definitions items payload strings w : List ℕ) (n : Numbers) where
+module _ (version : ℕ) (nodes children named definitions items payload strings w : List ℕ) (l : Layout) where
   abbrev s : Sections
   s = draftOf version nodes children named definitions items payload strings
 
-  module _ (t : Told s w n) where
-    pub children-sum : childrenBy version nodes w (n .order) (length nodes / nodeWords version) ≡ length children
+  module _ (t : Told s w l) where
+    pub children-sum : childrenBy version nodes w (l .order) (length nodes / nodeWords version) ≡ length children
     unfolding numberOfChildren nodeWord
-    children-sum = sum-words s w n t (numberOfChildren s) ∙ used-up s (tables s (t .tables) .used) .children
+    children-sum = sum-words s w l t (numberOfChildren s) ∙ used-up s (tables s (t .tables) .used) .children
 
-    pub named-sum : namedBy version nodes w (n .order) (length nodes / nodeWords version) ≡ namedCount s
+    pub named-sum : namedBy version nodes w (l .order) (length nodes / nodeWords version) ≡ namedCount s
     unfolding numberOfNamed nodeWord
-    named-sum = sum-words s w n t (numberOfNamed s) ∙ used-up s (tables s (t .tables) .used) .named
+    named-sum = sum-words s w l t (numberOfNamed s) ∙ used-up s (tables s (t .tables) .used) .named
 
-    pub payload-sum : payloadBy version nodes w (n .order) (length nodes / nodeWords version) ≡ length payload
+    pub payload-sum : payloadBy version nodes w (l .order) (length nodes / nodeWords version) ≡ length payload
     unfolding payloadLengthOf nodeWord
-    payload-sum = sum-words s w n t (payloadLengthOf s) ∙ used-up s (tables s (t .tables) .used) .payload
+    payload-sum = sum-words s w l t (payloadLengthOf s) ∙ used-up s (tables s (t .tables) .used) .payload
 
     -- the texts of the nodes
     one-count : (i : ℕ) → i < nodeCount s → textsAt version nodes payload i ≡ length (nodeTexts s i)
@@ -224,166 +222,165 @@ module _ (version : ℕ) (nodes children named definitions items payload strings
         ap (λ (r : NodeRecord). textsBy payload r (kindOf (r .tag))) (node-record s version nodes i refl refl)
         ∙ texts-count s i (kindOf (tagOf s i)) (tables s (t .tables) .fields i h)
 
-    pub texts-sum : usedBy version nodes w (n .order) payload (length nodes / nodeWords version) ≡ length (nodeUses s (numbering s))
+    pub texts-sum : usedBy version nodes w (l .order) payload (length nodes / nodeWords version) ≡ length (nodeUses s (numbering s))
     texts-sum =
-        sum-ext (nodeCount s) (λ m. textsAt version nodes payload (getD w (n .order + m) 0)) (λ m. length (nodeTexts s (oldOf (numbering s) m)))
-        (λ m h. ap (textsAt version nodes payload) (t .olds m h) ∙ one-count (oldOf (numbering s) m) (old-inside s w n t m h))
+        sum-ext (nodeCount s) (λ m. textsAt version nodes payload (getD w (l .order + m) 0)) (λ m. length (nodeTexts s (oldOf (numbering s) m)))
+        (λ m h. ap (textsAt version nodes payload) (t .olds m h) ∙ one-count (oldOf (numbering s) m) (old-inside s w l t m h))
         ∙ sym (join-length (nodeCount s) (λ m. nodeTexts s (oldOf (numbering s) m)))
 
-    pub order-fits : OrderFits version nodes w n
-    order-fits = record { olds = word-inside s w n t; order-end = t .order-end; new-start = t .new-start }
+    pub order-fits : OrderFits version nodes w l
+    order-fits = record { olds = word-inside s w l t; order-end = t .order-end; new-start = t .new-start }
 
-    pub nodes-fit : NodesFit version nodes payload w n
+    pub nodes-fit : NodesFit version nodes payload w l
     nodes-fit =
         record {
           order = order-fits;
           children = omega (arith, children-sum, t .long);
           named = omega (arith, named-sum, t .long);
           bytes = omega (arith, payload-sum, t .long);
-          texts = omega (arith, texts-sum, t .offsets-end, uses-length s (numbering s), text-uses-length s w n t);
+          texts = omega (arith, texts-sum, t .offsets-end, uses-length s (numbering s), text-uses-length s w l t);
         }
 
-    pub named-fit : (text : ℕ) → text ≡ n .offsets + length (nodeUses s (numbering s)) → NamedFit version nodes w (record { order = n .order; new = n .new; offsets = text })
+    pub named-fit : (text : ℕ) → text ≡ l .offsets + length (nodeUses s (numbering s)) → NamedFit version nodes w l text
     named-fit text e =
         record {
-          order = record { olds = word-inside s w n t; order-end = t .order-end; new-start = t .new-start };
-          texts = omega (arith, named-sum, named-length s w n t, t .offsets-end, uses-length s (numbering s), text-uses-length s w n t);
+          order = record { olds = word-inside s w l t; order-end = t .order-end; new-start = t .new-start };
+          texts = omega (arith, named-sum, named-length s w l t, t .offsets-end, uses-length s (numbering s), text-uses-length s w l t);
         }
 
     -- ---- definitions, items, index
 
-    pub definitions-texts : definitionsAt s n + textsBefore definitions (length definitions / definitionWords) ≤ length w
-    definitions-texts = omega (arith, uses-are s, t .offsets-end, uses-length s (numbering s), text-uses-length s w n t)
+    pub definitions-texts : definitionsAt s l + textsBefore definitions (length definitions / definitionWords) ≤ length w
+    definitions-texts = omega (arith, uses-are s, t .offsets-end, uses-length s (numbering s), text-uses-length s w l t)
 
     pub items-sum : itemsBeforeIn definitions (length definitions / definitionWords) ≡ itemCount s
     unfolding itemsBeforeIn definitionWord
     items-sum = items-all s (tables s (t .tables))
 
-    pub index-fit : (p : Paths) (path : ℕ) → Indexed s w p → path ≡ n .offsets + length (textUses s (numbering s))
-        → IndexFit w (record { order = n .order; new = n .new; offsets = path }) p
-    index-fit p path i e =
+    pub index-fit : (count : ℕ) → Indexed s w l count → IndexFit w l count
+    index-fit count i =
         record {
           nodes = i .boxes-end;
-          offsets = omega (arith, t .offsets-end, uses-length s (numbering s), i .count);
+          offsets = omega (arith, t .offsets-end, t .texts, uses-length s (numbering s), i .all);
           lengths = i .lengths-start;
           new = t .new-start;
         }
 
     -- ---- payload and strings
 
-    pub payload-fits : PayloadFits version nodes payload w (n .order) (n .offsets)
-    payload-fits = record { olds = word-inside s w n t; order-end = t .order-end; texts = nodes-fit .texts }
+    pub payload-fits : PayloadFits version nodes payload w (l .order) (l .offsets)
+    payload-fits = record { olds = word-inside s w l t; order-end = t .order-end; texts = nodes-fit .texts }
 
-    pub payload-room : 4 * length (joinOf (length nodes / nodeWords version) (payloadWords version nodes payload w (n .order) (n .offsets))) ≡ length payload
+    pub payload-room : 4 * length (joinOf (length nodes / nodeWords version) (payloadWords version nodes payload w (l .order) (l .offsets))) ≡ length payload
     payload-room =
-        pay-room s version nodes payload w (n .order) (n .offsets) (numbering s) (storedTexts s (numbering s)) payload-fits refl refl refl (t .tables) (t .olds)
-        (node-offsets s w n t)
-        ∙ (unfold written writtenWith sectionOut in measured s w n t .payload)
+        pay-room s version nodes payload w (l .order) (l .offsets) (numbering s) (storedTexts s (numbering s)) payload-fits refl refl refl (t .tables) (t .olds)
+        (node-offsets s w l t)
+        ∙ (unfold written writtenWith sectionOut in measured s w l t .payload)
 
     pub uses-small : length (uses s (numbering s)) < 2 ^ 32
     uses-small = omega (arith, uses-fewer s (t .tables) (t .reach), t .long)
 
-    module _ (k : Tables) (q : Keyed s w n k) where
+    module _ (q : Keyed s w l) where
       abbrev key : ℕ → List ℕ
-      key = keyIn version nodes strings k w
+      key = keyIn version nodes strings l w
 
-      texts-are : textsOf key (n .offsets) ≡ uses s (numbering s)
+      texts-are : textsOf key (l .offsets) ≡ uses s (numbering s)
       texts-are =
-          join-same (n .offsets) (λ a. key a ∷ []) (λ a. getD (uses s (numbering s)) a [] ∷ []) (λ a h. ap (λ (x : List ℕ). x ∷ []) (q .keys a h))
-          ∙ taken (n .offsets) (uses s (numbering s)) (omega (arith, q .all))
-          ∙ take-all (n .offsets) (uses s (numbering s)) (omega (arith, q .all))
+          join-same (l .offsets) (λ a. key a ∷ []) (λ a. getD (uses s (numbering s)) a [] ∷ []) (λ a h. ap (λ (x : List ℕ). x ∷ []) (q .keys a h))
+          ∙ taken (l .offsets) (uses s (numbering s)) (omega (arith, q .all))
+          ∙ take-all (l .offsets) (uses s (numbering s)) (omega (arith, q .all))
 
-      pub stored-are : storedOf key (n .offsets) ≡ storedTexts s (numbering s)
+      pub stored-are : storedOf key (l .offsets) ≡ storedTexts s (numbering s)
       unfolding storedOf storedTexts
       stored-are = ap (distinct []) texts-are
 
-      pub key-offsets : Offsets key (n .offsets) w
+      pub key-offsets : Offsets key (l .offsets) w
       key-offsets a h =
           t .offsets a (omega (arith, q .all)) ∙ sym (λ i. offsetOf (stored-are i) (q .keys a h i))
 
 -- ---- what a section's writer gives, of a draft of which all is known
 
-module _ (version : ℕ) (nodes children named definitions items payload strings w : List ℕ) (n : Numbers) (out₀ out : List ℕ) (t : Told (draftOf version nodes children named definitions items payload strings) w n) where
+module _ (version : ℕ) (nodes children named definitions items payload strings w : List ℕ) (l : Layout) (out₀ out : List ℕ) (t : Told (draftOf version nodes children named definitions items payload strings) w l) where
   abbrev d : Sections
   d = draftOf version nodes children named definitions items payload strings
 
   abbrev sec : ℕ → List ℕ
   sec = sectionOut (written d)
 
-  pub nodes-put : (text : ℕ) → NodesPut version nodes payload w n out₀ out text
-      → (out ≡ over (sec 0) out₀) × (text ≡ n .offsets + length (nodeUses d (numbering d)))
+  pub nodes-put : (text : ℕ) → NodesPut version nodes payload w l out₀ out text
+      → (out ≡ over (sec 0) out₀) × (text ≡ l .offsets + length (nodeUses d (numbering d)))
   unfolding sectionOut written writtenWith
   nodes-put text e =
-      e d (numbering d) (storedTexts d (numbering d)) refl refl refl (t .tables) (t .shape) (place-back d w n t) (t .olds) (t .news) (node-offsets d w n t)
+      e d (numbering d) (storedTexts d (numbering d)) refl refl refl (t .tables) (t .shape) (place-back d w l t) (t .olds) (t .news) (node-offsets d w l t)
 
-  pub children-put : ChildrenPut version nodes children w n out₀ out → out ≡ over (sec 1) out₀
+  pub children-put : ChildrenPut version nodes children w l out₀ out → out ≡ over (sec 1) out₀
   unfolding sectionOut written writtenWith
   children-put e = e d (numbering d) (storedTexts d (numbering d)) refl refl refl (t .tables) (t .olds) (t .news)
 
-  pub named-put : (text : ℕ) → text ≡ n .offsets + length (nodeUses d (numbering d))
-      → NamedPut version nodes named w (record { order = n .order; new = n .new; offsets = text }) out₀ out → out ≡ over (sec 2) out₀
+  pub named-put : (text : ℕ) → text ≡ l .offsets + length (nodeUses d (numbering d))
+      → NamedPut version nodes named w l text out₀ out → out ≡ over (sec 2) out₀
   unfolding sectionOut written writtenWith
   named-put text q e =
       e d (numbering d) (storedTexts d (numbering d)) refl refl refl (t .tables) (t .olds) (t .news)
-      (subst (OffsetsAt (storedTexts d (numbering d)) (namedUses d (numbering d)) w) (sym q) (named-offsets d w n t))
+      (subst (OffsetsAt (storedTexts d (numbering d)) (namedUses d (numbering d)) w) (sym q) (named-offsets d w l t))
 
-  pub definitions-put : (text : ℕ) → text ≡ definitionsAt d n → DefinitionsPut definitions w text out₀ out → out ≡ over (sec 3) out₀
+  pub definitions-put : (text : ℕ) → text ≡ definitionsAt d l → DefinitionsPut definitions w text out₀ out → out ≡ over (sec 3) out₀
   unfolding sectionOut written writtenWith
   definitions-put text q e =
       e d (numbering d) (storedTexts d (numbering d)) refl (t .tables)
-      (subst (OffsetsAt (storedTexts d (numbering d)) (definitionUses d) w) (sym q) (definition-offsets d w n t))
+      (subst (OffsetsAt (storedTexts d (numbering d)) (definitionUses d) w) (sym q) (definition-offsets d w l t))
 
-  pub items-put : (text : ℕ) → text ≡ definitionsAt d n → ItemsPut definitions items w text out₀ out → out ≡ over (sec 4) out₀
+  pub items-put : (text : ℕ) → text ≡ definitionsAt d l → ItemsPut definitions items w text out₀ out → out ≡ over (sec 4) out₀
   unfolding sectionOut written writtenWith
   items-put text q e =
       e d (numbering d) (storedTexts d (numbering d)) refl refl (t .tables)
-      (subst (OffsetsAt (storedTexts d (numbering d)) (definitionUses d) w) (sym q) (definition-offsets d w n t))
+      (subst (OffsetsAt (storedTexts d (numbering d)) (definitionUses d) w) (sym q) (definition-offsets d w l t))
 
-  pub index-put : (p : Paths) (path : ℕ) → Indexed d w p → path ≡ n .offsets + length (textUses d (numbering d))
-      → ((s : Sections) (order : List ℕ) (kept : List (List ℕ)) → p .count ≡ length (byPath s order) → ((j : ℕ) → j < nodeCount s → oldOf order j < nodeCount s)
-      → ((j : ℕ) → j < nodeCount s → placeIn order (oldOf order j) ≡ j) → NewsAt order w (nodeCount s) (n .new) → PathsAt s order w (p .nodes)
-      → LengthsAt s order w (p .lengths) → OffsetsAt kept (map (pathOf s order) (byPath s order)) w path
+  pub index-put : (count : ℕ) → Indexed d w l count
+      → ((s : Sections) (order : List ℕ) (kept : List (List ℕ)) → count ≡ length (byPath s order) → ((j : ℕ) → j < nodeCount s → oldOf order j < nodeCount s)
+      → ((j : ℕ) → j < nodeCount s → placeIn order (oldOf order j) ≡ j) → NewsAt order w (nodeCount s) (l .new) → PathsAt s order w (l .at + l .paths)
+      → LengthsAt s order w (l .at + l .lengths) → OffsetsAt kept (map (pathOf s order) (byPath s order)) w (l .offsets + l .texts)
       → out ≡ over (bytesOf (joinOf (length (byPath s order)) (λ k. indexOut s order kept (getD (byPath s order) k 0)))) out₀)
       → out ≡ over (sec 5) out₀
   unfolding sectionOut written writtenWith
-  index-put p path i q e =
-      e d (numbering d) (storedTexts d (numbering d)) (i .count) (old-inside d w n t) (place-back d w n t) (t .news) (i .boxes) (i .lengths)
-      (subst (OffsetsAt (storedTexts d (numbering d)) (map (pathOf d (numbering d)) (byPath d (numbering d))) w) (sym q) (path-offsets d w n t))
+  index-put count i e =
+      e d (numbering d) (storedTexts d (numbering d)) (i .all) (old-inside d w l t) (place-back d w l t) (t .news) (i .boxes) (i .lengths)
+      (path-offsets d w l t)
 
-  pub payload-put : PayloadPut version nodes payload w (n .order) (n .offsets) out₀ out → out ≡ over (sec 6) out₀
+  pub payload-put : PayloadPut version nodes payload w (l .order) (l .offsets) out₀ out → out ≡ over (sec 6) out₀
   unfolding sectionOut written writtenWith
-  payload-put e = e d (numbering d) (storedTexts d (numbering d)) refl refl refl (t .tables) (t .olds) (node-offsets d w n t)
+  payload-put e = e d (numbering d) (storedTexts d (numbering d)) refl refl refl (t .tables) (t .olds) (node-offsets d w l t)
 
-  pub strings-put : (k : Tables) → Keyed d w n k → out ≡ over (joined (storedOf (keyIn version nodes strings k w) (n .offsets))) out₀ → out ≡ over (sec 7) out₀
+  pub strings-put : Keyed d w l → out ≡ over (joined (storedOf (keyIn version nodes strings l w) (l .offsets))) out₀ → out ≡ over (sec 7) out₀
   unfolding sectionOut written writtenWith
-  strings-put k q e = e ∙ ap (λ (kept : List (List ℕ)). over (joined kept) out₀) (stored-are version nodes children named definitions items payload strings w n t k q)
+  strings-put q e = e ∙ ap (λ (kept : List (List ℕ)). over (joined kept) out₀) (stored-are version nodes children named definitions items payload strings w l t q)
 
 -- ---- the room of three runs of sections, by the draft's counts
 
-pub tree-room : (version : ℕ) (nodes children named payload w : List ℕ) (n : Numbers) (room : ℕ) → TreeReady version nodes children named payload w n room
+pub tree-room : (version : ℕ) (nodes children named payload w : List ℕ) (l : Layout) (room : ℕ) → TreeReady version nodes children named payload w l room
     → length nodes / nodeWords version * nodeSize version + length children * childSize + length named / textEntryWords * textEntrySize ≤ room
-tree-room version nodes children named payload w n room r =
-    omega (arith, r .fits, tree-length (draftOf version nodes children named (r .definitions) (r .items) payload (r .strings)) w n (r .told))
+tree-room version nodes children named payload w l room r =
+    omega (arith, r .fits, tree-length (draftOf version nodes children named (r .definitions) (r .items) payload (r .strings)) w l (r .told))
 
-pub lists-room : (definitions items w : List ℕ) (n : Numbers) (text path : ℕ) (p : Paths) (room : ℕ) → ListsReady definitions items w n text path p room
-    → length definitions / definitionWords * definitionSize + length items / textEntryWords * textEntrySize + p .count * textEntrySize ≤ room
-lists-room definitions items w n text path p room r =
-    omega (arith, r .fits, r .indexed .count, lists-length (draftOf (r .version) (r .nodes) (r .children) (r .named) definitions items (r .payload) (r .strings)) w n (r .told))
+pub lists-room : (definitions items w : List ℕ) (l : Layout) (text count room : ℕ) → ListsReady definitions items w l text count room
+    → length definitions / definitionWords * definitionSize + length items / textEntryWords * textEntrySize + count * textEntrySize ≤ room
+lists-room definitions items w l text count room r =
+    omega (arith, r .fits, r .indexed .all, lists-length (draftOf (r .version) (r .nodes) (r .children) (r .named) definitions items (r .payload) (r .strings)) w l (r .told))
 
-pub texts-room : (version : ℕ) (nodes payload strings w : List ℕ) (n : Numbers) (k : Tables) (room : ℕ) (r : TextsReady version nodes payload strings w n k room)
+pub texts-room : (version : ℕ) (nodes payload strings w : List ℕ) (l : Layout) (room : ℕ) (r : TextsReady version nodes payload strings w l room)
     → length payload + length (storedBytes (draftOf version nodes (r .children) (r .named) (r .definitions) (r .items) payload strings)) ≤ room
-texts-room version nodes payload strings w n k room r =
-    omega (arith, r .fits, texts-length (draftOf version nodes (r .children) (r .named) (r .definitions) (r .items) payload strings) w n (r .told))
+texts-room version nodes payload strings w l room r =
+    omega (arith, r .fits, texts-length (draftOf version nodes (r .children) (r .named) (r .definitions) (r .items) payload strings) w l (r .told))
 
 -- of whatever draft has this payload and these texts
-pub texts-fit : (version : ℕ) (nodes payload strings w : List ℕ) (n : Numbers) (k : Tables) (room : ℕ) → TextsReady version nodes payload strings w n k room
-    → (children named definitions items : List ℕ) (t : Told (draftOf version nodes children named definitions items payload strings) w n)
-    → Keyed (draftOf version nodes children named definitions items payload strings) w n k
+pub texts-fit : (version : ℕ) (nodes payload strings w : List ℕ) (l : Layout) (room : ℕ) → TextsReady version nodes payload strings w l room
+    → (children named definitions items : List ℕ) (t : Told (draftOf version nodes children named definitions items payload strings) w l)
+    → Keyed (draftOf version nodes children named definitions items payload strings) w l
     → length payload + length (storedBytes (draftOf version nodes children named definitions items payload strings)) ≤ room
-texts-fit version nodes payload strings w n k room r children named definitions items t q =
-    let one = stored-are version nodes (r .children) (r .named) (r .definitions) (r .items) payload strings w n (r .told) k (r .keyed) in
-    let two = stored-are version nodes children named definitions items payload strings w n t k q in
+texts-fit version nodes payload strings w l room r children named definitions items t q =
+    let one = stored-are version nodes (r .children) (r .named) (r .definitions) (r .items) payload strings w l (r .told) (r .keyed) in
+    let two = stored-are version nodes children named definitions items payload strings w l t q in
     let same : length (storedBytes (draftOf version nodes children named definitions items payload strings))
     ≡ length (storedBytes (draftOf version nodes (r .children) (r .named) (r .definitions) (r .items) payload strings)) =
     ap (λ (kept : List (List ℕ)). length (joined kept)) (sym two ∙ one) in
-    omega (arith, texts-room version nodes payload strings w n k room r)
+    omega (arith, texts-room version nodes payload strings w l room r)

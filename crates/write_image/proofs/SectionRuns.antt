@@ -17,15 +17,13 @@ use Rattle.draft_image.specs.Strings.{byPath}
 use Rattle.draft_image.specs.Written.{written}
 use Rattle.draft_image.specs.Encode.{imageFor}
 use Rattle.words.specs.Output.{over}
-use Rattle.write_text_keys.specs.declared.Tables.{Tables}
-use Rattle.write_numbering.specs.declared.numbers.Numbers.{Numbers}
-use Rattle.write_paths.specs.declared.path_index.Paths.{Paths}
+use Rattle.draft.specs.declared.layout.Layout.{Layout}
 use Rattle.image.specs.declared.encoding.EntryCounts.{EntryCounts}
 use Rattle.image.specs.Counted.{endOf, CountsOf}
 use Rattle.write_image.specs.declared.Places.{Places}
 use Rattle.write_image.specs.declared.size.Entries.{Entries}
 use Rattle.write_image.specs.Length.{lengthBy, Small, countsBy, placesBy, entriesOf}
-use Rattle.write_image.specs.Given.{Indexed, treeOut, TreeReady, definitionsAt, listsOut, ListsAt, ListsReady, textsOut, TextsReady, pathsOf, Ready, Sectioned}
+use Rattle.write_image.specs.Given.{treeOut, TreeReady, definitionsAt, listsOut, ListsReady, textsOut, TextsReady, Ready, Sectioned}
 use Rattle.write_image.proofs.SectionLengths.{head-length, sized, nodes-fewer}
 use Rattle.write_image.proofs.Premises.{tree-length, lists-length, texts-length}
 use Rattle.write_image.proofs.SectionLayers.{over-next, three-parts, counts-right}
@@ -37,11 +35,11 @@ runs : (s : Sections) → treeOut s ++ listsOut s ++ textsOut s ≡ bodyOf (writ
 unfolding bodyOf joinOf
 runs s = simp append-assoc
 
-module _ (version : ℕ) (nodes children named definitions items payload strings w : List ℕ) (n : Numbers) (t : Tables) (p : Paths) (q : Places) (room : ℕ) where
+module _ (version : ℕ) (nodes children named definitions items payload strings w : List ℕ) (l : Layout) (count : ℕ) (q : Places) (room : ℕ) where
   abbrev s : Sections
   s = draftOf version nodes children named definitions items payload strings
 
-  module _ (r : Sectioned s w n t p q room) where
+  module _ (r : Sectioned s w l count q room) where
     lists-place : q .lists ≡ nodeCount s * nodeSize (s .version) + childCount s * childSize + namedCount s * textEntrySize
     lists-place = ap (λ (x : Places). x .lists) (r .places)
 
@@ -51,22 +49,19 @@ module _ (version : ℕ) (nodes children named definitions items payload strings
 
     -- where each run begins, and that they fit
     pub run-tree : length (treeOut s) ≡ q .lists
-    run-tree = omega (arith, tree-length s w n (r .told), lists-place)
+    run-tree = omega (arith, tree-length s w l (r .told), lists-place)
 
     pub run-lists : length (treeOut s) + length (listsOut s) ≡ q .texts
-    run-lists = omega (arith, tree-length s w n (r .told), lists-length s w n (r .told), texts-place)
+    run-lists = omega (arith, tree-length s w l (r .told), lists-length s w l (r .told), texts-place)
 
     pub run-texts : length (treeOut s) + length (listsOut s) + length (textsOut s) ≤ room
-    run-texts = omega (arith, tree-length s w n (r .told), lists-length s w n (r .told), texts-length s w n (r .told), r .fits)
+    run-texts = omega (arith, tree-length s w l (r .told), lists-length s w l (r .told), texts-length s w l (r .told), r .fits)
 
-    pub tree-ready : TreeReady version nodes children named payload w n room
+    pub tree-ready : TreeReady version nodes children named payload w l room
     tree-ready = record { definitions = definitions; items = items; strings = strings; told = r .told; fits = omega (arith, run-texts) }
 
-    pub lists-at : (text path : ℕ) → text ≡ definitionsAt s n → path ≡ n .offsets + t .texts → ListsAt s n text path
-    lists-at text path e f = record { texts = e; paths = f ∙ ap (λ (m : ℕ). n .offsets + m) (r .texts) }
-
-    pub lists-ready : (text path part : ℕ) → ListsAt s n text path → q .lists + part ≡ room → ListsReady definitions items w n text path p part
-    lists-ready text path part a h =
+    pub lists-ready : (text part : ℕ) → text ≡ definitionsAt s l → q .lists + part ≡ room → ListsReady definitions items w l text count part
+    lists-ready text part a h =
         record {
           version = version;
           nodes = nodes;
@@ -80,7 +75,7 @@ module _ (version : ℕ) (nodes children named definitions items payload strings
           fits = omega (arith, run-tree, run-texts);
         }
 
-    pub texts-ready : (part : ℕ) → q .texts + part ≡ room → TextsReady version nodes payload strings w n t part
+    pub texts-ready : (part : ℕ) → q .texts + part ≡ room → TextsReady version nodes payload strings w l part
     texts-ready part h =
         record {
           children = children;
@@ -106,7 +101,7 @@ image-long : (ink : ℕ) (v : Sections) → length (imageOf ink v) ≡ headerLen
 unfolding imageOf
 image-long ink v = length-append (headerWith ink v _) (bodyOf v) ∙ ap (λ (m : ℕ). m + length (bodyOf v)) (head-length ink v _)
 
-module _ (s : Sections) (w : List ℕ) (n : Numbers) (t : Tables) (e : Entries) (r : Ready s w n t e) where
+module _ (s : Sections) (w : List ℕ) (l : Layout) (e : Entries) (r : Ready s w l e) where
   -- the length that the entries say is the image's
   pub long-enough : lengthBy (s .version) e ≤ NONE
   long-enough = omega (arith, ap (lengthBy (s .version)) (r .entries), r .told .long)
@@ -130,15 +125,14 @@ module _ (s : Sections) (w : List ℕ) (n : Numbers) (t : Tables) (e : Entries) 
   pub body-end : (q : Places) → q ≡ placesBy (s .version) e → headerLength + q .end ≡ lengthBy (s .version) (entriesOf s)
   body-end q k = omega (arith, ap (λ (x : Places). x .end) k, ap (lengthBy (s .version)) (r .entries))
 
-  pub sectioned : (p : Paths) (q : Places) (room : ℕ) → p ≡ pathsOf t (e .index) → q ≡ placesBy (s .version) e → q .end ≤ room → Sectioned s w n t p q room
-  sectioned p q room k l h =
+  pub sectioned : (q : Places) (room : ℕ) → q ≡ placesBy (s .version) e → q .end ≤ room → Sectioned s w l (e .index) q room
+  sectioned q room k h =
       record {
         told = r .told;
-        texts = r .texts;
-        indexed = subst (λ (x : Paths). Indexed s w x) (sym k) (r .indexed);
+        indexed = r .indexed;
         keyed = r .keyed;
-        places = l ∙ ap (placesBy (s .version)) (r .entries);
-        fits = omega (arith, ap (λ (x : Places). x .end) (l ∙ ap (placesBy (s .version)) (r .entries)));
+        places = k ∙ ap (placesBy (s .version)) (r .entries);
+        fits = omega (arith, ap (λ (x : Places). x .end) (k ∙ ap (placesBy (s .version)) (r .entries)));
       }
 
   body-length : headerLength + length (bodyOf (written s)) ≡ lengthBy (s .version) (entriesOf s)
@@ -148,9 +142,9 @@ module _ (s : Sections) (w : List ℕ) (n : Numbers) (t : Tables) (e : Entries) 
         ap length (runs s),
         length-append (treeOut s ++ listsOut s) (textsOut s),
         length-append (treeOut s) (listsOut s),
-        tree-length s w n (r .told),
-        lists-length s w n (r .told),
-        texts-length s w n (r .told),
+        tree-length s w l (r .told),
+        lists-length s w l (r .told),
+        texts-length s w l (r .told),
       )
 
   pub image-put : (ink : ℕ) (c : EntryCounts) (q : Places) (out₀ out₁ out₂ ys zs : List ℕ) → c ≡ countsBy e → q ≡ placesBy (s .version) e → lengthBy (s .version) (entriesOf s) ≤ length out₀
@@ -158,16 +152,16 @@ module _ (s : Sections) (w : List ℕ) (n : Numbers) (t : Tables) (e : Entries) 
       → ys ≡ over (bodyOf (written s)) (take (length out₁ - headerLength) (drop headerLength out₁)) → out₂ ≡ putMid headerLength (length out₁ - headerLength) out₁ ys
       → ((i : ℕ) (v : Sections) → take (headerLength + q .end) out₂ ≡ headerWith i v 0 ++ bodyOf v → zs ≡ imageOf i v)
       → zs ++ drop (headerLength + q .end) out₂ ≡ over (imageFor ink s) out₀
-  image-put ink c q out₀ out₁ out₂ ys zs k l h put y f sum =
+  image-put ink c q out₀ out₁ out₂ ys zs k p h put y f sum =
       let v = written s in
       let head = headerWith ink v 0 in
       let size : length (head ++ bodyOf v) ≡ headerLength + q .end =
-      omega (arith, length-append head (bodyOf v), head-length ink v 0, body-length, body-end q l) in
+      omega (arith, length-append head (bodyOf v), head-length ink v 0, body-length, body-end q p) in
       let first : out₁ ≡ over head out₀ = put v (subst (CountsOf (s .version) v) (sym (k ∙ ap countsBy (r .entries))) (counts-right s (sized s (r .told .tables) (r .told .reach)))) in
       let both : out₂ ≡ over (head ++ bodyOf v) out₀ =
       f ∙ over-next out₀ out₁ head (bodyOf v) ys headerLength first (sym (head-length ink v 0)) (omega (arith, body-length)) y in
       let image : zs ≡ imageOf ink v = sum ink v (ap (take (headerLength + q .end)) both ∙ take-at (head ++ bodyOf v) (drop (length (head ++ bodyOf v)) out₀) (headerLength + q .end) size) in
       let rest : drop (headerLength + q .end) out₂ ≡ drop (length (head ++ bodyOf v)) out₀ =
       ap (drop (headerLength + q .end)) both ∙ drop-at (head ++ bodyOf v) (drop (length (head ++ bodyOf v)) out₀) (headerLength + q .end) size in
-      let long : length (head ++ bodyOf v) ≡ length (imageOf ink v) = omega (arith, size, body-end q l, length-append head (bodyOf v), head-length ink v 0, image-long ink (written s)) in
+      let long : length (head ++ bodyOf v) ≡ length (imageOf ink v) = omega (arith, size, body-end q p, length-append head (bodyOf v), head-length ink v 0, image-long ink (written s)) in
       (λ i. image i ++ rest i) ∙ ap (λ (m : ℕ). imageOf ink v ++ drop m out₀) long ∙ (unfold imageFor in refl)

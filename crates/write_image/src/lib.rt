@@ -14,20 +14,18 @@ ghost use Rattle.draft_image.specs.Written.{written};
 ghost use Rattle.draft_image.specs.Encode.{imageFor};
 ghost use Rattle.words.specs.Output.{over};
 ghost use Rattle.write_image.specs.Length.{lengthBy, Small, countsBy, placesBy, imageLength};
-ghost use Rattle.write_image.specs.Given.{Ready, Sectioned, pathsOf};
+ghost use Rattle.write_image.specs.Given.{Ready, Sectioned};
 use crate::list_part::put_lists;
 use crate::size::Entries;
 use crate::size::nodes_length;
 use crate::text_part::put_texts;
 use crate::tree_part::put_tree;
+use draft::layout::Layout;
 use draft::source::Source;
 use image::ImageView;
 use image::encoding::EntryCounts;
 use image::encoding::put_checksum;
 use image::encoding::put_header;
-use write_numbering::numbers::Numbers;
-use write_paths::path_index::Paths;
-use write_text_keys::Tables;
 
 // The counts that the header says.
 fn counts_of(entries: Entries) -> EntryCounts
@@ -72,19 +70,7 @@ fn places_of(entries: Entries, source: Source) -> Places
     }
 }
 
-// Where the paths lie in the work words.
-fn paths_of(tables: Tables, count: usize) -> Paths
-    requires { ⌜ (tables .at + tables .paths ≤ 9223372036854775807) × (tables .at + tables .lengths ≤ 9223372036854775807) ⌝ }
-    ensures { λ r. ⌜ r ≡ pathsOf tables count ⌝ }
-{
-    Paths {
-        nodes: tables.at + tables.paths,
-        lengths: tables.at + tables.lengths,
-        count,
-    }
-}
-
-// Writes the sections at the start of the output.
+// Writes the sections at the start of the output; the index has `count` entries.
 fn put_sections(
     nodes: &[u32],
     children: &[u32],
@@ -94,16 +80,15 @@ fn put_sections(
     payload: &[u8],
     strings: &[u8],
     work: &[u32],
-    numbers: Numbers,
-    tables: Tables,
-    paths: Paths,
+    layout: Layout,
+    count: usize,
     places: Places,
     out: &mut [u8],
     source: Source,
 )
     requires { ⌜ (let s =
         draftOf (source .version) (now nodes) (now children) (now named) (now definitions) (now items) (now payload) (now strings) in
-        Sectioned s (now work) numbers tables paths places (length (now out))) ⌝ }
+        Sectioned s (now work) layout count places (length (now out))) ⌝ }
     ensures { λ r. ⌜ (let s =
         draftOf (source .version) (now (nodes .entry)) (now (children .entry)) (now (named .entry)) (now (definitions .entry)) (now (items .entry))
         (now (payload .entry)) (now (strings .entry)) in
@@ -111,16 +96,14 @@ fn put_sections(
 {
     let at_lists = places.lists;
     let at_texts = places.texts;
-    let text = put_tree(nodes, children, named, payload, work, numbers, out, source);
-    let path = numbers.offsets + tables.texts;
+    let text = put_tree(nodes, children, named, payload, work, layout, out, source);
     put_lists(
         definitions,
         items,
         work,
-        numbers,
+        layout,
         text,
-        path,
-        paths,
+        count,
         &mut out[at_lists..],
     );
     put_texts(
@@ -128,8 +111,7 @@ fn put_sections(
         payload,
         strings,
         work,
-        numbers,
-        tables,
+        layout,
         &mut out[at_texts..],
         source,
     );
@@ -146,15 +128,14 @@ pub fn fill(
     payload: &[u8],
     strings: &[u8],
     work: &[u32],
-    numbers: Numbers,
-    tables: Tables,
+    layout: Layout,
     entries: Entries,
     out: &mut [u8],
     source: Source,
 )
     requires { ⌜ (let s =
         draftOf (source .version) (now nodes) (now children) (now named) (now definitions) (now items) (now payload) (now strings) in
-        Ready s (now work) numbers tables entries) ⌝ }
+        Ready s (now work) layout entries) ⌝ }
     requires { ⌜ (let s =
         draftOf (source .version) (now nodes) (now children) (now named) (now definitions) (now items) (now payload) (now strings) in
         imageLength s ≤ length (now out)) ⌝ }
@@ -164,7 +145,6 @@ pub fn fill(
         now (out .exit) ≡ over (imageFor ink s) (now (out .entry))) ⌝ }
 {
     put_header(source.version, ink, counts_of(entries), out);
-    let paths = paths_of(tables, entries.index);
     let places = places_of(entries, source);
     let header = ImageView::HEADER_LENGTH;
     let end = header + places.end;
@@ -177,9 +157,8 @@ pub fn fill(
         payload,
         strings,
         work,
-        numbers,
-        tables,
-        paths,
+        layout,
+        entries.index,
         places,
         &mut out[header..],
         source,

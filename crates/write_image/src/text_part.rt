@@ -6,11 +6,10 @@ ghost use lib.ListN.{length};
 ghost use Rattle.draft.specs.Source.{draftOf};
 ghost use Rattle.words.specs.Output.{over};
 ghost use Rattle.write_image.specs.Given.{Told, Keyed, TextsReady, textsOut};
+use draft::layout::Layout;
 use draft::source::Source;
 use write_interning::emit;
 use write_list_sections::payload::put_payload;
-use write_numbering::numbers::Numbers;
-use write_text_keys::Tables;
 
 // Writes the sections at the start of the output.
 pub fn put_texts(
@@ -18,33 +17,23 @@ pub fn put_texts(
     payload: &[u8],
     strings: &[u8],
     work: &[u32],
-    numbers: Numbers,
-    tables: Tables,
+    layout: Layout,
     out: &mut [u8],
     source: Source,
 )
-    requires { ⌜ TextsReady (source .version) (now nodes) (now payload) (now strings) (now work) numbers tables (length (now out)) ⌝ }
+    requires { ⌜ TextsReady (source .version) (now nodes) (now payload) (now strings) (now work) layout (length (now out)) ⌝ }
     ensures { λ r. ⌜ ((children named definitions items : List ℕ) → let s =
         draftOf (source .version) (now (nodes .entry)) children named definitions items (now (payload .entry)) (now (strings .entry)) in
-        Told s (now (work .entry)) numbers → Keyed s (now (work .entry)) numbers tables → now (out .exit) ≡ over (textsOut s)
-        (now (out .entry))) ⌝ }
+        Told s (now (work .entry)) layout → Keyed s (now (work .entry)) layout → now (out .exit) ≡ over (textsOut s) (now (out .entry))) ⌝ }
 {
-    put_payload(
-        nodes,
-        payload,
-        work,
-        numbers.order,
-        numbers.offsets,
-        out,
-        source,
-    );
+    put_payload(nodes, payload, work, layout, out, source);
     let at_strings = payload.len();
     emit(
         nodes,
         strings,
         work,
-        tables,
-        numbers.offsets,
+        layout,
+        layout.offsets,
         &mut out[at_strings..],
         source,
     );

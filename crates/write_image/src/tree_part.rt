@@ -7,10 +7,10 @@ ghost use Rattle.draft.specs.Source.{draftOf};
 ghost use Rattle.words.specs.Output.{over};
 ghost use Rattle.write_image.specs.Given.{Told, TreeReady, treeOut, definitionsAt};
 use crate::size::nodes_length;
+use draft::layout::Layout;
 use draft::source::Source;
 use draft::source::node_count;
 use image::ImageView;
-use write_numbering::numbers::Numbers;
 use write_tree_sections::children::put_children;
 use write_tree_sections::named::put_named;
 use write_tree_sections::nodes::put_nodes;
@@ -22,36 +22,32 @@ pub fn put_tree(
     named: &[u32],
     payload: &[u8],
     work: &[u32],
-    numbers: Numbers,
+    layout: Layout,
     out: &mut [u8],
     source: Source,
 ) -> usize
-    requires { ⌜ TreeReady (source .version) (now nodes) (now children) (now named) (now payload) (now work) numbers (length (now out)) ⌝ }
+    requires { ⌜ TreeReady (source .version) (now nodes) (now children) (now named) (now payload) (now work) layout (length (now out)) ⌝ }
     ensures { λ r. ⌜ ((definitions items strings : List ℕ) → let s =
         draftOf (source .version) (now (nodes .entry)) (now (children .entry)) (now (named .entry)) definitions items (now (payload .entry)) strings in
-        Told s (now (work .entry)) numbers → (now (out .exit) ≡ over (treeOut s) (now (out .entry))) × (r ≡ definitionsAt s numbers)) ⌝ }
+        Told s (now (work .entry)) layout → (now (out .exit) ≡ over (treeOut s) (now (out .entry))) × (r ≡ definitionsAt s layout)) ⌝ }
 {
-    let text = put_nodes(nodes, payload, work, numbers, out, source);
+    let text = put_nodes(nodes, payload, work, layout, out, source);
     let at_children = nodes_length(node_count(nodes, source), source);
     put_children(
         nodes,
         children,
         work,
-        numbers,
+        layout,
         &mut out[at_children..],
         source,
     );
     let at_named = at_children + children.len() * ImageView::WORD_BYTES;
-    let named_numbers = Numbers {
-        order: numbers.order,
-        new: numbers.new,
-        offsets: text,
-    };
     put_named(
         nodes,
         named,
         work,
-        named_numbers,
+        layout,
+        text,
         &mut out[at_named..],
         source,
     );

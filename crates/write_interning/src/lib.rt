@@ -9,9 +9,9 @@ ghost use Rattle.texts.specs.Text.{byKey};
 ghost use Rattle.write_text_keys.specs.Keys.{keyIn, Placed};
 ghost use Rattle.write_sorting.specs.Sorted.{upFrom};
 ghost use Rattle.write_interning.specs.Uses.{storedOf, joined, storedAnswer, Offsets, RisesFrom, Firsts, headOf};
+use draft::layout::Layout;
 use draft::source;
 use draft::source::Source;
-use write_text_keys::Tables;
 
 // How long the stored texts are, or that they are too long for a word to say where each begins.
 pub enum Stored {
@@ -20,18 +20,18 @@ pub enum Stored {
 }
 
 // Puts the uses 0 to n - 1 in the order of their texts, those of one text in their own order. The paths, which come last, are in order.
-fn arrange(nodes: &[u32], strings: &[u8], w: &mut [u32], t: Tables, n: usize, source: Source)
-    requires { ⌜ (t .texts ≤ n) × (n + n ≤ t .at) × Placed t (length (now w)) × (n < 2 ^ 32) ⌝ }
-    requires { ⌜ RisesFrom (byKey (keyIn (source .version) (now nodes) (now strings) t (now w))) (t .texts) n ⌝ }
-    ensures { λ _. ⌜ (let key = keyIn (source .version) (now (nodes .entry)) (now (strings .entry)) t (now (w .entry)) in
+fn arrange(nodes: &[u32], strings: &[u8], w: &mut [u32], layout: Layout, n: usize, source: Source)
+    requires { ⌜ (layout .texts ≤ n) × (n + n ≤ layout .at) × Placed layout (length (now w)) × (n < 2 ^ 32) ⌝ }
+    requires { ⌜ RisesFrom (byKey (keyIn (source .version) (now nodes) (now strings) layout (now w))) (layout .texts) n ⌝ }
+    ensures { λ _. ⌜ (let key = keyIn (source .version) (now (nodes .entry)) (now (strings .entry)) layout (now (w .entry)) in
         take n (now (w .exit)) ≡ isort (byKey key) (upFrom 0 n)) ⌝ }
-    ensures { λ _. ⌜ drop (t .at) (now (w .exit)) ≡ drop (t .at) (now (w .entry)) ⌝ }
+    ensures { λ _. ⌜ drop (layout .at) (now (w .exit)) ≡ drop (layout .at) (now (w .entry)) ⌝ }
 {
-    let m = t.texts;
+    let m = layout.texts;
     write_sorting::number(w, 0, m);
-    write_sorting::sort(nodes, strings, w, t, m, source);
+    write_sorting::sort(nodes, strings, w, layout, m, source);
     write_sorting::number(w, m, n);
-    write_sorting::merge(nodes, strings, w, t, m, n, source);
+    write_sorting::merge(nodes, strings, w, layout, m, n, source);
 }
 
 // The first use of the i-th use of the order.
@@ -39,13 +39,13 @@ fn head_of(
     nodes: &[u32],
     strings: &[u8],
     w: &[u32],
-    t: Tables,
+    layout: Layout,
     n: usize,
     i: usize,
     source: Source,
 ) -> u32
-    requires { ⌜ (n ≤ length (now w)) × Placed t (length (now w)) ⌝ }
-    ensures { λ r. ⌜ (let key = keyIn (source .version) (now (nodes .entry)) (now (strings .entry)) t (now (w .entry)) in
+    requires { ⌜ (n ≤ length (now w)) × Placed layout (length (now w)) ⌝ }
+    ensures { λ r. ⌜ (let key = keyIn (source .version) (now (nodes .entry)) (now (strings .entry)) layout (now (w .entry)) in
         r ≡ headOf (byKey key) (now (w .entry)) n i) ⌝ }
 {
     let use_here = source::word(w, i);
@@ -54,23 +54,23 @@ fn head_of(
     }
     let use_before = source::word(w, i - 1);
     let first = source::word(w, n + use_before as usize);
-    if write_text_keys::below(nodes, strings, w, t, use_before, use_here, source) {
+    if write_text_keys::below(nodes, strings, w, layout, use_before, use_here, source) {
         return use_here;
     }
     first
 }
 
 // The order is in the first n words: each use's first use goes into the n words after them.
-fn mark(nodes: &[u32], strings: &[u8], w: &mut [u32], t: Tables, n: usize, source: Source)
-    requires { ⌜ (n + n ≤ t .at) × Placed t (length (now w)) ⌝ }
-    requires { ⌜ take n (now w) ≡ isort (byKey (keyIn (source .version) (now nodes) (now strings) t (now w))) (upFrom 0 n) ⌝ }
-    ensures { λ _. ⌜ (let key = keyIn (source .version) (now (nodes .entry)) (now (strings .entry)) t (now (w .entry)) in
+fn mark(nodes: &[u32], strings: &[u8], w: &mut [u32], layout: Layout, n: usize, source: Source)
+    requires { ⌜ (n + n ≤ layout .at) × Placed layout (length (now w)) ⌝ }
+    requires { ⌜ take n (now w) ≡ isort (byKey (keyIn (source .version) (now nodes) (now strings) layout (now w))) (upFrom 0 n) ⌝ }
+    ensures { λ _. ⌜ (let key = keyIn (source .version) (now (nodes .entry)) (now (strings .entry)) layout (now (w .entry)) in
         Firsts key n (now (w .exit))) ⌝ }
-    ensures { λ _. ⌜ drop (t .at) (now (w .exit)) ≡ drop (t .at) (now (w .entry)) ⌝ }
+    ensures { λ _. ⌜ drop (layout .at) (now (w .exit)) ≡ drop (layout .at) (now (w .entry)) ⌝ }
 {
     let mut i = 0;
     while i < n {
-        let first = head_of(nodes, strings, w, t, n, i, source);
+        let first = head_of(nodes, strings, w, layout, n, i, source);
         let at = n + source::word(w, i) as usize;
         w[at] = first;
         i += 1;
@@ -82,24 +82,24 @@ fn assign(
     nodes: &[u32],
     strings: &[u8],
     w: &mut [u32],
-    t: Tables,
+    layout: Layout,
     n: usize,
     source: Source,
 ) -> Stored
-    requires { ⌜ (n + n ≤ t .at) × Placed t (length (now w)) × (n < 2 ^ 32) ⌝ }
-    requires { ⌜ Firsts (keyIn (source .version) (now nodes) (now strings) t (now w)) n (now w) ⌝ }
-    ensures { λ r. ⌜ (let key = keyIn (source .version) (now (nodes .entry)) (now (strings .entry)) t (now (w .entry)) in
+    requires { ⌜ (n + n ≤ layout .at) × Placed layout (length (now w)) × (n < 2 ^ 32) ⌝ }
+    requires { ⌜ Firsts (keyIn (source .version) (now nodes) (now strings) layout (now w)) n (now w) ⌝ }
+    ensures { λ r. ⌜ (let key = keyIn (source .version) (now (nodes .entry)) (now (strings .entry)) layout (now (w .entry)) in
         r ≡ storedAnswer (length (joined (storedOf key n)))) ⌝ }
-    ensures { λ _. ⌜ (let key = keyIn (source .version) (now (nodes .entry)) (now (strings .entry)) t (now (w .entry)) in
+    ensures { λ _. ⌜ (let key = keyIn (source .version) (now (nodes .entry)) (now (strings .entry)) layout (now (w .entry)) in
         length (joined (storedOf key n)) < 2 ^ 32 → Offsets key n (now (w .exit))) ⌝ }
-    ensures { λ _. ⌜ drop (t .at) (now (w .exit)) ≡ drop (t .at) (now (w .entry)) ⌝ }
+    ensures { λ _. ⌜ drop (layout .at) (now (w .exit)) ≡ drop (layout .at) (now (w .entry)) ⌝ }
 {
     let mut total = 0usize;
     let mut k = 0;
     while k < n {
         let first = source::word(w, n + k);
         if first as usize == k {
-            let len = write_text_keys::key_length(strings, w, t, first);
+            let len = write_text_keys::key_length(strings, w, layout, first);
             if 4294967295 - total < len {
                 return Stored::TooLong;
             }
@@ -118,21 +118,21 @@ pub fn intern(
     nodes: &[u32],
     strings: &[u8],
     w: &mut [u32],
-    t: Tables,
+    layout: Layout,
     n: usize,
     source: Source,
 ) -> Stored
-    requires { ⌜ (t .texts ≤ n) × (n + n ≤ t .at) × Placed t (length (now w)) × (n < 2 ^ 32) ⌝ }
-    requires { ⌜ RisesFrom (byKey (keyIn (source .version) (now nodes) (now strings) t (now w))) (t .texts) n ⌝ }
-    ensures { λ r. ⌜ (let key = keyIn (source .version) (now (nodes .entry)) (now (strings .entry)) t (now (w .entry)) in
+    requires { ⌜ (layout .texts ≤ n) × (n + n ≤ layout .at) × Placed layout (length (now w)) × (n < 2 ^ 32) ⌝ }
+    requires { ⌜ RisesFrom (byKey (keyIn (source .version) (now nodes) (now strings) layout (now w))) (layout .texts) n ⌝ }
+    ensures { λ r. ⌜ (let key = keyIn (source .version) (now (nodes .entry)) (now (strings .entry)) layout (now (w .entry)) in
         r ≡ storedAnswer (length (joined (storedOf key n)))) ⌝ }
-    ensures { λ _. ⌜ (let key = keyIn (source .version) (now (nodes .entry)) (now (strings .entry)) t (now (w .entry)) in
+    ensures { λ _. ⌜ (let key = keyIn (source .version) (now (nodes .entry)) (now (strings .entry)) layout (now (w .entry)) in
         length (joined (storedOf key n)) < 2 ^ 32 → Offsets key n (now (w .exit))) ⌝ }
-    ensures { λ _. ⌜ drop (t .at) (now (w .exit)) ≡ drop (t .at) (now (w .entry)) ⌝ }
+    ensures { λ _. ⌜ drop (layout .at) (now (w .exit)) ≡ drop (layout .at) (now (w .entry)) ⌝ }
 {
-    arrange(nodes, strings, w, t, n, source);
-    mark(nodes, strings, w, t, n, source);
-    assign(nodes, strings, w, t, n, source)
+    arrange(nodes, strings, w, layout, n, source);
+    mark(nodes, strings, w, layout, n, source);
+    assign(nodes, strings, w, layout, n, source)
 }
 
 // Writes the stored texts one after the other at the front of the output, given each use's offset.
@@ -140,23 +140,23 @@ pub fn emit(
     nodes: &[u32],
     strings: &[u8],
     w: &[u32],
-    t: Tables,
+    layout: Layout,
     n: usize,
     out: &mut [u8],
     source: Source,
 )
-    requires { ⌜ (n + n ≤ t .at) × Placed t (length (now w)) × (n < 2 ^ 32) ⌝ }
-    requires { ⌜ Offsets (keyIn (source .version) (now nodes) (now strings) t (now w)) n (now w) ⌝ }
-    requires { ⌜ length (joined (storedOf (keyIn (source .version) (now nodes) (now strings) t (now w)) n)) ≤ length (now out) ⌝ }
-    ensures { λ _. ⌜ (let key = keyIn (source .version) (now (nodes .entry)) (now (strings .entry)) t (now (w .entry)) in
+    requires { ⌜ (n + n ≤ layout .at) × Placed layout (length (now w)) × (n < 2 ^ 32) ⌝ }
+    requires { ⌜ Offsets (keyIn (source .version) (now nodes) (now strings) layout (now w)) n (now w) ⌝ }
+    requires { ⌜ length (joined (storedOf (keyIn (source .version) (now nodes) (now strings) layout (now w)) n)) ≤ length (now out) ⌝ }
+    ensures { λ _. ⌜ (let key = keyIn (source .version) (now (nodes .entry)) (now (strings .entry)) layout (now (w .entry)) in
         now (out .exit) ≡ joined (storedOf key n) ++ drop (length (joined (storedOf key n))) (now (out .entry))) ⌝ }
 {
     let mut end = 0usize;
     let mut k = 0;
     while k < n {
         if source::word(w, n + k) as usize == end {
-            let len = write_text_keys::key_length(strings, w, t, k as u32);
-            write_text_keys::put_key(nodes, strings, w, t, k as u32, &mut out[end..], source);
+            let len = write_text_keys::key_length(strings, w, layout, k as u32);
+            write_text_keys::put_key(nodes, strings, w, layout, k as u32, &mut out[end..], source);
             end += len;
         }
         k += 1;

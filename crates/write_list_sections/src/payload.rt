@@ -10,6 +10,7 @@ ghost use Rattle.write_list_sections.specs.Entered.{itemTexts, listItemW
 ghost use Rattle.write_list_sections.specs.Entered.{PayloadFits, PutAsBytes};
 ghost use Rattle.write_list_sections.specs.Put.{PayloadPut};
 ghost use Rattle.image.specs.Sections.{nodeWords, listHeadSize, listItemSize, listOriginSize};
+use draft::layout::Layout;
 use draft::source::Source;
 use draft::source::node_at;
 use draft::source::node_count;
@@ -130,25 +131,24 @@ fn put_node(
     put_list(payload, node.f0, w, text, out, at)
 }
 
-// Writes the section at the start of the output. The words from `order` on are the draft's numbers of the image's nodes, those from
-// `offsets` on the offsets of the nodes' texts.
+// Writes the section at the start of the output.
 pub fn put_payload(
     nodes: &[u32],
     payload: &[u8],
     w: &[u32],
-    order: usize,
-    offsets: usize,
+    layout: Layout,
     out: &mut [u8],
     source: Source,
 )
-    requires { ⌜ PayloadFits (source .version) (now nodes) (now payload) (now w) order offsets ⌝ }
-    requires { ⌜ (let words = payloadWords (source .version) (now nodes) (now payload) (now w) order offsets in
+    requires { ⌜ PayloadFits (source .version) (now nodes) (now payload) (now w) (layout .order) (layout .offsets) ⌝ }
+    requires { ⌜ (let words = payloadWords (source .version) (now nodes) (now payload) (now w) (layout .order) (layout .offsets) in
         4 * length (joinOf (length (now nodes) / nodeWords (source .version)) words) ≤ length (now out)) ⌝ }
-    ensures { λ r. ⌜ (PayloadPut (source .version) (now (nodes .entry)) (now (payload .entry)) (now (w .entry)) order offsets
-        (now (out .entry)) (now (out .exit))) ⌝ }
+    ensures { λ r. ⌜ (PayloadPut (source .version) (now (nodes .entry)) (now (payload .entry)) (now (w .entry)) (layout .order)
+        (layout .offsets) (now (out .entry)) (now (out .exit))) ⌝ }
 {
+    let order = layout.order;
     let count = node_count(nodes, source);
-    let mut text = offsets;
+    let mut text = layout.offsets;
     let mut at = 0;
     let mut j = 0;
     while j < count {

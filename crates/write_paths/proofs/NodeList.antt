@@ -11,7 +11,7 @@ use Rattle.laws.proofs.Members.{length-join, all-of, all-so, all-ext}
 use Rattle.laws.specs.Sorted.{isort}
 use Rattle.texts.specs.Text.{before, rising, byKey}
 use Rattle.write_sorting.specs.Sorted.{upFrom, part}
-use Rattle.write_text_keys.specs.declared.Tables.{Tables}
+use Rattle.draft.specs.declared.layout.Layout.{Layout}
 use Rattle.write_text_keys.specs.Keys.{keyOf, keyIn}
 use Rattle.write_paths.specs.Arranged.{sortedNames, Arranged}
 use Rattle.write_paths.proofs.WordLoop.{sets-past, sets-before, sets-at, sets-drop}
@@ -88,34 +88,34 @@ module _ (w₀ : List ℕ) (found at list : ℕ) (room : found + found ≤ at) (
 
 -- ---- the whole sort
 
-module _ (v : ℕ) (nodes strings : List ℕ) (t : Tables) (w₀ w₁ w₂ : List ℕ) (found : ℕ) (room : found + found ≤ t .at)
-    (fits : t .at + t .paths + found ≤ length w₀) (numbered : part 0 found w₁ ≡ upFrom 0 (found - 0)) (rest : drop found w₁ ≡ drop found w₀)
-    (front : take found w₂ ≡ isort (byKey (keyIn v nodes strings t w₁)) (take found w₁)) (behind : drop (t .at) w₂ ≡ drop (t .at) w₁)
+module _ (v : ℕ) (nodes strings : List ℕ) (l : Layout) (w₀ w₁ w₂ : List ℕ) (found : ℕ) (room : found + found ≤ l .at)
+    (fits : l .at + l .paths + found ≤ length w₀) (numbered : part 0 found w₁ ≡ upFrom 0 (found - 0)) (rest : drop found w₁ ≡ drop found w₀)
+    (front : take found w₂ ≡ isort (byKey (keyIn v nodes strings l w₁)) (take found w₁)) (behind : drop (l .at) w₂ ≡ drop (l .at) w₁)
     (long : length w₂ ≡ length w₀) where
   abbrev key : ℕ → List ℕ
-  key = keyIn v nodes strings t w₀
+  key = keyIn v nodes strings l w₀
 
   abbrev list : ℕ
-  list = t .at + t .paths
+  list = l .at + l .paths
 
-  behind₁ : drop (t .at) w₁ ≡ drop (t .at) w₀
-  behind₁ = numbered-behind w₀ found (t .at) list room (omega arith) fits w₁ numbered rest
+  behind₁ : drop (l .at) w₁ ≡ drop (l .at) w₀
+  behind₁ = numbered-behind w₀ found (l .at) list room (omega arith) fits w₁ numbered rest
 
   front₂ : take found w₂ ≡ sortedNames key found
   front₂ =
-      front ∙ ap (λ (tab : List ℕ). isort (byKey (keyOf v nodes strings (t .texts) (t .paths) (t .lengths) tab)) (take found w₁)) behind₁
-      ∙ ap (isort (byKey key)) (numbered-front w₀ found (t .at) list room (omega arith) fits w₁ numbered rest)
+      front ∙ ap (λ (tab : List ℕ). isort (byKey (keyOf v nodes strings (l .texts) (l .paths) (l .lengths) tab)) (take found w₁)) behind₁
+      ∙ ap (isort (byKey key)) (numbered-front w₀ found (l .at) list room (omega arith) fits w₁ numbered rest)
 
-  rising₂ : (i : ℕ) → i < found → rising (λ j. keyIn v nodes strings t w₂ (getD w₂ j 0)) i ≡ rising (λ j. key (getD (sortedNames key found) j 0)) i
+  rising₂ : (i : ℕ) → i < found → rising (λ j. keyIn v nodes strings l w₂ (getD w₂ j 0)) i ≡ rising (λ j. key (getD (sortedNames key found) j 0)) i
   rising₂ zero h = refl
   rising₂ (suc i) h =
       rw (
         behind ∙ behind₁,
-        sorted-at w₀ found (t .at) list room (omega arith) fits w₂ (sortedNames key found) front₂ (behind ∙ behind₁) long i (omega arith),
-        sorted-at w₀ found (t .at) list room (omega arith) fits w₂ (sortedNames key found) front₂ (behind ∙ behind₁) long (suc i) h,
+        sorted-at w₀ found (l .at) list room (omega arith) fits w₂ (sortedNames key found) front₂ (behind ∙ behind₁) long i (omega arith),
+        sorted-at w₀ found (l .at) list room (omega arith) fits w₂ (sortedNames key found) front₂ (behind ∙ behind₁) long (suc i) h,
       ) refl
 
-  module _ (r : Bool) (tested : r ≡ allOf found (rising (λ i. keyIn v nodes strings t w₂ (getD w₂ i 0)))) where
+  module _ (r : Bool) (tested : r ≡ allOf found (rising (λ i. keyIn v nodes strings l w₂ (getD w₂ i 0)))) where
     answer : r ≡ allOf found (rising (λ i. key (getD (sortedNames key found) i 0)))
     answer = tested ∙ all-ext found _ _ rising₂
 
@@ -124,7 +124,7 @@ module _ (v : ℕ) (nodes strings : List ℕ) (t : Tables) (w₀ w₁ w₂ : Lis
         record {
           answer = sym e ∙ answer;
           nodes = λ z. absurd (false≢true z);
-          behind = drop-later (t .at) (list + found) w₂ w₀ (omega arith) (behind ∙ behind₁);
+          behind = drop-later (l .at) (list + found) w₂ w₀ (omega arith) (behind ∙ behind₁);
         }
 
     pub arranged : r ≡ true → (w₃ w₄ : List ℕ) → w₃ ≡ sets w₂ found (joinOf found (λ i. getD w₂ (list + getD w₂ i 0) 0 ∷ []))
@@ -133,6 +133,6 @@ module _ (v : ℕ) (nodes strings : List ℕ) (t : Tables) (w₀ w₁ w₂ : Lis
         record {
           answer = sym e ∙ answer;
           nodes =
-              λ z i h. settled-at w₀ found (t .at) list room (omega arith) fits w₂ (sortedNames key found) front₂ (behind ∙ behind₁) long w₃ w₄ gathered settled i h;
-          behind = settled-behind w₀ found (t .at) list room (omega arith) fits w₂ (sortedNames key found) front₂ (behind ∙ behind₁) long w₃ w₄ gathered settled;
+              λ z i h. settled-at w₀ found (l .at) list room (omega arith) fits w₂ (sortedNames key found) front₂ (behind ∙ behind₁) long w₃ w₄ gathered settled i h;
+          behind = settled-behind w₀ found (l .at) list room (omega arith) fits w₂ (sortedNames key found) front₂ (behind ∙ behind₁) long w₃ w₄ gathered settled;
         }

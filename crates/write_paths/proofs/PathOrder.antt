@@ -19,7 +19,7 @@ use Rattle.draft.specs.Numbering.{oldOf}
 use Rattle.draft_image.specs.Strings.{pathOf, byPath}
 use Rattle.draft_image.specs.Ready.{OldsAt}
 use Rattle.write_sorting.specs.Sorted.{upFrom, Rises}
-use Rattle.write_text_keys.specs.declared.Tables.{Tables}
+use Rattle.draft.specs.declared.layout.Layout.{Layout}
 use Rattle.write_text_keys.specs.Keys.{keyOf, keyIn, nodeOf, longOf, lengthFrom}
 use Rattle.write_text_keys.proofs.CanonicalPaths.{path-long, key-path, every-container}
 use Rattle.write_paths.specs.declared.Indexed.{Indexed}
@@ -72,10 +72,10 @@ listed-below v nodes w₀ w₁ order count list found a b inside size words k h 
 
 -- ---- the whole
 
-module _ (s : Sections) (olds : List ℕ) (v : ℕ) (nodes strings : List ℕ) (t : Tables) (w₀ : List ℕ) (order count : ℕ) (en : s .nodes ≡ nodes) (es : s .strings ≡ strings)
+module _ (s : Sections) (olds : List ℕ) (v : ℕ) (nodes strings : List ℕ) (l : Layout) (w₀ : List ℕ) (order count : ℕ) (en : s .nodes ≡ nodes) (es : s .strings ≡ strings)
     (z : s .version ≡ v) (ec : nodeCount s ≡ count) (rooted : Rooted s olds) (known : OldsAt olds w₀ count order) where
   -- some container has no piece of a path
-  pub indexed-unplaced : (p : Bool) → p ≡ allOf count (placed s) → p ≡ false → Indexes s olds t w₀ w₀ (Refused 22)
+  pub indexed-unplaced : (p : Bool) → p ≡ allOf count (placed s) → p ≡ false → Indexes s olds l w₀ w₀ (Refused 22)
   unfolding indexedOf
   indexed-unplaced p e q =
       let r : pathsRule s ≡ 22 = unplaced s (ap (λ (n : ℕ). allOf n (placed s)) ec ∙ sym e ∙ q) in
@@ -87,10 +87,10 @@ module _ (s : Sections) (olds : List ℕ) (v : ℕ) (nodes strings : List ℕ) (
       }
 
   abbrev list : ℕ
-  list = t .at + t .paths
+  list = l .at + l .paths
 
   abbrev table : ℕ
-  table = t .at + t .lengths
+  table = l .at + l .lengths
 
   abbrev boxes : List ℕ
   boxes = containers s olds
@@ -114,7 +114,7 @@ module _ (s : Sections) (olds : List ℕ) (v : ℕ) (nodes strings : List ℕ) (
       ∙ listed s olds w₀ order (nodeCount s) (omega arith) (λ j h. known j (omega (arith, ec)))
 
   -- listed in w₁, measured in w₂
-  module _ (first : t .texts ≡ 0) (gap : t .paths + count ≤ t .lengths) (behind : table + count + count ≤ order) (fits : order + count ≤ length w₀)
+  module _ (first : l .texts ≡ 0) (gap : l .paths + count ≤ l .lengths) (behind : table + count + count ≤ order) (fits : order + count ≤ length w₀)
       (w₁ w₂ : List ℕ) (found : ℕ) (size : found ≡ length (containersIn v nodes w₀ order count))
       (words : w₁ ≡ sets w₀ list (containersIn v nodes w₀ order count))
       (measured : Measured w₁ list found table count (lengthFrom count v nodes) w₂ found) where
@@ -145,28 +145,28 @@ module _ (s : Sections) (olds : List ℕ) (v : ℕ) (nodes strings : List ℕ) (
         ∙ path-long s v nodes strings en es z names-good (box a) (rooted .climbs (box a) (box-in a k .0)) (box-in a k .1)
 
     -- the words of the tables, counted from where they begin
-    tab-word : (w : List ℕ) (k : ℕ) → getD (drop (t .at) w) k 0 ≡ getD w (t .at + k) 0
-    tab-word w k = getD-drop (t .at) w k 0
+    tab-word : (w : List ℕ) (k : ℕ) → getD (drop (l .at) w) k 0 ≡ getD w (l .at + k) 0
+    tab-word w k = getD-drop (l .at) w k 0
 
-    long-in : (w : List ℕ) (x : ℕ) → longOf (t .lengths) (drop (t .at) w) x ≡ longOf table w x
+    long-in : (w : List ℕ) (x : ℕ) → longOf (l .lengths) (drop (l .at) w) x ≡ longOf table w x
     long-in w x =
-        let a : t .at + (t .lengths + x + x) ≡ table + x + x = omega arith in
-        let b : t .at + (t .lengths + x + x + 1) ≡ table + x + x + 1 = omega arith in
-        rw (tab-word w (t .lengths + x + x), tab-word w (t .lengths + x + x + 1), a, b) refl
+        let a : l .at + (l .lengths + x + x) ≡ table + x + x = omega arith in
+        let b : l .at + (l .lengths + x + x + 1) ≡ table + x + x + 1 = omega arith in
+        rw (tab-word w (l .lengths + x + x), tab-word w (l .lengths + x + x + 1), a, b) refl
 
     abbrev key : ℕ → List ℕ
-    key = keyIn v nodes strings t w₂
+    key = keyIn v nodes strings l w₂
 
-    node-of : (a : ℕ) → a < found → box a ≡ nodeOf (t .texts) (t .paths) (drop (t .at) w₂) a
+    node-of : (a : ℕ) → a < found → box a ≡ nodeOf (l .texts) (l .paths) (drop (l .at) w₂) a
     node-of a h =
-        let e : t .at + (t .paths + (a - t .texts)) ≡ list + a = omega (arith, first) in
-        sym (tab-word w₂ (t .paths + (a - t .texts)) ∙ ap (λ (k : ℕ). getD w₂ k 0) e ∙ in-list a h)
+        let e : l .at + (l .paths + (a - l .texts)) ≡ list + a = omega (arith, first) in
+        sym (tab-word w₂ (l .paths + (a - l .texts)) ∙ ap (λ (k : ℕ). getD w₂ k 0) e ∙ in-list a h)
 
     key-at : (a : ℕ) → a < length boxes → key a ≡ pathOf s olds (getD boxes a 0)
     key-at a h =
         let k : a < found = omega (arith, found-all) in
-        key-path s v nodes strings en es z names-good (box a) (rooted .climbs (box a) (box-in a h .0)) (box-in a h .1) (t .texts) (t .paths) (t .lengths)
-        (drop (t .at) w₂) a (omega (arith, first)) (node-of a k) (long-in w₂ (box a) ∙ long-box a k)
+        key-path s v nodes strings en es z names-good (box a) (rooted .climbs (box a) (box-in a h .0)) (box-in a h .1) (l .texts) (l .paths) (l .lengths)
+        (drop (l .at) w₂) a (omega (arith, first)) (node-of a k) (long-in w₂ (box a) ∙ long-box a k)
 
     module _ (p : Bool) (tested : p ≡ allOf count (placed s)) (passed : p ≡ true) (w₃ : List ℕ) (r : Bool) (arranged : Arranged key w₂ list found w₃ r) where
       all-placed : allOf (nodeCount s) (placed s) ≡ true
@@ -227,15 +227,15 @@ module _ (s : Sections) (olds : List ℕ) (v : ℕ) (nodes strings : List ℕ) (
               same-later (list + found) (table + x + x + 1) w₃ w₂ (omega (arith, few)) (arranged .behind),
             ) refl
 
-        pub indexed : Indexes s olds t w₀ w₃ (Paths found)
+        pub indexed : Indexes s olds l w₀ w₃ (Paths found)
         unfolding indexedOf
         indexed =
             record {
               answer = rw (passes, as-many) refl;
               boxes =
                   λ _ k h.
-                  let e : t .at + (t .paths + k) ≡ list + k = omega arith in
-                  tab-word w₃ (t .paths + k) ∙ ap (λ (i : ℕ). getD w₃ i 0) e ∙ list-order k (omega (arith, as-many));
+                  let e : l .at + (l .paths + k) ≡ list + k = omega arith in
+                  tab-word w₃ (l .paths + k) ∙ ap (λ (i : ℕ). getD w₃ i 0) e ∙ list-order k (omega (arith, as-many));
               lengths =
                   λ _ k h.
                   let q : k < found = omega (arith, as-many) in
@@ -259,7 +259,7 @@ module _ (s : Sections) (olds : List ℕ) (v : ℕ) (nodes strings : List ℕ) (
                 paths-refuse s olds key key-at (rooted .numbers) all-placed i (omega (arith, found-all))
                 (ap (λ (l : List ℕ). before (key (getD l i 0)) (key (getD l (suc i) 0))) (sym sorted-same) ∙ e)
 
-        pub indexed-twice : Indexes s olds t w₀ w₃ (Refused 22)
+        pub indexed-twice : Indexes s olds l w₀ w₃ (Refused 22)
         unfolding indexedOf
         indexed-twice =
             record {

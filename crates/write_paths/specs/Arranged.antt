@@ -18,7 +18,7 @@ use Rattle.draft_image.specs.Strings.{byPath, pathOf}
 use Rattle.draft_image.specs.Ready.{OldsAt}
 use Rattle.write_sorting.specs.Sorted.{upFrom}
 use Rattle.write_text_keys.specs.Keys.{longOf}
-use Rattle.write_text_keys.specs.declared.Tables.{Tables}
+use Rattle.draft.specs.declared.layout.Layout.{Layout}
 use Rattle.write_paths.specs.declared.Indexed.{Indexed}
 use Rattle.write_paths.specs.declared.Indexed.the-variants.{Paths, Refused}
 use Rattle.write_paths.specs.Listed.{Permutation}
@@ -59,10 +59,10 @@ unfoldable pub indexedOf : ℕ → ℕ → Indexed
 indexedOf r n = cond (eqb r 0) (Paths n) (Refused r)
 
 -- the answer; the containers in the order of the index, with the lengths of their paths; and what is behind the tables stays
-pub record Indexes (s : Sections) (order : List ℕ) (t : Tables) (w₀ w : List ℕ) (r : Indexed) : Type 0 where
+pub record Indexes (s : Sections) (order : List ℕ) (l : Layout) (w₀ w : List ℕ) (r : Indexed) : Type 0 where
   pub answer : r ≡ indexedOf (pathsRule s) (length (byPath s order))
   pub boxes : pathsRule s ≡ 0 → (k : ℕ) → k < length (byPath s order)
-      → getD (drop (t .at) w) (t .paths + k) 0 ≡ oldOf order (getD (byPath s order) k 0)
+      → getD (drop (l .at) w) (l .paths + k) 0 ≡ oldOf order (getD (byPath s order) k 0)
   pub lengths : pathsRule s ≡ 0 → (k : ℕ) → k < length (byPath s order)
-      → longOf (t .lengths) (drop (t .at) w) (oldOf order (getD (byPath s order) k 0)) ≡ length (pathOf s order (getD (byPath s order) k 0))
-  pub behind : drop (t .at + t .lengths + nodeCount s + nodeCount s) w ≡ drop (t .at + t .lengths + nodeCount s + nodeCount s) w₀
+      → longOf (l .lengths) (drop (l .at) w) (oldOf order (getD (byPath s order) k 0)) ≡ length (pathOf s order (getD (byPath s order) k 0))
+  pub behind : drop (l .at + l .lengths + nodeCount s + nodeCount s) w ≡ drop (l .at + l .lengths + nodeCount s + nodeCount s) w₀

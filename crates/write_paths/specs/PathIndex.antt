@@ -6,15 +6,14 @@ use lib.ListN.{length, getD}
 use Rattle.image.specs.Sections.{Sections}
 use Rattle.draft.specs.Numbering.{oldOf}
 use Rattle.draft_image.specs.Strings.{byPath, pathOf}
-use Rattle.write_numbering.specs.declared.numbers.Numbers.{Numbers}
-use Rattle.write_paths.specs.declared.path_index.Paths.{Paths}
+use Rattle.draft.specs.declared.layout.Layout.{Layout}
 
 -- the words are there
-pub record IndexFit (w : List ℕ) (n : Numbers) (p : Paths) : Type 0 where
-  pub nodes : p .nodes + p .count ≤ length w
-  pub offsets : n .offsets + p .count ≤ length w
-  pub lengths : p .lengths ≤ length w
-  pub new : n .new ≤ length w
+pub record IndexFit (w : List ℕ) (l : Layout) (count : ℕ) : Type 0 where
+  pub nodes : l .at + l .paths + count ≤ length w
+  pub offsets : l .offsets + l .texts + count ≤ length w
+  pub lengths : l .at + l .lengths ≤ length w
+  pub new : l .new ≤ length w
 
 -- from a word on, the draft's numbers of the containers in the order of the index
 abbrev pub PathsAt : Sections → List ℕ → List ℕ → ℕ → Type 0
@@ -27,6 +26,7 @@ LengthsAt s order w at =
     → getD w (at + oldOf order (getD (byPath s order) k 0) + oldOf order (getD (byPath s order) k 0)) 0 ≡ length (pathOf s order (getD (byPath s order) k 0))
 
 -- entry k: offset and length of the path, and the image's number of the node
-abbrev pub indexWords : List ℕ → Numbers → Paths → ℕ → List ℕ
-indexWords w n p k =
-    getD w (n .offsets + k) 0 ∷ getD w (p .lengths + getD w (p .nodes + k) 0 + getD w (p .nodes + k) 0) 0 ∷ getD w (n .new + getD w (p .nodes + k) 0) 0 ∷ []
+abbrev pub indexWords : List ℕ → Layout → ℕ → List ℕ
+indexWords w l k =
+    let node = getD w (l .at + l .paths + k) 0 in
+    getD w (l .offsets + l .texts + k) 0 ∷ getD w (l .at + l .lengths + node + node) 0 ∷ getD w (l .new + node) 0 ∷ []

@@ -14,13 +14,13 @@ ghost use Rattle.write_text_keys.specs.Keys.{keyIn, lengthFrom, Placed};
 ghost use Rattle.write_paths.specs.Listed.{containersIn, placedIn, ParentsFirst};
 ghost use Rattle.write_paths.specs.Arranged.{Measured, Arranged, Rooted, Indexes};
 ghost use Rattle.draft_image.specs.Ready.{OldsAt};
+use draft::layout::Layout;
 use draft::source;
 use draft::source::Source;
 use image::NONE;
 use image::NodeRecord;
 use image::refusal::DRAFT_PATHS;
 use image::tag::CONTAINER;
-use write_text_keys::Tables;
 
 // Whether node `i` is the root, no container, or a container that has a name or a place.
 fn is_placed(node: NodeRecord, i: usize) -> bool
@@ -139,16 +139,16 @@ fn measure(
 }
 
 // Whether the texts of the first n words rise.
-fn rises(nodes: &[u32], strings: &[u8], w: &[u32], t: Tables, n: usize, source: Source) -> bool
-    requires { ⌜ (n ≤ length (now w)) × Placed t (length (now w)) ⌝ }
-    ensures { λ r. ⌜ (let key = keyIn (source .version) (now (nodes .entry)) (now (strings .entry)) t (now (w .entry)) in
+fn rises(nodes: &[u32], strings: &[u8], w: &[u32], layout: Layout, n: usize, source: Source) -> bool
+    requires { ⌜ (n ≤ length (now w)) × Placed layout (length (now w)) ⌝ }
+    ensures { λ r. ⌜ (let key = keyIn (source .version) (now (nodes .entry)) (now (strings .entry)) layout (now (w .entry)) in
         r ≡ allOf n (rising (λ i. key (getD (now (w .entry)) i 0)))) ⌝ }
 {
     let mut i = 1;
     while i < n {
         let last = source::word(w, i - 1);
         let here = source::word(w, i);
-        if !write_text_keys::below(nodes, strings, w, t, last, here, source) {
+        if !write_text_keys::below(nodes, strings, w, layout, last, here, source) {
             return false;
         }
         i += 1;
@@ -161,21 +161,21 @@ fn sort_list(
     nodes: &[u32],
     strings: &[u8],
     w: &mut [u32],
-    t: Tables,
+    layout: Layout,
     found: usize,
     source: Source,
 ) -> bool
-    requires { ⌜ (found + found ≤ t .at) × (t .at + t .paths + found ≤ length (now w)) × (t .at + t .lengths ≤ length (now w))
-        × (found ≤ 4294967295) ⌝ }
-    ensures { λ r. ⌜ (let key = keyIn (source .version) (now (nodes .entry)) (now (strings .entry)) t (now (w .entry)) in
-        Arranged key (now (w .entry)) (t .at + t .paths) found (now (w .exit)) r) ⌝ }
+    requires { ⌜ (found + found ≤ layout .at) × (layout .at + layout .paths + found ≤ length (now w))
+        × (layout .at + layout .lengths ≤ length (now w)) × (found ≤ 4294967295) ⌝ }
+    ensures { λ r. ⌜ (let key = keyIn (source .version) (now (nodes .entry)) (now (strings .entry)) layout (now (w .entry)) in
+        Arranged key (now (w .entry)) (layout .at + layout .paths) found (now (w .exit)) r) ⌝ }
 {
     write_sorting::number(w, 0, found);
-    write_sorting::sort(nodes, strings, w, t, found, source);
-    if !rises(nodes, strings, w, t, found, source) {
+    write_sorting::sort(nodes, strings, w, layout, found, source);
+    if !rises(nodes, strings, w, layout, found, source) {
         return false;
     }
-    let list = t.at + t.paths;
+    let list = layout.at + layout.paths;
     gather(w, found, list);
     settle(w, found, list);
     true
@@ -187,31 +187,39 @@ pub enum Indexed {
     Refused(u32),
 }
 
-// Lists the containers among the nodes, whose numbers in the image's order stand from `order` on, by their paths.
+// Lists the containers among the nodes by their paths.
 pub fn sort_paths(
     nodes: &[u32],
     strings: &[u8],
     w: &mut [u32],
-    t: Tables,
-    order: usize,
+    layout: Layout,
     count: usize,
     source: Source,
 ) -> Indexed
-    requires { ⌜ (count + count ≤ t .at) × (t .paths + count ≤ t .lengths) × (t .at + t .lengths + count + count ≤ order)
-        × (order + count ≤ length (now w)) ⌝ }
-    requires { ⌜ (t .texts ≡ 0) × (count ≤ length (now nodes) / nodeWords (source .version)) × (count ≤ 4294967295) ⌝ }
-    requires { ⌜ ((j : ℕ) → j < count → getD (now w) (order + j) 0 < count) × ParentsFirst (source .version) (now nodes) (now w) order count ⌝ }
+    requires { ⌜ (count + count ≤ layout .at) × (layout .paths + count ≤ layout .lengths)
+        × (layout .at + layout .lengths + count + count ≤ layout .order) × (layout .order + count ≤ length (now w)) ⌝ }
+    requires { ⌜ (layout .texts ≡ 0) × (count ≤ length (now nodes) / nodeWords (source .version)) × (count ≤ 4294967295) ⌝ }
+    requires { ⌜ ((j : ℕ) → j < count → getD (now w) (layout .order + j) 0 < count)
+        × ParentsFirst (source .version) (now nodes) (now w) (layout .order) count ⌝ }
     ensures { λ r. ⌜ ((s : Sections) (olds : List ℕ) → s .nodes ≡ now (nodes .entry) → s .strings ≡ now (strings .entry)
-        → s .version ≡ source .version → nodeCount s ≡ count → Rooted s olds → OldsAt olds (now (w .entry)) count order
-        → Indexes s olds t (now (w .entry)) (now (w .exit)) r) ⌝ }
+        → s .version ≡ source .version → nodeCount s ≡ count → Rooted s olds → OldsAt olds (now (w .entry)) count (layout .order)
+        → Indexes s olds layout (now (w .entry)) (now (w .exit)) r) ⌝ }
 {
     if !all_placed(nodes, count, source) {
         return Indexed::Refused(DRAFT_PATHS);
     }
-    let list = t.at + t.paths;
-    let found = list_containers(nodes, w, order, count, list, source);
-    measure(nodes, w, list, found, t.at + t.lengths, count, source);
-    if sort_list(nodes, strings, w, t, found, source) {
+    let list = layout.at + layout.paths;
+    let found = list_containers(nodes, w, layout.order, count, list, source);
+    measure(
+        nodes,
+        w,
+        list,
+        found,
+        layout.at + layout.lengths,
+        count,
+        source,
+    );
+    if sort_list(nodes, strings, w, layout, found, source) {
         Indexed::Paths(found)
     } else {
         Indexed::Refused(DRAFT_PATHS)

@@ -155,8 +155,7 @@ module _ (version : ℕ) (ns cs ms ds is ps ss : List ℕ) (p : tablesRule (draf
 
     -- the paths are sorted
     module _ (r : shapeRule s ≡ 0) (w₂ : List ℕ) (found : ℕ) (long₂ : length w₂ ≡ length w₁)
-        (sorted : Indexes s (numbering s)
-        (record { at = layoutOf s .at; texts = 0; paths = layoutOf s .paths; lengths = layoutOf s .lengths }) w₁ w₂ (indexed.Paths found)) where
+        (sorted : Indexes s (numbering s) (layoutOf s) w₁ w₂ (indexed.Paths found)) where
       free : pathsRule s ≡ 0
       free = indexed-paths (pathsRule s) (length (byPath s (numbering s))) found (sorted .answer) .0
 

@@ -1,6 +1,6 @@
 -- The steps of the plan, by the layout that the caller gives.
 use Prim.Native.Nat.{ℕ, _+_, _*_, _/_, _≤_, _<_}
-use mathlib.Core.Path.{_≡_, refl, sym, _∙_, subst}
+use mathlib.Core.Path.{_≡_, refl, sym, ap, _∙_, subst}
 use mathlib.Core.List.{List}
 use mathlib.Core.Bool.{Bool, true, false}
 use native.Mathlib.Omega.{arith}
@@ -20,22 +20,23 @@ use Rattle.draft_image.specs.Strings.{byPath}
 use Rattle.draft_image.specs.Ready.{OldsAt}
 use Rattle.write_numbering.specs.Work.{treeOf, Leads, Numbered}
 use Rattle.write_text_uses.specs.Uses.{wordsFrom, Collectable, Collected}
-use Rattle.write_text_keys.specs.declared.Tables.{Tables}
+use Rattle.draft.specs.declared.layout.Layout.{Layout}
 use Rattle.write_text_keys.specs.Keys.{keyIn, Placed}
 use Rattle.write_interning.specs.Uses.{RisesFrom}
 use Rattle.write_paths.specs.declared.Indexed.{Indexed}
 use Rattle.write_paths.specs.declared.Indexed.the-variants as indexed
 use Rattle.write_paths.specs.Listed.{ParentsFirst}
 use Rattle.write_paths.specs.Arranged.{Rooted, Indexes}
-use Rattle.write_plan.specs.declared.Layout.{Layout}
 use Rattle.write_plan.specs.declared.Plan.{Plan}
 use Rattle.write_plan.specs.declared.Plan.the-variants.{Refused}
 use Rattle.write_plan.specs.Planned.{layoutOf, PlanOf, StoredPlan, Shaped, ShapedTables}
 use Rattle.write_plan.proofs.Premises.{rooted, parents-first}
 use Rattle.write_plan.proofs.PlanSteps.{number-fit, number-leads, number-low, number-room, seen-whole, laid, few-nodes, olds-known, olds-in, plan-unreached, reach-passes, plan-shape, plan-paths, indexed-refused, collect-asks, store-room, store-placed, store-rises, planned}
 
-abbrev pub tablesBy : Layout → ℕ → Tables
-tablesBy l texts = record { at = l .at; texts = texts; paths = l .paths; lengths = l .lengths }
+-- with so many texts
+abbrev pub withTexts : Layout → ℕ → Layout
+withTexts l texts =
+    record { at = l .at; texts = texts; paths = l .paths; lengths = l .lengths; order = l .order; new = l .new; offsets = l .offsets }
 
 -- ---- rules 20 and 21
 
@@ -101,14 +102,14 @@ module _ (version : ℕ) (ns cs ms ds is ps ss w₁ : List ℕ) (l : Layout) (kn
 
   pub paths-asks : ((length ns / nodeWords version + length ns / nodeWords version ≤ l .at) × (l .paths + length ns / nodeWords version ≤ l .lengths)
       × (l .at + l .lengths + length ns / nodeWords version + length ns / nodeWords version ≤ l .order) × (l .order + length ns / nodeWords version ≤ length w₁))
-      × ((_≡_ {A = ℕ} 0 0 × (length ns / nodeWords version ≤ length ns / nodeWords version) × (length ns / nodeWords version ≤ 4294967295))
+      × (((l .texts ≡ 0) × (length ns / nodeWords version ≤ length ns / nodeWords version) × (length ns / nodeWords version ≤ 4294967295))
       × (((j : ℕ) → j < length ns / nodeWords version → getD w₁ (l .order + j) 0 < length ns / nodeWords version)
       × ParentsFirst version ns w₁ (l .order) (length ns / nodeWords version)))
   paths-asks =
       let room = laid version ns cs ms ds is ps ss p in (
         rw (el, long) (room .sort, room .lists, room .sizes, room .numbers),
         (
-          (refl, omega arith, few-nodes version ns cs ms ds is ps ss p q w₁ long numbers),
+          (ap (λ (x : Layout). x .texts) el, omega arith, few-nodes version ns cs ms ds is ps ss p q w₁ long numbers),
           (
             λ j h. rw el (olds-in version ns cs ms ds is ps ss p q w₁ long numbers j h),
             parents-first t p q r w₁ (l .order) (λ j h. rw el (olds-known version ns cs ms ds is ps ss p q w₁ long numbers j h)),
@@ -119,10 +120,10 @@ module _ (version : ℕ) (ns cs ms ds is ps ss w₁ : List ℕ) (l : Layout) (kn
   -- sorted in w₂
   module _ (w₂ : List ℕ) (a : Indexed) (long₂ : length w₂ ≡ length w₁)
       (told : (u : Sections) (olds : List ℕ) → u .nodes ≡ ns → u .strings ≡ ss → u .version ≡ version → nodeCount u ≡ length ns / nodeWords version → Rooted u olds
-      → OldsAt olds w₁ (length ns / nodeWords version) (l .order) → Indexes u olds (tablesBy l 0) w₁ w₂ a) where
-    indexes : Indexes t (numbering t) (tablesBy (layoutOf t) 0) w₁ w₂ a
+      → OldsAt olds w₁ (length ns / nodeWords version) (l .order) → Indexes u olds l w₁ w₂ a) where
+    indexes : Indexes t (numbering t) (layoutOf t) w₁ w₂ a
     indexes =
-        subst (λ (x : Layout). Indexes t (numbering t) (tablesBy x 0) w₁ w₂ a) el
+        subst (λ (x : Layout). Indexes t (numbering t) x w₁ w₂ a) el
         (told t (numbering t) refl refl refl refl (rooted t p q r) (λ j h. rw el (olds-known version ns cs ms ds is ps ss p q w₁ long numbers j h)))
 
     pub clashing : (w : List ℕ) (m : ℕ) → a ≡ indexed.Refused m → PlanOf t w (Refused m)
@@ -131,8 +132,8 @@ module _ (version : ℕ) (ns cs ms ds is ps ss w₁ : List ℕ) (l : Layout) (kn
         plan-paths t q r w m (x .0) (x .1)
 
     module _ (found : ℕ) (some : a ≡ indexed.Paths found) where
-      sorted : Indexes t (numbering t) (tablesBy (layoutOf t) 0) w₁ w₂ (indexed.Paths found)
-      sorted = subst (λ (x : Indexed). Indexes t (numbering t) (tablesBy (layoutOf t) 0) w₁ w₂ x) some indexes
+      sorted : Indexes t (numbering t) (layoutOf t) w₁ w₂ (indexed.Paths found)
+      sorted = subst (λ (x : Indexed). Indexes t (numbering t) (layoutOf t) w₁ w₂ x) some indexes
 
       pub uses-asks : Collectable version ns ms ds is ps w₂ (l .order) (l .at)
       uses-asks = rw el (collect-asks version ns cs ms ds is ps ss p q w₁ long numbers r w₂ found long₂ sorted)
@@ -143,8 +144,8 @@ module _ (version : ℕ) (ns cs ms ds is ps ss w₁ : List ℕ) (l : Layout) (kn
         collected : Collected t (wordsFrom w₂ (layoutOf t .order) (nodeCount t)) w₂ (layoutOf t .at) w₃ texts
         collected = subst (λ (x : Layout). Collected t (wordsFrom w₂ (x .order) (nodeCount t)) w₂ (x .at) w₃ texts) el (gathered cs ss)
 
-        pub store-asks : ((texts + found + (texts + found) ≤ l .at) × Placed (tablesBy l texts) (length w₃))
-            × RisesFrom (byKey (keyIn version ns ss (tablesBy l texts) w₃)) texts (texts + found)
+        pub store-asks : ((texts + found + (texts + found) ≤ l .at) × Placed (withTexts l texts) (length w₃))
+            × RisesFrom (byKey (keyIn version ns ss (withTexts l texts) w₃)) texts (texts + found)
         store-asks =
             rw el (
               (
@@ -154,8 +155,8 @@ module _ (version : ℕ) (ns cs ms ds is ps ss w₁ : List ℕ) (l : Layout) (kn
               store-rises version ns cs ms ds is ps ss p q w₁ long numbers r w₂ found long₂ sorted w₃ texts long₃ collected,
             )
 
-        pub prepared : (w₄ : List ℕ) (m : Plan) → StoredPlan (keyIn version ns ss (tablesBy l texts) w₃) texts found w₄ m → drop (l .at) w₄ ≡ drop (l .at) w₃ → PlanOf t w₄ m
+        pub prepared : (w₄ : List ℕ) (m : Plan) → StoredPlan (keyIn version ns ss (withTexts l texts) w₃) texts found w₄ m → drop (l .at) w₄ ≡ drop (l .at) w₃ → PlanOf t w₄ m
         prepared w₄ m stored kept =
             planned version ns cs ms ds is ps ss p q w₁ long numbers r w₂ found long₂ sorted w₃ texts long₃ collected w₄
             (subst (λ (x : Layout). drop (x .at) w₄ ≡ drop (x .at) w₃) el kept) m
-            (subst (λ (x : Layout). StoredPlan (keyIn version ns ss (tablesBy x texts) w₃) texts found w₄ m) el stored)
+            (subst (λ (x : Layout). StoredPlan (keyIn version ns ss (withTexts x texts) w₃) texts found w₄ m) el stored)

@@ -11,6 +11,7 @@ use Rattle.image.specs.Sections.{Sections, nodeCount}
 use Rattle.image.specs.Refusals.{noRoom}
 use Rattle.draft.specs.Draft.{tablesRule, writeWords, reachRule, shapeRule, pathsRule}
 use Rattle.draft.specs.declared.EntryCounts.{EntryCounts}
+use Rattle.draft.specs.declared.layout.Layout.{Layout}
 use Rattle.draft.specs.Needs.{entryCounts}
 use Rattle.draft.specs.Source.{draftOf}
 use Rattle.draft.specs.Numbering.{numbering, oldOf}
@@ -20,17 +21,24 @@ use Rattle.draft_image.specs.Ready.{OldsAt, NewsAt, OffsetsAt, textUses}
 use Rattle.write_numbering.specs.Work.{treeOf, Numbered}
 use Rattle.write_text_keys.specs.Keys.{keyOf, longOf}
 use Rattle.write_interning.specs.Uses.{storedOf, joined, Offsets}
-use Rattle.write_plan.specs.declared.Layout.{Layout}
 use Rattle.write_plan.specs.declared.Uses.{Uses}
 use Rattle.write_plan.specs.declared.Plan.{Plan}
 use Rattle.write_plan.specs.declared.Plan.the-variants.{Ready, Refused}
 
--- by a draft's counts and the work words that it needs. Two words a use are sorted; behind them two words a text, a word for each
--- path, two for a path's length by its node; at the end the numbers, two words a node
+-- where things lie before the texts are counted, by a draft's counts and the work words that it needs. Two words a use are sorted; behind
+-- them two words a text, a word for each path, two for a path's length by its node; at the end the numbers, two words a node
 abbrev pub layoutBy : EntryCounts → ℕ → Layout
 layoutBy c needed =
     let uses = 2 * c .nodes + c .named + c .definitions + c .items + c .payload in
-    record { at = 2 * uses; paths = 2 * uses; lengths = 2 * uses + c .nodes; order = needed - 2 * c .nodes; new = needed - c .nodes }
+    record {
+      at = 2 * uses;
+      texts = 0;
+      paths = 2 * uses;
+      lengths = 2 * uses + c .nodes;
+      order = needed - 2 * c .nodes;
+      new = needed - c .nodes;
+      offsets = 0;
+    }
 
 abbrev pub layoutOf : Sections → Layout
 layoutOf s = layoutBy (entryCounts s) (writeWords s)

@@ -10,6 +10,7 @@ ghost use Rattle.write_text_keys.specs.Keys.{keyIn, Placed};
 ghost use Rattle.draft.specs.Source.{draftOf};
 ghost use Rattle.draft.specs.Draft.{tablesRule, writeWords};
 ghost use Rattle.write_plan.specs.Planned.{layoutOf, StoredPlan, Shaped, ShapedTables, PlanOf};
+use draft::layout::Layout;
 use draft::shape;
 use draft::source::Source;
 use draft::source::node_count;
@@ -17,16 +18,6 @@ use image::refusal::DRAFT_UNREACHED;
 use image::refusal::NO_ROOM;
 use write_interning::Stored;
 use write_paths::Indexed;
-use write_text_keys::Tables;
-
-// Where the tables lie in the work words: behind the words that are sorted, `paths` and `lengths` counted from `at`.
-pub struct Layout {
-    pub at: usize,
-    pub paths: usize,
-    pub lengths: usize,
-    pub order: usize,
-    pub new: usize,
-}
 
 // How many texts of the draft are used, how many paths, and how many bytes they take once each is stored once.
 pub struct Uses {
@@ -46,22 +37,22 @@ fn store(
     nodes: &[u32],
     strings: &[u8],
     w: &mut [u32],
-    t: Tables,
+    layout: Layout,
     paths: usize,
     source: Source,
 ) -> Plan
-    requires { ⌜ (t .texts + paths + (t .texts + paths) ≤ t .at) × Placed t (length (now w)) ⌝ }
-    requires { ⌜ RisesFrom (byKey (keyIn (source .version) (now nodes) (now strings) t (now w))) (t .texts) (t .texts + paths) ⌝ }
-    ensures answer { λ r. ⌜ (let key = keyIn (source .version) (now (nodes .entry)) (now (strings .entry)) t (now (w .entry)) in
-        StoredPlan key (t .texts) paths (now (w .exit)) r) ⌝ }
-    ensures tables { λ r. ⌜ drop (t .at) (now (w .exit)) ≡ drop (t .at) (now (w .entry)) ⌝ }
+    requires { ⌜ (layout .texts + paths + (layout .texts + paths) ≤ layout .at) × Placed layout (length (now w)) ⌝ }
+    requires { ⌜ RisesFrom (byKey (keyIn (source .version) (now nodes) (now strings) layout (now w))) (layout .texts) (layout .texts + paths) ⌝ }
+    ensures answer { λ r. ⌜ (let key = keyIn (source .version) (now (nodes .entry)) (now (strings .entry)) layout (now (w .entry)) in
+        StoredPlan key (layout .texts) paths (now (w .exit)) r) ⌝ }
+    ensures tables { λ r. ⌜ drop (layout .at) (now (w .exit)) ≡ drop (layout .at) (now (w .entry)) ⌝ }
 {
-    let texts = t.texts;
+    let texts = layout.texts;
     let n = texts + paths;
     if 4294967295 < n {
         return Plan::Refused(NO_ROOM);
     }
-    match write_interning::intern(nodes, strings, w, t, n, source) {
+    match write_interning::intern(nodes, strings, w, layout, n, source) {
         Stored::Whole(strings) => Plan::Ready(Uses {
             texts,
             paths,
@@ -80,23 +71,18 @@ pub fn plan_texts(
     payload: &[u8],
     strings: &[u8],
     w: &mut [u32],
-    l: Layout,
+    layout: Layout,
     source: Source,
 ) -> Plan
-    requires { ⌜ ShapedTables (source .version) (now nodes) (now named) (now definitions) (now items) (now payload) (now strings) (now w) l ⌝ }
+    requires { ⌜ ShapedTables (source .version) (now nodes) (now named) (now definitions) (now items) (now payload) (now strings) (now w)
+        layout ⌝ }
     ensures { λ r. ⌜ ((children : List ℕ) → let s =
         draftOf (source .version) (now (nodes .entry)) children (now (named .entry)) (now (definitions .entry)) (now (items .entry)) (now (payload .entry))
         (now (strings .entry)) in
-        Shaped s (now (w .entry)) l → PlanOf s (now (w .exit)) r) ⌝ }
+        Shaped s (now (w .entry)) layout → PlanOf s (now (w .exit)) r) ⌝ }
 {
-    let t = Tables {
-        at: l.at,
-        texts: 0,
-        paths: l.paths,
-        lengths: l.lengths,
-    };
     let count = node_count(nodes, source);
-    match write_paths::sort_paths(nodes, strings, w, t, l.order, count, source) {
+    match write_paths::sort_paths(nodes, strings, w, layout, count, source) {
         Indexed::Refused(number) => Plan::Refused(number),
         Indexed::Paths(found) => {
             let texts = write_text_uses::collect(
@@ -106,17 +92,13 @@ pub fn plan_texts(
                 items,
                 payload,
                 w,
-                l.order,
-                l.at,
+                layout.order,
+                layout.at,
                 source,
             );
-            let t = Tables {
-                at: l.at,
-                texts,
-                paths: l.paths,
-                lengths: l.lengths,
-            };
-            store(nodes, strings, w, t, found, source)
+            let mut collected = layout;
+            collected.texts = texts;
+            store(nodes, strings, w, collected, found, source)
         }
     }
 }
@@ -131,18 +113,18 @@ pub fn prepare(
     payload: &[u8],
     strings: &[u8],
     w: &mut [u32],
-    l: Layout,
+    layout: Layout,
     source: Source,
 ) -> Plan
     requires { ⌜ (let s =
         draftOf (source .version) (now nodes) (now children) (now named) (now definitions) (now items) (now payload) (now strings) in
-        (tablesRule s ≡ 0) × (length (now w) ≡ writeWords s) × (l ≡ layoutOf s)) ⌝ }
+        (tablesRule s ≡ 0) × (length (now w) ≡ writeWords s) × (layout ≡ layoutOf s)) ⌝ }
     ensures { λ r. ⌜ (let s =
         draftOf (source .version) (now (nodes .entry)) (now (children .entry)) (now (named .entry)) (now (definitions .entry)) (now (items .entry))
         (now (payload .entry)) (now (strings .entry)) in
         PlanOf s (now (w .exit)) r) ⌝ }
 {
-    if !write_numbering::number(nodes, children, named, w, l.order, source) {
+    if !write_numbering::number(nodes, children, named, w, layout.order, source) {
         return Plan::Refused(DRAFT_UNREACHED);
     }
     let refused = shape::shape_rule(
@@ -166,7 +148,7 @@ pub fn prepare(
         payload,
         strings,
         w,
-        l,
+        layout,
         source,
     )
 }

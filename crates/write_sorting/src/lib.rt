@@ -8,8 +8,8 @@ ghost use Rattle.laws.specs.Sorted.{isort};
 ghost use Rattle.texts.specs.Text.{byKey};
 ghost use Rattle.write_text_keys.specs.Keys.{keyIn, Placed};
 ghost use Rattle.write_sorting.specs.Sorted.{merge, takesRight, part, Ordered, upFrom};
+use draft::layout::Layout;
 use draft::source::Source;
-use write_text_keys::Tables;
 
 // Writes the numbers from `from` up to `to` into the words that they number.
 pub fn number(w: &mut [u32], from: usize, to: usize)
@@ -29,18 +29,18 @@ fn takes_right(
     nodes: &[u32],
     strings: &[u8],
     w: &[u32],
-    t: Tables,
+    layout: Layout,
     n: usize,
     i: usize,
     j: usize,
     source: Source,
 ) -> bool
-    requires { ⌜ (n + i < length (now w)) × Placed t (length (now w)) ⌝ }
-    ensures { λ r. ⌜ (let lt = byKey (keyIn (source .version) (now (nodes .entry)) (now (strings .entry)) t (now (w .entry))) in
+    requires { ⌜ (n + i < length (now w)) × Placed layout (length (now w)) ⌝ }
+    ensures { λ r. ⌜ (let lt = byKey (keyIn (source .version) (now (nodes .entry)) (now (strings .entry)) layout (now (w .entry))) in
         r ≡ takesRight lt (now (w .entry)) n i j) ⌝ }
 {
     if j < n {
-        write_text_keys::below(nodes, strings, w, t, w[j], w[n + i], source)
+        write_text_keys::below(nodes, strings, w, layout, w[j], w[n + i], source)
     } else {
         false
     }
@@ -51,21 +51,21 @@ fn merge_parts(
     nodes: &[u32],
     strings: &[u8],
     w: &mut [u32],
-    t: Tables,
+    layout: Layout,
     m: usize,
     n: usize,
     source: Source,
 )
-    requires { ⌜ (m ≤ n) × (n + m ≤ t .at) × Placed t (length (now w)) ⌝ }
-    ensures { λ _. ⌜ (let lt = byKey (keyIn (source .version) (now (nodes .entry)) (now (strings .entry)) t (now (w .entry))) in
+    requires { ⌜ (m ≤ n) × (n + m ≤ layout .at) × Placed layout (length (now w)) ⌝ }
+    ensures { λ _. ⌜ (let lt = byKey (keyIn (source .version) (now (nodes .entry)) (now (strings .entry)) layout (now (w .entry))) in
         take n (now (w .exit)) ≡ merge lt (part n (n + m) (now (w .entry))) (part m n (now (w .entry)))) ⌝ }
-    ensures { λ _. ⌜ drop (t .at) (now (w .exit)) ≡ drop (t .at) (now (w .entry)) ⌝ }
+    ensures { λ _. ⌜ drop (layout .at) (now (w .exit)) ≡ drop (layout .at) (now (w .entry)) ⌝ }
 {
     let mut i = 0;
     let mut j = m;
     let mut k = 0;
     while i < m {
-        if takes_right(nodes, strings, w, t, n, i, j, source) {
+        if takes_right(nodes, strings, w, layout, n, i, j, source) {
             w[k] = w[j];
             j += 1;
         } else {
@@ -106,53 +106,46 @@ fn join_parts(
     nodes: &[u32],
     strings: &[u8],
     w: &mut [u32],
-    t: Tables,
+    layout: Layout,
     m: usize,
     n: usize,
     source: Source,
 )
-    requires { ⌜ (0 < m) × (m < n) × (n + m ≤ t .at) × Placed t (length (now w)) ⌝ }
-    requires { ⌜ Ordered (byKey (keyIn (source .version) (now nodes) (now strings) t (now w))) (part n (n + m) (now w)) ⌝ }
-    ensures { λ _. ⌜ (let lt = byKey (keyIn (source .version) (now (nodes .entry)) (now (strings .entry)) t (now (w .entry))) in
+    requires { ⌜ (0 < m) × (m < n) × (n + m ≤ layout .at) × Placed layout (length (now w)) ⌝ }
+    requires { ⌜ Ordered (byKey (keyIn (source .version) (now nodes) (now strings) layout (now w))) (part n (n + m) (now w)) ⌝ }
+    ensures { λ _. ⌜ (let lt = byKey (keyIn (source .version) (now (nodes .entry)) (now (strings .entry)) layout (now (w .entry))) in
         take n (now (w .exit)) ≡ merge lt (part n (n + m) (now (w .entry))) (part m n (now (w .entry)))) ⌝ }
-    ensures { λ _. ⌜ drop (t .at) (now (w .exit)) ≡ drop (t .at) (now (w .entry)) ⌝ }
+    ensures { λ _. ⌜ drop (layout .at) (now (w .exit)) ≡ drop (layout .at) (now (w .entry)) ⌝ }
 {
     let last = w[n + m - 1];
     let first = w[m];
-    if write_text_keys::below(nodes, strings, w, t, first, last, source) {
-        merge_parts(nodes, strings, w, t, m, n, source);
+    if write_text_keys::below(nodes, strings, w, layout, first, last, source) {
+        merge_parts(nodes, strings, w, layout, m, n, source);
     } else {
         copy_down(w, m, n);
     }
 }
 
-// Sorts the first n words by their texts; the n words after them are worked in.
-pub fn sort(nodes: &[u32], strings: &[u8], w: &mut [u32], t: Tables, n: usize, source: Source)
-    requires { ⌜ (n + n ≤ t .at) × Placed t (length (now w)) ⌝ }
-    ensures { λ _. ⌜ (let lt = byKey (keyIn (source .version) (now (nodes .entry)) (now (strings .entry)) t (now (w .entry))) in
+// Sorts the first n words by their texts; the n words after them are worked in. A part of the words has the tables of uses nearer to its
+// start; of the layout nothing else is used here.
+pub fn sort(nodes: &[u32], strings: &[u8], w: &mut [u32], layout: Layout, n: usize, source: Source)
+    requires { ⌜ (n + n ≤ layout .at) × Placed layout (length (now w)) ⌝ }
+    ensures { λ _. ⌜ (let lt = byKey (keyIn (source .version) (now (nodes .entry)) (now (strings .entry)) layout (now (w .entry))) in
         take n (now (w .exit)) ≡ isort lt (take n (now (w .entry)))) ⌝ }
-    ensures { λ _. ⌜ drop (t .at) (now (w .exit)) ≡ drop (t .at) (now (w .entry)) ⌝ }
+    ensures { λ _. ⌜ drop (layout .at) (now (w .exit)) ≡ drop (layout .at) (now (w .entry)) ⌝ }
 {
     if n < 2 {
         return;
     }
     let m = n / 2;
-    let second = Tables {
-        at: t.at - m,
-        texts: t.texts,
-        paths: t.paths,
-        lengths: t.lengths,
-    };
+    let mut second = layout;
+    second.at = layout.at - m;
     sort(nodes, strings, &mut w[m..], second, n - m, source);
     copy_up(w, m, n);
-    let first = Tables {
-        at: t.at - n,
-        texts: t.texts,
-        paths: t.paths,
-        lengths: t.lengths,
-    };
+    let mut first = layout;
+    first.at = layout.at - n;
     sort(nodes, strings, &mut w[n..], first, m, source);
-    join_parts(nodes, strings, w, t, m, n, source);
+    join_parts(nodes, strings, w, layout, m, n, source);
 }
 
 // Merges the first m words and those from m up to n, each part in order, into the first n words; the m words after them are worked in.
@@ -160,16 +153,16 @@ pub fn merge(
     nodes: &[u32],
     strings: &[u8],
     w: &mut [u32],
-    t: Tables,
+    layout: Layout,
     m: usize,
     n: usize,
     source: Source,
 )
-    requires { ⌜ (m ≤ n) × (n + m ≤ t .at) × Placed t (length (now w)) ⌝ }
-    requires { ⌜ Ordered (byKey (keyIn (source .version) (now nodes) (now strings) t (now w))) (take m (now w)) ⌝ }
-    ensures { λ _. ⌜ (let lt = byKey (keyIn (source .version) (now (nodes .entry)) (now (strings .entry)) t (now (w .entry))) in
+    requires { ⌜ (m ≤ n) × (n + m ≤ layout .at) × Placed layout (length (now w)) ⌝ }
+    requires { ⌜ Ordered (byKey (keyIn (source .version) (now nodes) (now strings) layout (now w))) (take m (now w)) ⌝ }
+    ensures { λ _. ⌜ (let lt = byKey (keyIn (source .version) (now (nodes .entry)) (now (strings .entry)) layout (now (w .entry))) in
         take n (now (w .exit)) ≡ merge lt (take m (now (w .entry))) (part m n (now (w .entry)))) ⌝ }
-    ensures { λ _. ⌜ drop (t .at) (now (w .exit)) ≡ drop (t .at) (now (w .entry)) ⌝ }
+    ensures { λ _. ⌜ drop (layout .at) (now (w .exit)) ≡ drop (layout .at) (now (w .entry)) ⌝ }
 {
     if m == 0 {
         return;
@@ -178,5 +171,5 @@ pub fn merge(
         return;
     }
     copy_up(w, m, n);
-    join_parts(nodes, strings, w, t, m, n, source);
+    join_parts(nodes, strings, w, layout, m, n, source);
 }

@@ -11,7 +11,7 @@ use Rattle.image.specs.Sections.{textOrEmpty, sections}
 use Rattle.index.specs.Paths.{noName}
 use Rattle.draft.specs.Source.{wordOf}
 use Rattle.write_text_keys.specs.declared.Cursor.{Cursor}
-use Rattle.write_text_keys.specs.declared.Tables.{Tables}
+use Rattle.draft.specs.declared.layout.Layout.{Layout}
 
 -- ---- pieces of a path
 
@@ -104,13 +104,13 @@ endOf version nodes texts paths tab a =
     cond (ltb a texts) (record { named = true; at = getD tab (a + a) 0; left = getD tab (a + a + 1) 0; above = 0 })
     (atEnd version nodes (nodeOf texts paths tab a))
 
--- the text by the place of the tables in the work words
-abbrev pub keyIn : ℕ → List ℕ → List ℕ → Tables → List ℕ → ℕ → List ℕ
-keyIn version nodes strings t w a = keyOf version nodes strings (t .texts) (t .paths) (t .lengths) (drop (t .at) w) a
+-- the text of use a, in the work words
+abbrev pub keyIn : ℕ → List ℕ → List ℕ → Layout → List ℕ → ℕ → List ℕ
+keyIn version nodes strings l w a = keyOf version nodes strings (l .texts) (l .paths) (l .lengths) (drop (l .at) w) a
 
 -- the tables begin within so many work words
-abbrev pub Placed : Tables → ℕ → Type 0
-Placed t n = (t .at + t .paths ≤ n) × (t .at + t .lengths ≤ n)
+abbrev pub Placed : Layout → ℕ → Type 0
+Placed l n = (l .at + l .paths ≤ n) × (l .at + l .lengths ≤ n)
 
 -- ---- the length of a path by words alone
 

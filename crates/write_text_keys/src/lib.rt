@@ -11,18 +11,10 @@ ghost use Rattle.texts.specs.Decimal.{decimal};
 ghost use Rattle.draft.specs.Source.{wordOf};
 ghost use Rattle.write_text_keys.specs.Keys.{pieceLength, atEnd, lastByte, stepBack, readBack, back, decided, alike, nodeOf};
 ghost use Rattle.write_text_keys.specs.Keys.{longOf, keyOf, keyLength, endOf, keyIn, textIn, onePart, Placed, lengthBelow};
+use draft::layout::Layout;
 use draft::source;
 use draft::source::Source;
 use image::order::comes_before;
-
-// Where the tables of uses lie in the work words: all of them from word `at` on, and in them from their start on two words for each text
-// (offset and length), from `paths` on a node for each path, and from `lengths` on two words for each node (length of its path, low first).
-pub struct Tables {
-    pub at: usize,
-    pub texts: usize,
-    pub paths: usize,
-    pub lengths: usize,
-}
 
 // Where a text is read backward: a piece of it is a name at an offset of the strings, or a place. So many bytes of the piece are left,
 // and before them a dot and the piece of the node above.
@@ -209,11 +201,11 @@ fn text_of<'s, 't>(strings: &'s [u8], tab: &'t [u32], a: u32) -> &'s [u8]
 }
 
 // The node whose path is use `a`.
-fn node_of(tab: &[u32], t: Tables, a: u32) -> u32
-    requires { ⌜ (t .texts ≤ a) × (t .paths ≤ length (now tab)) ⌝ }
-    ensures { λ r. ⌜ r ≡ nodeOf (t .texts) (t .paths) (now (tab .entry)) a ⌝ }
+fn node_of(tab: &[u32], layout: Layout, a: u32) -> u32
+    requires { ⌜ (layout .texts ≤ a) × (layout .paths ≤ length (now tab)) ⌝ }
+    ensures { λ r. ⌜ r ≡ nodeOf (layout .texts) (layout .paths) (now (tab .entry)) a ⌝ }
 {
-    source::word(tab, t.paths + (a as usize - t.texts))
+    source::word(tab, layout.paths + (a as usize - layout.texts))
 }
 
 // The length of node `x`'s path.
@@ -228,22 +220,22 @@ fn long_of(tab: &[u32], lengths: usize, x: u32) -> usize
 }
 
 // The length of the text of use `a`.
-fn length_of(strings: &[u8], tab: &[u32], t: Tables, a: u32) -> usize
-    requires { ⌜ (t .paths ≤ length (now tab)) × (t .lengths ≤ length (now tab)) ⌝ }
-    ensures { λ r. ⌜ r ≡ keyLength (now (strings .entry)) (t .texts) (t .paths) (t .lengths) (now (tab .entry)) a ⌝ }
+fn length_of(strings: &[u8], tab: &[u32], layout: Layout, a: u32) -> usize
+    requires { ⌜ (layout .paths ≤ length (now tab)) × (layout .lengths ≤ length (now tab)) ⌝ }
+    ensures { λ r. ⌜ r ≡ keyLength (now (strings .entry)) (layout .texts) (layout .paths) (layout .lengths) (now (tab .entry)) a ⌝ }
 {
-    if (a as usize) < t.texts {
+    if (a as usize) < layout.texts {
         return text_of(strings, tab, a).len();
     }
-    long_of(tab, t.lengths, node_of(tab, t, a))
+    long_of(tab, layout.lengths, node_of(tab, layout, a))
 }
 
 // The cursor at the end of the text of use `a`.
-fn end_of(nodes: &[u32], tab: &[u32], t: Tables, a: u32, source: Source) -> Cursor
-    requires { ⌜ t .paths ≤ length (now tab) ⌝ }
-    ensures { λ r. ⌜ r ≡ endOf (source .version) (now (nodes .entry)) (t .texts) (t .paths) (now (tab .entry)) a ⌝ }
+fn end_of(nodes: &[u32], tab: &[u32], layout: Layout, a: u32, source: Source) -> Cursor
+    requires { ⌜ layout .paths ≤ length (now tab) ⌝ }
+    ensures { λ r. ⌜ r ≡ endOf (source .version) (now (nodes .entry)) (layout .texts) (layout .paths) (now (tab .entry)) a ⌝ }
 {
-    if (a as usize) < t.texts {
+    if (a as usize) < layout.texts {
         let i = a as usize + a as usize;
         return Cursor {
             named: true,
@@ -252,7 +244,7 @@ fn end_of(nodes: &[u32], tab: &[u32], t: Tables, a: u32, source: Source) -> Curs
             above: 0,
         };
     }
-    at_end(nodes, node_of(tab, t, a), source)
+    at_end(nodes, node_of(tab, layout, a), source)
 }
 
 // Whether two text uses are one part of the strings.
@@ -282,19 +274,20 @@ fn ends_below(
     nodes: &[u32],
     strings: &[u8],
     tab: &[u32],
-    t: Tables,
+    layout: Layout,
     a: u32,
     b: u32,
     source: Source,
 ) -> bool
-    requires { ⌜ (t .paths ≤ length (now tab)) × (t .lengths ≤ length (now tab)) ⌝ }
-    ensures { λ r. ⌜ (let key = keyOf (source .version) (now (nodes .entry)) (now (strings .entry)) (t .texts) (t .paths) (t .lengths) (now (tab .entry)) in
+    requires { ⌜ (layout .paths ≤ length (now tab)) × (layout .lengths ≤ length (now tab)) ⌝ }
+    ensures { λ r. ⌜ (let key = keyOf (source .version) (now (nodes .entry)) (now (strings .entry)) (layout .texts) (layout .paths)
+        (layout .lengths) (now (tab .entry)) in
         r ≡ before (key a) (key b)) ⌝ }
 {
-    let m = length_of(strings, tab, t, a);
-    let n = length_of(strings, tab, t, b);
-    let c = end_of(nodes, tab, t, a, source);
-    let d = end_of(nodes, tab, t, b, source);
+    let m = length_of(strings, tab, layout, a);
+    let n = length_of(strings, tab, layout, b);
+    let c = end_of(nodes, tab, layout, a, source);
+    let d = end_of(nodes, tab, layout, b, source);
     if m < n {
         return read_below(
             nodes,
@@ -322,32 +315,32 @@ pub fn below(
     nodes: &[u32],
     strings: &[u8],
     w: &[u32],
-    t: Tables,
+    layout: Layout,
     a: u32,
     b: u32,
     source: Source,
 ) -> bool
-    requires { ⌜ Placed t (length (now w)) ⌝ }
-    ensures { λ r. ⌜ (let key = keyIn (source .version) (now (nodes .entry)) (now (strings .entry)) t (now (w .entry)) in
+    requires { ⌜ Placed layout (length (now w)) ⌝ }
+    ensures { λ r. ⌜ (let key = keyIn (source .version) (now (nodes .entry)) (now (strings .entry)) layout (now (w .entry)) in
         r ≡ before (key a) (key b)) ⌝ }
 {
-    let at = t.at;
+    let at = layout.at;
     let tab = &w[at..];
-    if (a as usize) < t.texts {
-        if (b as usize) < t.texts {
+    if (a as usize) < layout.texts {
+        if (b as usize) < layout.texts {
             return texts_below(strings, tab, a, b);
         }
     }
-    ends_below(nodes, strings, tab, t, a, b, source)
+    ends_below(nodes, strings, tab, layout, a, b, source)
 }
 
 // The length of the text of use `a`: it does not go by the nodes' words.
-pub fn key_length(strings: &[u8], w: &[u32], t: Tables, a: u32) -> usize
-    requires { ⌜ Placed t (length (now w)) ⌝ }
-    ensures { λ r. ⌜ ((version : ℕ) (nodes : List ℕ) → r ≡ length (keyIn version nodes (now (strings .entry)) t (now (w .entry)) a)) ⌝ }
+pub fn key_length(strings: &[u8], w: &[u32], layout: Layout, a: u32) -> usize
+    requires { ⌜ Placed layout (length (now w)) ⌝ }
+    ensures { λ r. ⌜ ((version : ℕ) (nodes : List ℕ) → r ≡ length (keyIn version nodes (now (strings .entry)) layout (now (w .entry)) a)) ⌝ }
 {
-    let at = t.at;
-    length_of(strings, &w[at..], t, a)
+    let at = layout.at;
+    length_of(strings, &w[at..], layout, a)
 }
 
 // Writes a text at the front of the output.
@@ -382,28 +375,28 @@ pub fn put_key(
     nodes: &[u32],
     strings: &[u8],
     w: &[u32],
-    t: Tables,
+    layout: Layout,
     a: u32,
     out: &mut [u8],
     source: Source,
 )
-    requires { ⌜ Placed t (length (now w)) ⌝ }
-    requires { ⌜ length (keyIn (source .version) (now nodes) (now strings) t (now w) a) ≤ length (now out) ⌝ }
-    ensures { λ r. ⌜ (let key = keyIn (source .version) (now (nodes .entry)) (now (strings .entry)) t (now (w .entry)) a in
+    requires { ⌜ Placed layout (length (now w)) ⌝ }
+    requires { ⌜ length (keyIn (source .version) (now nodes) (now strings) layout (now w) a) ≤ length (now out) ⌝ }
+    ensures { λ r. ⌜ (let key = keyIn (source .version) (now (nodes .entry)) (now (strings .entry)) layout (now (w .entry)) a in
         now (out .exit) ≡ key ++ drop (length key) (now (out .entry))) ⌝ }
 {
-    let at = t.at;
+    let at = layout.at;
     let tab = &w[at..];
-    if (a as usize) < t.texts {
+    if (a as usize) < layout.texts {
         put_text(text_of(strings, tab, a), out);
         return;
     }
-    let x = node_of(tab, t, a);
+    let x = node_of(tab, layout, a);
     put_read(
         nodes,
         strings,
         at_end(nodes, x, source),
-        long_of(tab, t.lengths, x),
+        long_of(tab, layout.lengths, x),
         out,
         source,
     );

@@ -29,7 +29,7 @@ use Rattle.words.specs.Output.{over, putAt}
 use Rattle.words.proofs.EntryLoop.{Running, run-start, run-room, run-next, run-front}
 use Rattle.write_tree_sections.specs.Held.{namedWords, namedWordsOf, namedBy, NamedFit}
 use Rattle.write_numbering.specs.Numbers.{newIn}
-use Rattle.write_numbering.specs.declared.numbers.Numbers.{Numbers}
+use Rattle.draft.specs.declared.layout.Layout.{Layout}
 use Rattle.write_numbering.proofs.DraftWords.{retold, told, new-is, text-length}
 
 -- entry j of one node
@@ -63,26 +63,26 @@ entry-of version nodes named w new text i r count e q =
 
 -- ---- the loop over the image's nodes
 
-pub record Naming (version : ℕ) (nodes named w : List ℕ) (n : Numbers) (out₀ out : List ℕ) (text at j : ℕ) : Type 0 where
-  pub running : Running 0 (length nodes / nodeWords version) (entry version nodes named w (n .order) (n .new) (n .offsets)) out₀ out j at
-  pub texts : text ≡ n .offsets + namedBy version nodes w (n .order) j
+pub record Naming (version : ℕ) (nodes named w : List ℕ) (l : Layout) (offsets : ℕ) (out₀ out : List ℕ) (text at j : ℕ) : Type 0 where
+  pub running : Running 0 (length nodes / nodeWords version) (entry version nodes named w (l .order) (l .new) offsets) out₀ out j at
+  pub texts : text ≡ offsets + namedBy version nodes w (l .order) j
 
-module _ (version : ℕ) (nodes named w : List ℕ) (n : Numbers) (fit : NamedFit version nodes w n) (out₀ : List ℕ) where
-  pub begin : textEntrySize * namedBy version nodes w (n .order) (length nodes / nodeWords version) ≤ length out₀ → Naming version nodes named w n out₀ out₀ (n .offsets) 0 0
+module _ (version : ℕ) (nodes named w : List ℕ) (l : Layout) (offsets : ℕ) (fit : NamedFit version nodes w l offsets) (out₀ : List ℕ) where
+  pub begin : textEntrySize * namedBy version nodes w (l .order) (length nodes / nodeWords version) ≤ length out₀ → Naming version nodes named w l offsets out₀ out₀ offsets 0 0
   unfolding sumOf
   begin h =
       record {
         running =
-            run-start 0 (length nodes / nodeWords version) (entry version nodes named w (n .order) (n .new) (n .offsets)) out₀ (omega (arith, section-length version nodes named w (n .order) (n .new) (n .offsets))) 0 refl;
-        texts = sym (add-zero (n .offsets));
+            run-start 0 (length nodes / nodeWords version) (entry version nodes named w (l .order) (l .new) offsets) out₀ (omega (arith, section-length version nodes named w (l .order) (l .new) offsets)) 0 refl;
+        texts = sym (add-zero offsets);
       }
 
-  module _ (out : List ℕ) (text at j : ℕ) (g : Naming version nodes named w n out₀ out text at j) (h : j < length nodes / nodeWords version) (i : ℕ)
-      (p : i ≡ getD w (n .order + j) 0) (r : NodeRecord) (e : r ≡ recordOf version nodes i) (count : ℕ) (q : count ≡ cond (eqb (r .tag) 1) (r .f6) 0) where
-    here : namedWords named w (n .new) text (r .f5) count ≡ entry version nodes named w (n .order) (n .new) (n .offsets) j
-    here = entry-of version nodes named w (n .new) text i r count e q ∙ (λ t. namedWordsOf version nodes named w (n .new) (g .texts t) (p t))
+  module _ (out : List ℕ) (text at j : ℕ) (g : Naming version nodes named w l offsets out₀ out text at j) (h : j < length nodes / nodeWords version) (i : ℕ)
+      (p : i ≡ getD w (l .order + j) 0) (r : NodeRecord) (e : r ≡ recordOf version nodes i) (count : ℕ) (q : count ≡ cond (eqb (r .tag) 1) (r .f6) 0) where
+    here : namedWords named w (l .new) text (r .f5) count ≡ entry version nodes named w (l .order) (l .new) offsets j
+    here = entry-of version nodes named w (l .new) text i r count e q ∙ (λ t. namedWordsOf version nodes named w (l .new) (g .texts t) (p t))
 
-    count-is : count ≡ numberOfNamed (nodesOnly version nodes []) (getD w (n .order + j) 0)
+    count-is : count ≡ numberOfNamed (nodesOnly version nodes []) (getD w (l .order + j) 0)
     unfolding numberOfNamed nodeWord recordOf
     count-is = q ∙ (λ t. cond (eqb (e t .tag) 1) (e t .f6) 0) ∙ ap (numberOfNamed (nodesOnly version nodes [])) p
 
@@ -91,43 +91,43 @@ module _ (version : ℕ) (nodes named w : List ℕ) (n : Numbers) (fit : NamedFi
     step-room =
         omega (
           arith,
-          run-room 0 (length nodes / nodeWords version) (entry version nodes named w (n .order) (n .new) (n .offsets)) out₀ out j at (g .running) h,
+          run-room 0 (length nodes / nodeWords version) (entry version nodes named w (l .order) (l .new) offsets) out₀ out j at (g .running) h,
           ap length here,
-          named-words-length named w (n .new) text (r .f5) count,
+          named-words-length named w (l .new) text (r .f5) count,
         )
 
     pub step-text : text + count ≤ length w
-    step-text = omega (arith, fit .texts, g .texts, count-is, sum-below j (length nodes / nodeWords version) (λ m. numberOfNamed (nodesOnly version nodes []) (getD w (n .order + m) 0)) h)
+    step-text = omega (arith, fit .texts, g .texts, count-is, sum-below j (length nodes / nodeWords version) (λ m. numberOfNamed (nodesOnly version nodes []) (getD w (l .order + m) 0)) h)
 
-    pub step-next : (out′ : List ℕ) → out′ ≡ putAt out at (namedWords named w (n .new) text (r .f5) count)
-        → Naming version nodes named w n out₀ out′ (text + count) (at + textEntrySize * count) (j + 1)
+    pub step-next : (out′ : List ℕ) → out′ ≡ putAt out at (namedWords named w (l .new) text (r .f5) count)
+        → Naming version nodes named w l offsets out₀ out′ (text + count) (at + textEntrySize * count) (j + 1)
     unfolding sumOf
     step-next out′ z =
         record {
           running =
-              run-next 0 (length nodes / nodeWords version) (entry version nodes named w (n .order) (n .new) (n .offsets)) out₀ out j at (g .running) (namedWords named w (n .new) text (r .f5) count) out′
-              (at + textEntrySize * count) h here z (omega (arith, named-words-length named w (n .new) text (r .f5) count));
+              run-next 0 (length nodes / nodeWords version) (entry version nodes named w (l .order) (l .new) offsets) out₀ out j at (g .running) (namedWords named w (l .new) text (r .f5) count) out′
+              (at + textEntrySize * count) h here z (omega (arith, named-words-length named w (l .new) text (r .f5) count));
           texts = rw add-one (omega (arith, g .texts, count-is));
         }
 
 -- ---- the section is the written one
 
-module _ (s : Sections) (version : ℕ) (nodes named : List ℕ) (order w : List ℕ) (kept : List (List ℕ)) (n : Numbers) where
+module _ (s : Sections) (version : ℕ) (nodes named : List ℕ) (order w : List ℕ) (kept : List (List ℕ)) (l : Layout) where
   abbrev r : Sections
   r = retold s version nodes (s .children) named (s .payload)
 
   -- the named children of one node
-  one : (i text : ℕ) → tablesRule r ≡ 0 → i < nodeCount r → NewsAt order w (nodeCount r) (n .new) → OffsetsAt kept (namedTexts r i) w text
-      → namedWordsOf version nodes named w (n .new) text i ≡ namedOut r order kept i
+  one : (i text : ℕ) → tablesRule r ≡ 0 → i < nodeCount r → NewsAt order w (nodeCount r) (l .new) → OffsetsAt kept (namedTexts r i) w text
+      → namedWordsOf version nodes named w (l .new) text i ≡ namedOut r order kept i
   unfolding namedWordsOf namedOut namedTexts numberOfNamed nodeWord namedWord
   one i text p h q o = join-same (numberOfNamed r i) _ _ each
     where
       each : (j : ℕ) → j < numberOfNamed r i
-          → named-entry named w (n .new) text (f r i 5) j ≡ offsetOf kept (namedText r i j) ∷ length (namedText r i j) ∷ newOf order (namedAt r i j 2) ∷ []
+          → named-entry named w (l .new) text (f r i 5) j ≡ offsetOf kept (namedText r i j) ∷ length (namedText r i j) ∷ newOf order (namedAt r i j 2) ∷ []
       each j k =
           let offset = offsets-each kept w text (numberOfNamed r i) (namedText r i) o j k in
           let size = text-length r (namedAt r i j 0) (namedAt r i j 1) (named-text-at r (tables r p) i h j k) in
-          let node = new-is order w (nodeCount r) (n .new) (namedAt r i j 2) q (named-at r (tables r p) i h j k .below) in
+          let node = new-is order w (nodeCount r) (l .new) (namedAt r i j 2) q (named-at r (tables r p) i h j k .below) in
           λ t. offset t ∷ size t ∷ node t ∷ []
 
   texts-length : (i : ℕ) → length (namedTexts r i) ≡ numberOfNamed r i
@@ -135,8 +135,8 @@ module _ (s : Sections) (version : ℕ) (nodes named : List ℕ) (order w : List
   texts-length i = omega (arith, join-length (numberOfNamed r i) (λ j. namedText r i j ∷ []), sum-const (numberOfNamed r i) 1)
 
   all : (m offsets : ℕ) → tablesRule r ≡ 0 → ((j : ℕ) → j < nodeCount r → getD w (m + j) 0 < nodeCount r) → OldsAt order w (nodeCount r) m
-      → NewsAt order w (nodeCount r) (n .new) → OffsetsAt kept (namedUses r order) w offsets
-      → joinOf (length nodes / nodeWords version) (entry version nodes named w m (n .new) offsets) ≡ joinOf (nodeCount r) (λ j. namedOut r order kept (oldOf order j))
+      → NewsAt order w (nodeCount r) (l .new) → OffsetsAt kept (namedUses r order) w offsets
+      → joinOf (length nodes / nodeWords version) (entry version nodes named w m (l .new) offsets) ≡ joinOf (nodeCount r) (λ j. namedOut r order kept (oldOf order j))
   unfolding numberOfNamed nodeWord
   all m offsets p b o q u = join-same (nodeCount r) _ _ each
     where
@@ -145,7 +145,7 @@ module _ (s : Sections) (version : ℕ) (nodes named : List ℕ) (order w : List
           sum-ext j (λ k. length (namedTexts r (oldOf order k))) (λ k. numberOfNamed (nodesOnly version nodes []) (getD w (m + k) 0))
           (λ k l. texts-length (oldOf order k) ∙ ap (numberOfNamed r) (sym (o k (omega arith))))
 
-      each : (j : ℕ) → j < nodeCount r → entry version nodes named w m (n .new) offsets j ≡ namedOut r order kept (oldOf order j)
+      each : (j : ℕ) → j < nodeCount r → entry version nodes named w m (l .new) offsets j ≡ namedOut r order kept (oldOf order j)
       each j h =
           one (getD w (m + j) 0) (offsets + namedBy version nodes w m j) p (b j h) q
           (subst (λ (i : ℕ). OffsetsAt kept (namedTexts r i) w (offsets + namedBy version nodes w m j)) (sym (o j h))
@@ -155,12 +155,12 @@ module _ (s : Sections) (version : ℕ) (nodes named : List ℕ) (order w : List
 
   abbrev Told : List ℕ → List ℕ → ℕ → ℕ → Sections → Type 0
   Told out₀ out m offsets x =
-      tablesRule x ≡ 0 → OldsAt order w (nodeCount x) m → NewsAt order w (nodeCount x) (n .new) → OffsetsAt kept (namedUses x order) w offsets
+      tablesRule x ≡ 0 → OldsAt order w (nodeCount x) m → NewsAt order w (nodeCount x) (l .new) → OffsetsAt kept (namedUses x order) w offsets
       → out ≡ over (bytesOf (joinOf (nodeCount x) (λ j. namedOut x order kept (oldOf order j)))) out₀
 
-  pub finish : (fit : NamedFit version nodes w n) (out₀ out : List ℕ) (text at j : ℕ) → Naming version nodes named w n out₀ out text at j → length nodes / nodeWords version ≤ j
-      → s .nodes ≡ nodes → s .version ≡ version → s .named ≡ named → Told out₀ out (n .order) (n .offsets) s
-  finish fit out₀ out text at j g h e d c =
-      subst (Told out₀ out (n .order) (n .offsets)) (sym (told s version nodes (s .children) named (s .payload) d e refl c refl))
-      (λ p o q u. subst (λ (ws : List ℕ). out ≡ over (bytesOf ws) out₀) (all (n .order) (n .offsets) p (fit .order .olds) o q u)
-      (run-front (length nodes / nodeWords version) (entry version nodes named w (n .order) (n .new) (n .offsets)) out₀ out j at (g .running) h))
+  pub finish : (offsets : ℕ) (fit : NamedFit version nodes w l offsets) (out₀ out : List ℕ) (text at j : ℕ) → Naming version nodes named w l offsets out₀ out text at j → length nodes / nodeWords version ≤ j
+      → s .nodes ≡ nodes → s .version ≡ version → s .named ≡ named → Told out₀ out (l .order) offsets s
+  finish offsets fit out₀ out text at j g h e d c =
+      subst (Told out₀ out (l .order) offsets) (sym (told s version nodes (s .children) named (s .payload) d e refl c refl))
+      (λ p o q u. subst (λ (ws : List ℕ). out ≡ over (bytesOf ws) out₀) (all (l .order) offsets p (fit .order .olds) o q u)
+      (run-front (length nodes / nodeWords version) (entry version nodes named w (l .order) (l .new) offsets) out₀ out j at (g .running) h))

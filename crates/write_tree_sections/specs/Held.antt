@@ -6,14 +6,14 @@ use Rattle.laws.specs.Counted.{joinOf, sumOf}
 use Rattle.image.specs.Sections.{nodeWords, textEntryWords, f}
 use Rattle.records.specs.Records.{numberOfChildren, numberOfNamed, payloadLengthOf}
 use Rattle.draft.specs.Source.{nodesOnly}
-use Rattle.write_numbering.specs.declared.numbers.Numbers.{Numbers}
+use Rattle.draft.specs.declared.layout.Layout.{Layout}
 use Rattle.write_numbering.specs.Numbers.{newIn}
 
 -- the words hold a number of a node for each node of the image
-pub record OrderFits (version : ℕ) (nodes w : List ℕ) (n : Numbers) : Type 0 where
-  pub olds : (j : ℕ) → j < length nodes / nodeWords version → getD w (n .order + j) 0 < length nodes / nodeWords version
-  pub order-end : n .order + length nodes / nodeWords version ≤ length w
-  pub new-start : n .new ≤ length w
+pub record OrderFits (version : ℕ) (nodes w : List ℕ) (l : Layout) : Type 0 where
+  pub olds : (j : ℕ) → j < length nodes / nodeWords version → getD w (l .order + j) 0 < length nodes / nodeWords version
+  pub order-end : l .order + length nodes / nodeWords version ≤ length w
+  pub new-start : l .new ≤ length w
 
 -- ---- ordered children
 
@@ -50,7 +50,7 @@ module _ (version : ℕ) (nodes w : List ℕ) (order : ℕ) where
   abbrev pub payloadBy : ℕ → ℕ
   payloadBy j = sumOf j (λ m. payloadLengthOf (nodesOnly version nodes []) (getD w (order + m) 0))
 
--- what a section of named children needs of the words: numbers of nodes, and an offset for each text
-pub record NamedFit (version : ℕ) (nodes w : List ℕ) (n : Numbers) : Type 0 where
-  pub order : OrderFits version nodes w n
-  pub texts : n .offsets + namedBy version nodes w (n .order) (length nodes / nodeWords version) ≤ length w
+-- what a section of named children needs of the words: numbers of nodes, and from `offsets` on an offset for each text
+pub record NamedFit (version : ℕ) (nodes w : List ℕ) (l : Layout) (offsets : ℕ) : Type 0 where
+  pub order : OrderFits version nodes w l
+  pub texts : offsets + namedBy version nodes w (l .order) (length nodes / nodeWords version) ≤ length w

@@ -11,7 +11,7 @@ use Rattle.image.specs.declared.NodeRecord.{NodeRecord}
 use Rattle.image.specs.Entries.{recordOf}
 use Rattle.image.specs.Tags.{containerTag, listTag}
 use Rattle.records.specs.Fields.{kindOf}
-use Rattle.write_numbering.specs.declared.numbers.Numbers.{Numbers}
+use Rattle.draft.specs.declared.layout.Layout.{Layout}
 use Rattle.write_tree_sections.specs.Held.{OrderFits, childrenBy, namedBy, payloadBy}
 use Rattle.write_tree_sections.specs.declared.kinds.Starts.{Starts}
 use Rattle.write_tree_sections.specs.Encoded.{textsBy}
@@ -50,9 +50,9 @@ module _ (version : ℕ) (nodes w : List ℕ) (order : ℕ) where
   usedBy payload j = sumOf j (λ m. textsAt version nodes payload (getD w (order + m) 0))
 
 -- numbers of nodes are there, starts are words, and there is an offset for each text
-pub record NodesFit (version : ℕ) (nodes payload w : List ℕ) (n : Numbers) : Type 0 where
-  pub order : OrderFits version nodes w n
-  pub children : childrenBy version nodes w (n .order) (length nodes / nodeWords version) ≤ NONE
-  pub named : namedBy version nodes w (n .order) (length nodes / nodeWords version) ≤ NONE
-  pub bytes : payloadBy version nodes w (n .order) (length nodes / nodeWords version) ≤ NONE
-  pub texts : n .offsets + usedBy version nodes w (n .order) payload (length nodes / nodeWords version) ≤ length w
+pub record NodesFit (version : ℕ) (nodes payload w : List ℕ) (l : Layout) : Type 0 where
+  pub order : OrderFits version nodes w l
+  pub children : childrenBy version nodes w (l .order) (length nodes / nodeWords version) ≤ NONE
+  pub named : namedBy version nodes w (l .order) (length nodes / nodeWords version) ≤ NONE
+  pub bytes : payloadBy version nodes w (l .order) (length nodes / nodeWords version) ≤ NONE
+  pub texts : l .offsets + usedBy version nodes w (l .order) payload (length nodes / nodeWords version) ≤ length w

@@ -9,6 +9,7 @@ ghost use Rattle.write_tree_sections.specs.Held.{childWords, OrderFits, 
 ghost use Rattle.image.specs.Sections.{nodeWords, childSize};
 ghost use Rattle.image.specs.Tags.{containerTag};
 ghost use Rattle.write_tree_sections.specs.Put.{ChildrenPut};
+use draft::layout::Layout;
 use draft::source::Source;
 use draft::source::node_at;
 use draft::source::node_count;
@@ -17,7 +18,6 @@ use image::ImageView;
 use image::NodeRecord;
 use image::tag;
 use words::put_word;
-use write_numbering::numbers::Numbers;
 use write_numbering::numbers::new_number;
 
 // How many ordered children a node has.
@@ -62,24 +62,24 @@ pub fn put_children(
     nodes: &[u32],
     children: &[u32],
     work: &[u32],
-    numbers: Numbers,
+    layout: Layout,
     out: &mut [u8],
     source: Source,
 )
-    requires { ⌜ OrderFits (source .version) (now nodes) (now work) numbers ⌝ }
+    requires { ⌜ OrderFits (source .version) (now nodes) (now work) layout ⌝ }
     requires { ⌜ (let count = length (now nodes) / nodeWords (source .version) in
-        childSize * childrenBy (source .version) (now nodes) (now work) (numbers .order) count ≤ length (now out)) ⌝ }
-    ensures { λ r. ⌜ (ChildrenPut (source .version) (now (nodes .entry)) (now (children .entry)) (now (work .entry)) numbers
+        childSize * childrenBy (source .version) (now nodes) (now work) (layout .order) count ≤ length (now out)) ⌝ }
+    ensures { λ r. ⌜ (ChildrenPut (source .version) (now (nodes .entry)) (now (children .entry)) (now (work .entry)) layout
         (now (out .entry)) (now (out .exit))) ⌝ }
 {
-    let order = numbers.order;
+    let order = layout.order;
     let count = node_count(nodes, source);
     let mut at = 0;
     let mut j = 0;
     while j < count {
         let node = node_at(nodes, word(work, order + j) as usize, source);
         let own = child_count(node);
-        put_children_of(children, work, numbers.new, node.f3, own, out, at);
+        put_children_of(children, work, layout.new, node.f3, own, out, at);
         at += ImageView::WORD_BYTES * own as usize;
         j += 1;
     }

@@ -9,6 +9,7 @@ ghost use Rattle.write_tree_sections.specs.Held.{namedWords, NamedFit, n
 ghost use Rattle.image.specs.Sections.{nodeWords, textEntrySize};
 ghost use Rattle.image.specs.Tags.{containerTag};
 ghost use Rattle.write_tree_sections.specs.Put.{NamedPut};
+use draft::layout::Layout;
 use draft::source::Source;
 use draft::source::node_at;
 use draft::source::node_count;
@@ -17,7 +18,6 @@ use image::ImageView;
 use image::NodeRecord;
 use image::tag;
 use words::output::put_words;
-use write_numbering::numbers::Numbers;
 use write_numbering::numbers::new_number;
 
 // How many named children a node has.
@@ -60,29 +60,31 @@ fn put_named_of(
     }
 }
 
-// Writes the section at the start of the output.
+// Writes the section at the start of the output. The offsets of its texts begin at `offsets`.
 pub fn put_named(
     nodes: &[u32],
     named: &[u32],
     work: &[u32],
-    numbers: Numbers,
+    layout: Layout,
+    offsets: usize,
     out: &mut [u8],
     source: Source,
 )
-    requires { ⌜ NamedFit (source .version) (now nodes) (now work) numbers ⌝ }
+    requires { ⌜ NamedFit (source .version) (now nodes) (now work) layout offsets ⌝ }
     requires { ⌜ (let count = length (now nodes) / nodeWords (source .version) in
-        textEntrySize * namedBy (source .version) (now nodes) (now work) (numbers .order) count ≤ length (now out)) ⌝ }
-    ensures { λ r. ⌜ NamedPut (source .version) (now (nodes .entry)) (now (named .entry)) (now (work .entry)) numbers (now (out .entry)) (now (out .exit)) ⌝ }
+        textEntrySize * namedBy (source .version) (now nodes) (now work) (layout .order) count ≤ length (now out)) ⌝ }
+    ensures { λ r. ⌜ (NamedPut (source .version) (now (nodes .entry)) (now (named .entry)) (now (work .entry)) layout offsets
+        (now (out .entry)) (now (out .exit))) ⌝ }
 {
-    let order = numbers.order;
+    let order = layout.order;
     let count = node_count(nodes, source);
-    let mut text = numbers.offsets;
+    let mut text = offsets;
     let mut at = 0;
     let mut j = 0;
     while j < count {
         let node = node_at(nodes, word(work, order + j) as usize, source);
         let own = named_count(node);
-        put_named_of(named, work, numbers.new, text, node.f5, own, out, at);
+        put_named_of(named, work, layout.new, text, node.f5, own, out, at);
         text += own as usize;
         at += ImageView::TEXT_ENTRY_BYTES * own as usize;
         j += 1;

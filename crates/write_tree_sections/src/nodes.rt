@@ -10,6 +10,7 @@ ghost use Rattle.write_tree_sections.specs.Put.{NodesPut};
 use crate::kinds::Starts;
 use crate::kinds::encode_kind;
 use crate::texts_used::texts_of;
+use draft::layout::Layout;
 use draft::source::Source;
 use draft::source::node_at;
 use draft::source::node_count;
@@ -19,7 +20,6 @@ use image::ImageView;
 use image::NodeRecord;
 use image::tag;
 use words::output::put_words;
-use write_numbering::numbers::Numbers;
 
 // Writes a record's words at `at`.
 fn put_record(node: NodeRecord, out: &mut [u8], at: usize, source: Source)
@@ -67,19 +67,19 @@ pub fn put_nodes(
     nodes: &[u32],
     payload: &[u8],
     work: &[u32],
-    numbers: Numbers,
+    layout: Layout,
     out: &mut [u8],
     source: Source,
 ) -> usize
-    requires { ⌜ NodesFit (source .version) (now nodes) (now payload) (now work) numbers ⌝ }
+    requires { ⌜ NodesFit (source .version) (now nodes) (now payload) (now work) layout ⌝ }
     requires { ⌜ length (now nodes) / nodeWords (source .version) * nodeSize (source .version) ≤ length (now out) ⌝ }
-    ensures { λ r. ⌜ (NodesPut (source .version) (now (nodes .entry)) (now (payload .entry)) (now (work .entry)) numbers
+    ensures { λ r. ⌜ (NodesPut (source .version) (now (nodes .entry)) (now (payload .entry)) (now (work .entry)) layout
         (now (out .entry)) (now (out .exit)) r) ⌝ }
 {
-    let order = numbers.order;
+    let order = layout.order;
     let count = node_count(nodes, source);
     let size = ImageView::WORD_BYTES * node_words(source);
-    let mut next_text = numbers.offsets;
+    let mut next_text = layout.offsets;
     let mut starts = Starts {
         children: 0,
         named: 0,
@@ -90,7 +90,7 @@ pub fn put_nodes(
     while j < count {
         let node = node_at(nodes, word(work, order + j) as usize, source);
         put_record(
-            encode_kind(node, work, numbers.new, next_text, starts),
+            encode_kind(node, work, layout.new, next_text, starts),
             out,
             at,
             source,

@@ -9,7 +9,7 @@ use Rattle.words.specs.Words.{NONE}
 use Rattle.image.specs.Sections.{Sections}
 use Rattle.draft_image.specs.Encode.{imageFor}
 use Rattle.words.specs.Output.{over}
-use Rattle.write_plan.specs.declared.Layout.{Layout}
+use Rattle.draft.specs.declared.layout.Layout.{Layout}
 use Rattle.write_plan.specs.declared.Uses.{Uses}
 use Rattle.write_image.specs.declared.size.Entries.{Entries}
 use Rattle.write_image.specs.declared.size.Size.{Size}
@@ -18,7 +18,7 @@ use Rattle.write_image.specs.Length.{lengthBy, sizeOf, imageLength}
 use Rattle.write_image.specs.Given.{Ready}
 use Rattle.writer.specs.declared.Encoded.the-variants.{Written, Short, Refused}
 use Rattle.writer.specs.Answer.{fitsOutput, EncodeAnswered}
-use Rattle.writer.specs.Planned.{numbersBy, tablesBy, entriesBy, Drawn}
+use Rattle.writer.specs.Planned.{plannedLayout, entriesBy, Drawn}
 use Rattle.writer.proofs.PlanToImage.{rules, most, entries-known, ready}
 use Rattle.writer.proofs.Outcomes.{size-bytes, size-long, image-long, image-short, image-put}
 
@@ -42,9 +42,9 @@ module _ (ink : ℕ) (s : Sections) (w : List ℕ) (l : Layout) (u : Uses) (d : 
       put-short h = image-short ink s (d .tables) (rules s (d .tables) (d .planned) .0) out₀ m (sized .1) (omega (arith, sized .0)) (sized .0)
 
       module _ (h : m ≤ length out₀) where
-        pub fill-asks : Ready s w (numbersBy l u) (tablesBy l u) (entriesBy s u) × (imageLength s ≤ length out₀)
+        pub fill-asks : Ready s w (plannedLayout l u) (entriesBy s u) × (imageLength s ≤ length out₀)
         fill-asks = (
-          subst (λ (x : Layout). Ready s w (numbersBy x u) (tablesBy x u) (entriesBy s u)) (sym (d .layout))
+          subst (λ (x : Layout). Ready s w (plannedLayout x u) (entriesBy s u)) (sym (d .layout))
               (ready s (d .tables) (d .planned) w (d .long) u (d .prepared) (sized .1)),
           omega (arith, sized .0),
         )

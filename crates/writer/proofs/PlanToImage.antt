@@ -22,7 +22,7 @@ use Rattle.write_plan.proofs.Premises.{once}
 use Rattle.write_plan.proofs.UseTexts.{boxes-long, uses-long}
 use Rattle.write_image.specs.Length.{entriesOf, imageLength}
 use Rattle.write_image.specs.Given.{Told, Ready}
-use Rattle.writer.specs.Planned.{numbersBy, tablesBy, entriesBy}
+use Rattle.writer.specs.Planned.{plannedLayout, entriesBy}
 
 module _ (s : Sections) (p : tablesRule s ≡ 0) (e : planRule s ≡ 0) where
   -- the rules that the plan tests, one by one
@@ -62,7 +62,7 @@ module _ (s : Sections) (p : tablesRule s ≡ 0) (e : planRule s ≡ 0) where
         )
 
     module _ (fitsOutput : imageLength s ≤ NONE) where
-      told : Told s w (numbersBy (layoutOf s) u)
+      told : Told s w (plannedLayout (layoutOf s) u)
       told =
           record {
             tables = p;
@@ -71,6 +71,7 @@ module _ (s : Sections) (p : tablesRule s ≡ 0) (e : planRule s ≡ 0) where
             long = fitsOutput;
             olds = known .olds;
             news = known .news;
+            texts = known .texts;
             offsets = known .offsets;
             order-end = omega (arith, long);
             new-start = omega (arith, long);
@@ -88,15 +89,14 @@ module _ (s : Sections) (p : tablesRule s ≡ 0) (e : planRule s ≡ 0) where
           omega (arith, both-words, path-short k h) in
           ap (λ (i : ℕ). getD w i 0) (sym place) ∙ sym (getD-drop (layoutOf s .at) w (layoutOf s .lengths + x + x) 0) ∙ low
 
-      pub ready : Ready s w (numbersBy (layoutOf s) u) (tablesBy (layoutOf s) u) (entriesBy s u)
+      pub ready : Ready s w (plannedLayout (layoutOf s) u) (entriesBy s u)
       ready =
           record {
             told = told;
             entries = entries-known;
-            texts = known .texts;
             indexed =
                 record {
-                  count = known .paths;
+                  all = known .paths;
                   boxes =
                       λ k h.
                       let place : layoutOf s .at + (layoutOf s .paths + k) ≡ layoutOf s .at + layoutOf s .paths + k = omega arith in

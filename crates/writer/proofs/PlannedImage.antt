@@ -9,10 +9,10 @@ use Rattle.laws.specs.Refusal.{unless}
 use Rattle.image.specs.Header.{inkRight}
 use Rattle.image.specs.Sections.{Sections}
 use Rattle.draft.specs.declared.EntryCounts.{EntryCounts}
+use Rattle.draft.specs.declared.layout.Layout.{Layout}
 use Rattle.draft.specs.Needs.{entryCounts, wordsFor}
 use Rattle.draft.specs.Source.{draftOf}
 use Rattle.draft.specs.Draft.{tablesRule, writeWords}
-use Rattle.write_plan.specs.declared.Layout.{Layout}
 use Rattle.write_plan.specs.declared.Uses.{Uses}
 use Rattle.write_plan.specs.declared.Plan.{Plan}
 use Rattle.write_plan.specs.declared.Plan.the-variants.{Ready, Refused}

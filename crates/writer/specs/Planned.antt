@@ -4,20 +4,24 @@ use mathlib.Core.Path.{_≡_}
 use mathlib.Core.List.{List}
 use lib.ListN.{length}
 use Rattle.image.specs.Sections.{Sections, nodeCount, childCount, namedCount, definitionCount, itemCount}
-use Rattle.write_text_keys.specs.declared.Tables.{Tables}
-use Rattle.write_numbering.specs.declared.numbers.Numbers.{Numbers}
-use Rattle.write_plan.specs.declared.Layout.{Layout}
+use Rattle.draft.specs.declared.layout.Layout.{Layout}
 use Rattle.write_plan.specs.declared.Uses.{Uses}
 use Rattle.draft.specs.Draft.{tablesRule, writeWords}
 use Rattle.write_plan.specs.Planned.{layoutOf, planRule, Prepared}
 use Rattle.write_image.specs.declared.size.Entries.{Entries}
 
--- where numbers and offsets lie; offsets are behind the sorted uses
-abbrev pub numbersBy : Layout → Uses → Numbers
-numbersBy l u = record { order = l .order; new = l .new; offsets = u .texts + u .paths }
-
-abbrev pub tablesBy : Layout → Uses → Tables
-tablesBy l u = record { at = l .at; texts = u .texts; paths = l .paths; lengths = l .lengths }
+-- where things lie once the uses are counted: the offsets are behind the sorted uses
+abbrev pub plannedLayout : Layout → Uses → Layout
+plannedLayout l u =
+    record {
+      at = l .at;
+      texts = u .texts;
+      paths = l .paths;
+      lengths = l .lengths;
+      order = l .order;
+      new = l .new;
+      offsets = u .texts + u .paths;
+    }
 
 -- the entries of the image
 abbrev pub entriesBy : Sections → Uses → Entries

@@ -15,6 +15,7 @@ ghost use Rattle.write_plan.specs.Planned.{layoutBy};
 ghost use Rattle.writer.specs.Planned.{Drawn};
 use draft::EntryCounts;
 use draft::Needed;
+use draft::layout::Layout;
 use draft::source::Source;
 use draft::tables;
 use image::ImageView;
@@ -25,11 +26,8 @@ use image::refusal::TOO_FEW_WORDS;
 use write_image::size;
 use write_image::size::Entries;
 use write_image::size::Size;
-use write_numbering::numbers::Numbers;
-use write_plan::Layout;
 use write_plan::Plan;
 use write_plan::Uses;
-use write_text_keys::Tables;
 
 // The length of the image that was written, or FORMAT.md's number. `Short` is 23 with the length that the image needs; `Refused(23)` an
 // image of more than 4294967295 bytes.
@@ -39,7 +37,7 @@ pub enum Encoded {
     Refused(u32),
 }
 
-// Where the tables lie, by a draft's counts and the work words that it needs.
+// Where things lie in the work words before the texts are counted, by a draft's counts and the work words that it needs.
 fn layout_of(counts: EntryCounts, needed: usize) -> Layout
     requires { ⌜ wordsFor counts ≤ needed ⌝ }
     ensures { λ r. ⌜ r ≡ layoutBy counts needed ⌝ }
@@ -47,10 +45,12 @@ fn layout_of(counts: EntryCounts, needed: usize) -> Layout
     let uses = 2 * counts.nodes + counts.named + counts.definitions + counts.items + counts.payload;
     Layout {
         at: 2 * uses,
+        texts: 0,
         paths: 2 * uses,
         lengths: 2 * uses + counts.nodes,
         order: needed - 2 * counts.nodes,
         new: needed - counts.nodes,
+        offsets: 0,
     }
 }
 
@@ -65,14 +65,14 @@ fn put_image(
     payload: &[u8],
     strings: &[u8],
     work: &[u32],
-    l: Layout,
+    layout: Layout,
     uses: Uses,
     out: &mut [u8],
     source: Source,
 ) -> Encoded
     requires { ⌜ (let s =
         draftOf (source .version) (now nodes) (now children) (now named) (now definitions) (now items) (now payload) (now strings) in
-        Drawn s (now work) l uses) ⌝ }
+        Drawn s (now work) layout uses) ⌝ }
     ensures { λ r. ⌜ (let s =
         draftOf (source .version) (now (nodes .entry)) (now (children .entry)) (now (named .entry)) (now (definitions .entry)) (now (items .entry))
         (now (payload .entry)) (now (strings .entry)) in
@@ -95,17 +95,9 @@ fn put_image(
             if out.len() < length as usize {
                 return Encoded::Short(length);
             }
-            let numbers = Numbers {
-                order: l.order,
-                new: l.new,
-                offsets: uses.texts + uses.paths,
-            };
-            let tables = Tables {
-                at: l.at,
-                texts: uses.texts,
-                paths: l.paths,
-                lengths: l.lengths,
-            };
+            let mut planned = layout;
+            planned.texts = uses.texts;
+            planned.offsets = uses.texts + uses.paths;
             write_image::fill(
                 ink,
                 nodes,
@@ -116,8 +108,7 @@ fn put_image(
                 payload,
                 strings,
                 work,
-                numbers,
-                tables,
+                planned,
                 entries,
                 out,
                 source,
@@ -153,7 +144,7 @@ fn write(
         WrittenWith ink s (now (out .entry)) (now (out .exit)) r) ⌝ }
 {
     let counts = draft::entry_counts(nodes, children, named, definitions, items, payload, source);
-    let l = layout_of(counts, work.len());
+    let layout = layout_of(counts, work.len());
     match write_plan::prepare(
         nodes,
         children,
@@ -163,7 +154,7 @@ fn write(
         payload,
         strings,
         work,
-        l,
+        layout,
         source,
     ) {
         Plan::Refused(number) => Encoded::Refused(number),
@@ -177,7 +168,7 @@ fn write(
             payload,
             strings,
             work,
-            l,
+            layout,
             uses,
             out,
             source,

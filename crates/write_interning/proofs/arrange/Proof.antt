@@ -12,15 +12,15 @@ use Rattle.write_interning.proofs.arrange.Tie as tie
 abbrev by : tie.After-number2 → List ℕ → ℕ → List ℕ
 by c d =
     let to = c .before .before .before .before .before .before .before .before .before .before .before .before .before in
-    let t = to .args .t in
-    keyOf (to .args .source .version) (to .args .nodes .now) (to .args .strings .now) (t .texts) (t .paths) (t .lengths) d
+    let l = to .args .layout in
+    keyOf (to .args .source .version) (to .args .nodes .now) (to .args .strings .now) (l .texts) (l .paths) (l .lengths) d
 
-two : (c : tie.After-number2) → let to = c .before .before .before .before .before .before .before .before .before .before .before .before .before in Parts (by c) (to .args .w .now) (c .number2 .last .0) (to .args .t .texts) (to .args .n) (to .args .t .at)
+two : (c : tie.After-number2) → let to = c .before .before .before .before .before .before .before .before .before .before .before .before .before in Parts (by c) (to .args .w .now) (c .number2 .last .0) (to .args .layout .texts) (to .args .n) (to .args .layout .at)
 two c =
     let to = c .before .before .before .before .before .before .before .before .before .before .before .before .before in
     let one = c .before .before .before .before .before .before .before .before .number in
     let s = c .before .before .before .before .sort in
-    parts (by c) (to .args .w .now) (c .number2 .last .0) (to .args .t .texts) (to .args .n) (to .args .t .at) (one .last .0) (s .last .1 .1 .0) (omega arith) (omega arith)
+    parts (by c) (to .args .w .now) (c .number2 .last .0) (to .args .layout .texts) (to .args .n) (to .args .layout .at) (one .last .0) (s .last .1 .1 .0) (omega arith) (omega arith)
     (one .ensures .1) (one .ensures .2) (s .ensures .0) (s .ensures .1) (c .number2 .ensures .0) (c .number2 .ensures .1) (c .number2 .ensures .2)
 
 number-requires : tie.Need-number-requires
@@ -36,7 +36,7 @@ merge-requires : tie.Need-merge-requires
 merge-requires c κs =
     let u = c .before .before .before in
     let to = u .before .before .before .before .before .before .before .before .before .before .before .before .before in
-    ((omega arith, omega arith, (omega arith, omega arith)), parts-ordered (by u) (to .args .w .now) (u .number2 .last .0) (to .args .t .texts) (to .args .n) (to .args .t .at) (two u))
+    ((omega arith, omega arith, (omega arith, omega arith)), parts-ordered (by u) (to .args .w .now) (u .number2 .last .0) (to .args .layout .texts) (to .args .n) (to .args .layout .at) (two u))
 
 same-length : tie.Need-same-length
 same-length c = search needs
@@ -47,7 +47,7 @@ returns c =
     let to = u .before .before .before .before .before .before .before .before .before .before .before .before .before in
     let P = two u in
     let m = c .before .before .merge in (
-      m .ensures .0 ∙ parts-merged (by u) (to .args .w .now) (u .number2 .last .0) (to .args .t .texts) (to .args .n) (to .args .t .at) P (omega arith) (to .pre .1),
+      m .ensures .0 ∙ parts-merged (by u) (to .args .w .now) (u .number2 .last .0) (to .args .layout .texts) (to .args .n) (to .args .layout .at) P (omega arith) (to .pre .1),
       m .ensures .1 ∙ P .behind,
     )
 

@@ -14,24 +14,24 @@ use Rattle.write_interning.proofs.assign.Statement.{statement}
 use Rattle.write_interning.proofs.assign.Tie as tie
 
 abbrev Inv-loop : tie.InvT-loop
-Inv-loop nodes strings w₀ t n total₀ k₀ w total k =
-    Bounded n w₀ w k total × ((v : ℕ) → Firsts (keyIn v nodes strings t w₀) n w₀ → Assigning (keyIn v nodes strings t w₀) n w₀ w k total)
+Inv-loop nodes strings w₀ layout n total₀ k₀ w total k =
+    Bounded n w₀ w k total × ((v : ℕ) → Firsts (keyIn v nodes strings layout w₀) n w₀ → Assigning (keyIn v nodes strings layout w₀) n w₀ w k total)
 
 abbrev μ-loop : tie.MeasureT-loop
-μ-loop nodes strings w₀ t n total₀ k₀ w total k = n - k
+μ-loop nodes strings w₀ layout n total₀ k₀ w total k = n - k
 
 -- the texts by the tables where the pass began, by a format version
 abbrev key : tie.At-loop Inv-loop μ-loop → ℕ → ℕ → List ℕ
-key c v = let to = c .before .before .before .before in keyIn v (to .args .nodes .now) (to .args .strings .now) (to .args .t) (to .args .w .now)
+key c v = let to = c .before .before .before .before in keyIn v (to .args .nodes .now) (to .args .strings .now) (to .args .layout) (to .args .w .now)
 
 -- the draft's
 abbrev version : tie.At-loop Inv-loop μ-loop → ℕ
 version c = c .before .before .before .before .args .source .version
 
-behind : (c : tie.At-loop Inv-loop μ-loop) → let to = c .before .before .before .before in drop (to .args .t .at) (c .loop .w) ≡ drop (to .args .t .at) (to .args .w .now)
+behind : (c : tie.At-loop Inv-loop μ-loop) → let to = c .before .before .before .before in drop (to .args .layout .at) (c .loop .w) ≡ drop (to .args .layout .at) (to .args .w .now)
 behind c =
     let to = c .before .before .before .before in
-    drop-later (to .args .n + to .args .n) (to .args .t .at) (c .loop .w) (to .args .w .now) (c .loop .inv .0 .behind) (omega arith)
+    drop-later (to .args .n + to .args .n) (to .args .layout .at) (c .loop .w) (to .args .w .now) (c .loop .inv .0 .behind) (omega arith)
 
 -- the first use of k is not behind it
 early : (c : tie.After-word Inv-loop μ-loop) → c .word .result ≤ c .before .before .before .loop .k
@@ -52,12 +52,12 @@ own : (c : tie.After-key-length Inv-loop μ-loop) (v : ℕ)
 own c v =
     let at = c .before .before .before .before .before .before in
     let to = at .before .before .before .before in
-    let t = to .args .t in
+    let l = to .args .layout in
     let e = sym (c .before .before .before .word .ensures) ∙ c .before .before .if1 .taken in
     record {
       self = e;
       size = c .key-length .ensures v (to .args .nodes .now)
-          ∙ ap (λ (d : List ℕ). length (keyOf v (to .args .nodes .now) (to .args .strings .now) (t .texts) (t .paths) (t .lengths) d (c .before .before .before .word .result))) (behind at)
+          ∙ ap (λ (d : List ℕ). length (keyOf v (to .args .nodes .now) (to .args .strings .now) (l .texts) (l .paths) (l .lengths) d (c .before .before .before .word .result))) (behind at)
           ∙ ap (λ (a : ℕ). length (key at v a)) (c .before .before .if1 .taken);
     }
 
@@ -65,8 +65,8 @@ loop-holds : tie.Need-loop-holds Inv-loop μ-loop
 loop-holds c =
     let to = c .before .before .before in
     let a = to .args in
-    assign-all (λ v. keyIn v (a .nodes .now) (a .strings .now) (a .t) (a .w .now)) (a .n) (a .w .now) (a .w .now) 0 0 (a .source .version) (to .pre .1)
-    (λ v f. assign-none (keyIn v (a .nodes .now) (a .strings .now) (a .t) (a .w .now)) (a .n) (a .w .now))
+    assign-all (λ v. keyIn v (a .nodes .now) (a .strings .now) (a .layout) (a .w .now)) (a .n) (a .w .now) (a .w .now) 0 0 (a .source .version) (to .pre .1)
+    (λ v f. assign-none (keyIn v (a .nodes .now) (a .strings .now) (a .layout) (a .w .now)) (a .n) (a .w .now))
 
 add-word : tie.Need-add-word Inv-loop μ-loop
 add-word c = search needs

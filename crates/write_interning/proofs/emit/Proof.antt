@@ -13,13 +13,13 @@ use Rattle.write_interning.proofs.emit.Statement.{statement}
 use Rattle.write_interning.proofs.emit.Tie as tie
 
 abbrev Inv-loop : tie.InvT-loop
-Inv-loop nodes strings w t n out₀ source end₀ k₀ out end k = Emitting (keyIn (source .version) nodes strings t w) n out₀ out k end
+Inv-loop nodes strings w layout n out₀ source end₀ k₀ out end k = Emitting (keyIn (source .version) nodes strings layout w) n out₀ out k end
 
 abbrev μ-loop : tie.MeasureT-loop
-μ-loop nodes strings w t n out₀ source end₀ k₀ out end k = n - k
+μ-loop nodes strings w layout n out₀ source end₀ k₀ out end k = n - k
 
 abbrev key : tie.At-loop Inv-loop μ-loop → ℕ → List ℕ
-key c = let to = c .before .before .before .before .before in keyIn (to .args .source .version) (to .args .nodes .now) (to .args .strings .now) (to .args .t) (to .args .w .now)
+key c = let to = c .before .before .before .before .before in keyIn (to .args .source .version) (to .args .nodes .now) (to .args .strings .now) (to .args .layout) (to .args .w .now)
 
 -- a text that is written: where it belongs, its length, and that it fits
 record Due (key : ℕ → List ℕ) (n : ℕ) (o x : List ℕ) (k end len : ℕ) : Type 0 where
@@ -41,7 +41,7 @@ due c =
 loop-holds : tie.Need-loop-holds Inv-loop μ-loop
 loop-holds c =
     let to = c .before .before .before .before in
-    emit-none (keyIn (to .args .source .version) (to .args .nodes .now) (to .args .strings .now) (to .args .t) (to .args .w .now)) (to .args .n) (to .args .out .now)
+    emit-none (keyIn (to .args .source .version) (to .args .nodes .now) (to .args .strings .now) (to .args .layout) (to .args .w .now)) (to .args .n) (to .args .out .now)
 
 add-word : tie.Need-add-word Inv-loop μ-loop
 add-word c = search needs

@@ -16,8 +16,8 @@ use Rattle.write_interning.proofs.intern.Tie as tie
 abbrev by : tie.After-arrange → List ℕ → ℕ → List ℕ
 by c d =
     let to = c .before .before .before .before .before in
-    let t = to .args .t in
-    keyOf (to .args .source .version) (to .args .nodes .now) (to .args .strings .now) (t .texts) (t .paths) (t .lengths) d
+    let l = to .args .layout in
+    keyOf (to .args .source .version) (to .args .nodes .now) (to .args .strings .now) (l .texts) (l .paths) (l .lengths) d
 
 arrange-requires : tie.Need-arrange-requires
 arrange-requires c κs = search needs

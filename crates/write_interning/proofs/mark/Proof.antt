@@ -14,19 +14,19 @@ use Rattle.write_interning.proofs.mark.Statement.{statement}
 use Rattle.write_interning.proofs.mark.Tie as tie
 
 abbrev Inv-loop : tie.InvT-loop
-Inv-loop nodes strings w₀ t n source i₀ w i = Marking (keyIn (source .version) nodes strings t w₀) n w₀ w i
+Inv-loop nodes strings w₀ layout n source i₀ w i = Marking (keyIn (source .version) nodes strings layout w₀) n w₀ w i
 
 abbrev μ-loop : tie.MeasureT-loop
-μ-loop nodes strings w₀ t n source i₀ w i = n - i
+μ-loop nodes strings w₀ layout n source i₀ w i = n - i
 
 -- the texts by the tables where the pass began
 abbrev key : tie.At-loop Inv-loop μ-loop → ℕ → List ℕ
-key c = let to = c .before .before .before .before in keyIn (to .args .source .version) (to .args .nodes .now) (to .args .strings .now) (to .args .t) (to .args .w .now)
+key c = let to = c .before .before .before .before in keyIn (to .args .source .version) (to .args .nodes .now) (to .args .strings .now) (to .args .layout) (to .args .w .now)
 
-behind : (c : tie.At-loop Inv-loop μ-loop) → let to = c .before .before .before .before in drop (to .args .t .at) (c .loop .w) ≡ drop (to .args .t .at) (to .args .w .now)
+behind : (c : tie.At-loop Inv-loop μ-loop) → let to = c .before .before .before .before in drop (to .args .layout .at) (c .loop .w) ≡ drop (to .args .layout .at) (to .args .w .now)
 behind c =
     let to = c .before .before .before .before in
-    drop-later (to .args .n + to .args .n) (to .args .t .at) (c .loop .w) (to .args .w .now) (c .loop .inv .behind) (omega arith)
+    drop-later (to .args .n + to .args .n) (to .args .layout .at) (c .loop .w) (to .args .w .now) (c .loop .inv .behind) (omega arith)
 
 order : (c : tie.At-loop Inv-loop μ-loop) → let to = c .before .before .before .before in Order (key c) (to .args .n) (take (to .args .n) (to .args .w .now))
 order c = let to = c .before .before .before .before in rw (to .pre .1) (order-isort (key c) (to .args .n))
@@ -42,7 +42,7 @@ there c =
 loop-holds : tie.Need-loop-holds Inv-loop μ-loop
 loop-holds c =
     let to = c .before .before .before in
-    mark-none (keyIn (to .args .source .version) (to .args .nodes .now) (to .args .strings .now) (to .args .t) (to .args .w .now)) (to .args .n) (to .args .w .now)
+    mark-none (keyIn (to .args .source .version) (to .args .nodes .now) (to .args .strings .now) (to .args .layout) (to .args .w .now)) (to .args .n) (to .args .w .now)
 
 head-of-requires : tie.Need-head-of-requires Inv-loop μ-loop
 head-of-requires c κs = search needs
@@ -72,9 +72,9 @@ loop-again : tie.Need-loop-again Inv-loop μ-loop
 loop-again c =
     let at = c .before .before .before .before .before in
     let to = at .before .before .before .before in
-    let t = to .args .t in
+    let l = to .args .layout in
     let e = c .before .before .head-of .ensures
-    ∙ ap (λ (d : List ℕ). headOf (byKey (keyOf (to .args .source .version) (to .args .nodes .now) (to .args .strings .now) (t .texts) (t .paths) (t .lengths) d)) (at .loop .w) (to .args .n) (at .loop .i)) (behind at) in
+    ∙ ap (λ (d : List ℕ). headOf (byKey (keyOf (to .args .source .version) (to .args .nodes .now) (to .args .strings .now) (l .texts) (l .paths) (l .lengths) d)) (at .loop .w) (to .args .n) (at .loop .i)) (behind at) in
     rw (c .word .ensures)
     (mark-step (key at) (to .args .n) (to .args .w .now) (omega arith) (order at) (at .loop .w) (at .loop .i) (c .before .before .head-of .result) (at .loop .inv) (c .before .before .before .before .loop-test .taken) e)
 

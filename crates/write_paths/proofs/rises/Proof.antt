@@ -15,10 +15,10 @@ use Rattle.write_paths.proofs.rises.Statement.{statement}
 use Rattle.write_paths.proofs.rises.Tie as tie
 
 abbrev Inv-loop : tie.InvT-loop
-Inv-loop nodes strings w t n source i₀ i = (1 ≤ i) × (allOf i (rising (λ j. keyIn (source .version) nodes strings t w (getD w j 0))) ≡ true)
+Inv-loop nodes strings w layout n source i₀ i = (1 ≤ i) × (allOf i (rising (λ j. keyIn (source .version) nodes strings layout w (getD w j 0))) ≡ true)
 
 abbrev μ-loop : tie.MeasureT-loop
-μ-loop nodes strings w t n source i₀ i = n - i
+μ-loop nodes strings w layout n source i₀ i = n - i
 
 loop-holds : tie.Need-loop-holds Inv-loop μ-loop
 unfolding allOf
@@ -40,7 +40,7 @@ returns : tie.Need-returns Inv-loop μ-loop
 returns c =
     let loop = c .before .before .before .before .before in
     let to = loop .before .before .before .before .args in
-    let key = keyIn (to .source .version) (to .nodes .now) (to .strings .now) (to .t) (to .w .now) in
+    let key = keyIn (to .source .version) (to .nodes .now) (to .strings .now) (to .layout) (to .w .now) in
     let here = rises-at key (to .w .now) _ _ _ _ (loop .loop .inv .0) (c .before .before .before .word .ensures) (c .before .before .word2 .ensures) (c .before .below .ensures) in
     sym (all-fails _ _ _ (c .before .before .before .before .loop-test .taken) (here ∙ not-true _ (c .if1 .taken)))
 
@@ -54,7 +54,7 @@ loop-again : tie.Need-loop-again Inv-loop μ-loop
 loop-again c =
     let loop = c .before .before .before .before .before in
     let to = loop .before .before .before .before .args in
-    let key = keyIn (to .source .version) (to .nodes .now) (to .strings .now) (to .t) (to .w .now) in
+    let key = keyIn (to .source .version) (to .nodes .now) (to .strings .now) (to .layout) (to .w .now) in
     let here = rises-at key (to .w .now) _ _ _ _ (loop .loop .inv .0) (c .before .before .before .word .ensures) (c .before .before .word2 .ensures) (c .before .below .ensures) in
     (search needs, all-next _ _ (loop .loop .inv .1) (here ∙ not-false _ (c .if1 .left)))
 

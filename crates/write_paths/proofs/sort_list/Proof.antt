@@ -1,4 +1,5 @@
 -- `write_paths::sort_list` meets its contract.
+use mathlib.Core.Path.{_∙_}
 use borrow.Author.Tests.{not-true, not-false}
 use Rattle.write_paths.proofs.NodeList.{arranged, arranged-not}
 use borrow.Author.Needs.{needs}
@@ -20,9 +21,10 @@ same-length c = search needs
 returns : tie.Need-returns
 returns c =
     let to = c .before .before .before .before .before .before .before .before .before .before .before .before .before .before in
-    let counted = c .before .before .before .before .before .before .before .before .before .number .ensures in
-    let sorted = c .before .before .before .before .before .sort .ensures in
-    arranged-not _ _ _ _ _ _ _ _ (to .pre .0) (to .pre .1) (counted .1) (counted .2) (sorted .0) (sorted .1) (search needs) _ (c .before .rises .ensures) (not-true _ (c .if1 .taken))
+    let number = c .before .before .before .before .before .before .before .before .before .number in
+    let sort = c .before .before .before .before .before .sort in
+    arranged-not _ _ _ (to .args .layout) _ _ _ _ (to .pre .0) (to .pre .1) (number .ensures .1) (number .ensures .2) (sort .ensures .0) (sort .ensures .1)
+    (sort .kept .1 .1 .0 ∙ number .kept .0) _ (c .before .rises .ensures) (not-true _ (c .if1 .taken))
 
 add-list : tie.Need-add-list
 add-list c = search needs
@@ -39,11 +41,12 @@ same-length-2 c = search needs
 returns-2 : tie.Need-returns-2
 returns-2 c =
     let to = c .before .before .before .before .before .before .before .before .before .before .before .before .before .before .before .before .before .before .before .before .before .before .before in
-    let counted = c .before .before .before .before .before .before .before .before .before .before .before .before .before .before .before .before .before .before .number .ensures in
-    let sorted = c .before .before .before .before .before .before .before .before .before .before .before .before .before .before .sort .ensures in
+    let number = c .before .before .before .before .before .before .before .before .before .before .before .before .before .before .before .before .before .before .number in
+    let sort = c .before .before .before .before .before .before .before .before .before .before .before .before .before .before .sort in
     let rising = c .before .before .before .before .before .before .before .before .before .before .rises .ensures in
     let yes = not-false _ (c .before .before .before .before .before .before .before .before .before .if1 .left) in
-    arranged _ _ _ _ _ _ _ _ (to .pre .0) (to .pre .1) (counted .1) (counted .2) (sorted .0) (sorted .1) (search needs) _ rising yes _ _
+    arranged _ _ _ (to .args .layout) _ _ _ _ (to .pre .0) (to .pre .1) (number .ensures .1) (number .ensures .2) (sort .ensures .0) (sort .ensures .1)
+    (sort .kept .1 .1 .0 ∙ number .kept .0) _ rising yes _ _
     (c .before .before .before .before .before .before .gather .ensures) (c .before .before .settle .ensures)
 
 pub sort-list-spec : {M : Type 1} → statement M

@@ -13,7 +13,7 @@ add-n c = search needs
 returns : tie.Need-returns
 returns c =
     let to = c .before .before .before .before .args in
-    (stored-many (keyIn (to .source .version) (to .nodes .now) (to .strings .now) (to .t) (to .w .now)) (to .t .texts) (to .paths) [] (c .if1 .taken), refl)
+    (stored-many (keyIn (to .source .version) (to .nodes .now) (to .strings .now) (to .layout) (to .w .now)) (to .layout .texts) (to .paths) [] (c .if1 .taken), refl)
 
 intern-requires : tie.Need-intern-requires
 intern-requires c κs = search needs
@@ -32,7 +32,7 @@ returns-2 c =
     let to = c .before .before .before .before .before .before .before .before .before .before .before .args in
     let if1 = c .before .before .before .before .before .before .before .if1 in
     let intern = c .before .before .before .before .before .intern in (
-      stored-whole (keyIn (to .source .version) (to .nodes .now) (to .strings .now) (to .t) (to .w .now)) (to .t .texts) (to .paths) _ _ (intern .last .1 .1 .0) (if1 .left)
+      stored-whole (keyIn (to .source .version) (to .nodes .now) (to .strings .now) (to .layout) (to .w .now)) (to .layout .texts) (to .paths) _ _ (intern .last .1 .1 .0) (if1 .left)
           (intern .ensures .0) (intern .ensures .1 .0) (c .before .strings .given .1),
       intern .ensures .1 .1,
     )
@@ -45,7 +45,7 @@ returns-3 c =
     let to = c .before .before .before .before .before .before .before .before .before .before .args in
     let if1 = c .before .before .before .before .before .before .if1 in
     let intern = c .before .before .before .before .intern in (
-      stored-long (keyIn (to .source .version) (to .nodes .now) (to .strings .now) (to .t) (to .w .now)) (to .t .texts) (to .paths) _ [] (if1 .left) (intern .ensures .0)
+      stored-long (keyIn (to .source .version) (to .nodes .now) (to .strings .now) (to .layout) (to .w .now)) (to .layout .texts) (to .paths) _ [] (if1 .left) (intern .ensures .0)
           (c .enum-told .given .1),
       intern .ensures .1 .1,
     )

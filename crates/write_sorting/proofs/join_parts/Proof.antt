@@ -48,12 +48,12 @@ same-length-2 c = search needs
 returns-2 : tie.Need-returns-2
 returns-2 c =
     let to = c .before .before .before .before .before .before .before .before .before .before .before .before in
-    let key = keyIn (to .args .source .version) (to .args .nodes .now) (to .args .strings .now) (to .args .t) (to .args .w .now) in
+    let key = keyIn (to .args .source .version) (to .args .nodes .now) (to .args .strings .now) (to .args .layout) (to .args .w .now) in
     let copied = c .before .before .copy-down in
     let f = sym (c .before .before .before .before .before .below .ensures) ∙ c .before .before .before .before .if1 .left in (
       down-joined (byKey key) (to .args .w .now) (copied .last .0) (to .args .m) (to .args .n) (key-strict key) (omega arith) (omega arith) (omega arith) (to .pre .1) f (copied .ensures),
-      ap (drop (to .args .t .at)) (copied .ensures)
-          ∙ paste-behind (to .args .w .now) (drop (to .args .n) (to .args .w .now)) 0 (to .args .m) (to .args .t .at) (omega arith) (omega (arith, length-drop (to .args .n) (to .args .w .now))) (omega arith),
+      ap (drop (to .args .layout .at)) (copied .ensures)
+          ∙ paste-behind (to .args .w .now) (drop (to .args .n) (to .args .w .now)) 0 (to .args .m) (to .args .layout .at) (omega arith) (omega (arith, length-drop (to .args .n) (to .args .w .now))) (omega arith),
     )
 
 pub join-parts-spec : {M : Type 1} → statement M

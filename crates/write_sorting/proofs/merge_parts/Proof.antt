@@ -14,34 +14,34 @@ use Rattle.write_sorting.proofs.merge_parts.Statement.{statement}
 use Rattle.write_sorting.proofs.merge_parts.Tie as tie
 
 abbrev Inv-loop : tie.InvT-loop
-Inv-loop nodes strings w₀ t m n source i₀ j₀ k₀ w i j k = Placing (byKey (keyIn (source .version) nodes strings t w₀)) w₀ m n w i j k
+Inv-loop nodes strings w₀ layout m n source i₀ j₀ k₀ w i j k = Placing (byKey (keyIn (source .version) nodes strings layout w₀)) w₀ m n w i j k
 
 abbrev μ-loop : tie.MeasureT-loop
-μ-loop nodes strings w₀ t m n source i₀ j₀ k₀ w i j k = (n + m) - k
+μ-loop nodes strings w₀ layout m n source i₀ j₀ k₀ w i j k = (n + m) - k
 
 -- the order by the tables where the merge began
 abbrev by : tie.At-loop Inv-loop μ-loop → ℕ → ℕ → Bool
-by c = let to = c .before .before .before .before in byKey (keyIn (to .args .source .version) (to .args .nodes .now) (to .args .strings .now) (to .args .t) (to .args .w .now))
+by c = let to = c .before .before .before .before in byKey (keyIn (to .args .source .version) (to .args .nodes .now) (to .args .strings .now) (to .args .layout) (to .args .w .now))
 
 -- the tables stay, so the order does
-behind : (c : tie.At-loop Inv-loop μ-loop) → let to = c .before .before .before .before in drop (to .args .t .at) (c .loop .w) ≡ drop (to .args .t .at) (to .args .w .now)
+behind : (c : tie.At-loop Inv-loop μ-loop) → let to = c .before .before .before .before in drop (to .args .layout .at) (c .loop .w) ≡ drop (to .args .layout .at) (to .args .w .now)
 behind c =
     let to = c .before .before .before .before in
-    placing-behind (by c) (to .args .w .now) (to .args .m) (to .args .n) (to .pre .0) (omega arith) (c .loop .w) (c .loop .i) (c .loop .j) (c .loop .k) (c .loop .inv) (to .args .t .at) (omega arith)
+    placing-behind (by c) (to .args .w .now) (to .args .m) (to .args .n) (to .pre .0) (omega arith) (c .loop .w) (c .loop .i) (c .loop .j) (c .loop .k) (c .loop .inv) (to .args .layout .at) (omega arith)
 
 order-kept : (c : tie.At-loop Inv-loop μ-loop) →
     let to = c .before .before .before .before in
-    takesRight (byKey (keyIn (to .args .source .version) (to .args .nodes .now) (to .args .strings .now) (to .args .t) (c .loop .w))) (c .loop .w) (to .args .n) (c .loop .i) (c .loop .j)
+    takesRight (byKey (keyIn (to .args .source .version) (to .args .nodes .now) (to .args .strings .now) (to .args .layout) (c .loop .w))) (c .loop .w) (to .args .n) (c .loop .i) (c .loop .j)
     ≡ takesRight (by c) (c .loop .w) (to .args .n) (c .loop .i) (c .loop .j)
 order-kept c =
     let to = c .before .before .before .before in
-    let t = to .args .t in
-    ap (λ (d : List ℕ). takesRight (byKey (keyOf (to .args .source .version) (to .args .nodes .now) (to .args .strings .now) (t .texts) (t .paths) (t .lengths) d)) (c .loop .w) (to .args .n) (c .loop .i) (c .loop .j)) (behind c)
+    let l = to .args .layout in
+    ap (λ (d : List ℕ). takesRight (byKey (keyOf (to .args .source .version) (to .args .nodes .now) (to .args .strings .now) (l .texts) (l .paths) (l .lengths) d)) (c .loop .w) (to .args .n) (c .loop .i) (c .loop .j)) (behind c)
 
 loop-holds : tie.Need-loop-holds Inv-loop μ-loop
 loop-holds c =
     let to = c .before .before .before in
-    placing-none (byKey (keyIn (to .args .source .version) (to .args .nodes .now) (to .args .strings .now) (to .args .t) (to .args .w .now))) (to .args .w .now) (to .args .m) (to .args .n) (to .pre .0) (omega arith)
+    placing-none (byKey (keyIn (to .args .source .version) (to .args .nodes .now) (to .args .strings .now) (to .args .layout) (to .args .w .now))) (to .args .w .now) (to .args .m) (to .args .n) (to .pre .0) (omega arith)
 
 takes-right-requires : tie.Need-takes-right-requires Inv-loop μ-loop
 takes-right-requires c κs = search needs

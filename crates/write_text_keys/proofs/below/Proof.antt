@@ -24,9 +24,9 @@ texts-below-requires c κs = search needs
 returns : tie.Need-returns
 returns c =
     let to = c .before .before .before .before .before .before .before .before .before .args in
-    let tab = drop (to .t .at) (to .w .now) in
+    let tab = drop (to .layout .at) (to .w .now) in
     c .texts-below .ensures
-    ∙ rw (tail-part (to .t .at) (to .w .now), text-key (to .source .version) (to .nodes .now) (to .strings .now) (to .t .texts) (to .t .paths) (to .t .lengths) tab (to .a) (c .before .before .before .if1 .taken), text-key (to .source .version) (to .nodes .now) (to .strings .now) (to .t .texts) (to .t .paths) (to .t .lengths) tab (to .b) (c .before .if2 .taken))
+    ∙ rw (tail-part (to .layout .at) (to .w .now), text-key (to .source .version) (to .nodes .now) (to .strings .now) (to .layout .texts) (to .layout .paths) (to .layout .lengths) tab (to .a) (c .before .before .before .if1 .taken), text-key (to .source .version) (to .nodes .now) (to .strings .now) (to .layout .texts) (to .layout .paths) (to .layout .lengths) tab (to .b) (c .before .if2 .taken))
 
 ends-below-requires : tie.Need-ends-below-requires
 ends-below-requires c κs = search needs
@@ -34,7 +34,7 @@ ends-below-requires c κs = search needs
 returns-2 : tie.Need-returns-2
 returns-2 c =
     let to = c .before .before .before .before .before .before .before .args in
-    c .ends-below .ensures ∙ rw (tail-part (to .t .at) (to .w .now))
+    c .ends-below .ensures ∙ rw (tail-part (to .layout .at) (to .w .now))
 
 pub below-spec : {M : Type 1} → statement M
 below-spec =

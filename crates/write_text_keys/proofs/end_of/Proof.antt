@@ -19,7 +19,7 @@ word-requires-2 c κs = search needs
 returns : tie.Need-returns
 returns c =
     let to = c .before .before .before .before .before .before .args in
-    end-text (to .t .texts) (to .a) (to .tab .now) (to .source .version) (to .nodes .now) (to .t .paths) (c .before .word .result) (c .word2 .result) (c .before .before .if1 .taken) (c .before .word .ensures) (c .word2 .ensures)
+    end-text (to .layout .texts) (to .a) (to .tab .now) (to .source .version) (to .nodes .now) (to .layout .paths) (c .before .word .result) (c .word2 .result) (c .before .before .if1 .taken) (c .before .word .ensures) (c .word2 .ensures)
 
 node-of-requires : tie.Need-node-of-requires
 node-of-requires c κs = search needs
@@ -30,7 +30,7 @@ at-end-requires c κs = search needs
 returns-2 : tie.Need-returns-2
 returns-2 c =
     let to = c .before .before .before .before .before .before .args in
-    end-path (to .t .texts) (to .a) (to .tab .now) (to .source .version) (to .nodes .now) (to .t .paths) (c .before .node-of .result) (c .at-end .result) (c .before .before .if1 .left) (c .before .node-of .ensures) (c .at-end .ensures)
+    end-path (to .layout .texts) (to .a) (to .tab .now) (to .source .version) (to .nodes .now) (to .layout .paths) (c .before .node-of .result) (c .at-end .result) (c .before .before .if1 .left) (c .before .node-of .ensures) (c .at-end .ensures)
 
 pub end-of-spec : {M : Type 1} → statement M
 end-of-spec =

@@ -36,7 +36,7 @@ returns c =
     let to = c .before .before .before .before .before .before .before .before .before .before .args in
     c .read-below .ensures
     ∙ rw (c .before .skip .ensures, d .ensures, e .ensures)
-    (below-shorter (to .source .version) (to .nodes .now) (to .strings .now) (to .t .texts) (to .t .paths) (to .t .lengths) (to .tab .now) (to .a) (to .b) (m .result) (n .result) (m .ensures) (n .ensures) (omega arith))
+    (below-shorter (to .source .version) (to .nodes .now) (to .strings .now) (to .layout .texts) (to .layout .paths) (to .layout .lengths) (to .tab .now) (to .a) (to .b) (m .result) (n .result) (m .ensures) (n .ensures) (omega arith))
 
 skip-requires-2 : tie.Need-skip-requires-2
 skip-requires-2 c κs = search needs
@@ -53,7 +53,7 @@ returns-2 c =
     let to = c .before .before .before .before .before .before .before .before .before .before .args in
     c .read-below2 .ensures
     ∙ rw (c .before .skip2 .ensures, d .ensures, e .ensures)
-    (below-longer (to .source .version) (to .nodes .now) (to .strings .now) (to .t .texts) (to .t .paths) (to .t .lengths) (to .tab .now) (to .a) (to .b) (m .result) (n .result) (m .ensures) (n .ensures) (omega arith))
+    (below-longer (to .source .version) (to .nodes .now) (to .strings .now) (to .layout .texts) (to .layout .paths) (to .layout .lengths) (to .tab .now) (to .a) (to .b) (m .result) (n .result) (m .ensures) (n .ensures) (omega arith))
 
 pub ends-below-spec : {M : Type 1} → statement M
 ends-below-spec =

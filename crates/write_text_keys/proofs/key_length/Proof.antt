@@ -24,7 +24,7 @@ length-of-requires c κs = search needs
 returns : tie.Need-returns
 returns c =
     let to = c .before .before .before .before .args in
-    λ version nodes. c .length-of .ensures ∙ rw (tail-part (to .t .at) (to .w .now)) (sym (key-length version nodes (to .strings .now) (to .t .texts) (to .t .paths) (to .t .lengths) (drop (to .t .at) (to .w .now)) (to .a)))
+    λ version nodes. c .length-of .ensures ∙ rw (tail-part (to .layout .at) (to .w .now)) (sym (key-length version nodes (to .strings .now) (to .layout .texts) (to .layout .paths) (to .layout .lengths) (drop (to .layout .at) (to .w .now)) (to .a)))
 
 pub key-length-spec : {M : Type 1} → statement M
 key-length-spec =

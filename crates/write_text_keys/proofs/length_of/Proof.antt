@@ -10,7 +10,7 @@ text-of-requires c κs = search needs
 returns : tie.Need-returns
 returns c =
     let to = c .before .before .before .before .before .args in
-    length-text (to .t .texts) (to .a) (to .tab .now) (to .strings .now) (c .text-of .result .now) (to .t .paths) (to .t .lengths) (c .before .if1 .taken) (c .text-of .ensures)
+    length-text (to .layout .texts) (to .a) (to .tab .now) (to .strings .now) (c .text-of .result .now) (to .layout .paths) (to .layout .lengths) (c .before .if1 .taken) (c .text-of .ensures)
 
 node-of-requires : tie.Need-node-of-requires
 node-of-requires c κs = search needs
@@ -21,7 +21,7 @@ long-of-requires c κs = search needs
 returns-2 : tie.Need-returns-2
 returns-2 c =
     let to = c .before .before .before .before .before .before .args in
-    length-path (to .t .texts) (to .a) (to .tab .now) (to .strings .now) (to .t .paths) (to .t .lengths) (c .before .node-of .result) (c .long-of .result) (c .before .before .if1 .left) (c .before .node-of .ensures) (c .long-of .ensures)
+    length-path (to .layout .texts) (to .a) (to .tab .now) (to .strings .now) (to .layout .paths) (to .layout .lengths) (c .before .node-of .result) (c .long-of .result) (c .before .before .if1 .left) (c .before .node-of .ensures) (c .long-of .ensures)
 
 pub length-of-spec : {M : Type 1} → statement M
 length-of-spec =

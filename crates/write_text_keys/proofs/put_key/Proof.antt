@@ -25,7 +25,7 @@ text-of-requires c κs = search needs
 put-text-requires : tie.Need-put-text-requires
 put-text-requires c κs =
     let to = c .before .before .before .before .before .before .before .before .before .args in
-    let key = text-written (to .source .version) (to .nodes .now) (to .strings .now) (to .t .texts) (to .t .paths) (to .t .lengths) (to .t .at) (to .w .now) (c .before .text-of .result .now) (to .a) (c .before .before .if1 .taken) (c .before .text-of .ensures) in
+    let key = text-written (to .source .version) (to .nodes .now) (to .strings .now) (to .layout .texts) (to .layout .paths) (to .layout .lengths) (to .layout .at) (to .w .now) (c .before .text-of .result .now) (to .a) (c .before .before .if1 .taken) (c .before .text-of .ensures) in
     omega (arith, ap length key, c .before .before .before .before .before .before .before .before .before .pre .1)
 
 same-length : tie.Need-same-length
@@ -34,7 +34,7 @@ same-length c = search needs
 returns : tie.Need-returns
 returns c =
     let to = c .before .before .before .before .before .before .before .before .before .before .before .before .args in
-    let key = text-written (to .source .version) (to .nodes .now) (to .strings .now) (to .t .texts) (to .t .paths) (to .t .lengths) (to .t .at) (to .w .now) (c .before .before .before .before .text-of .result .now) (to .a) (c .before .before .before .before .before .if1 .taken) (c .before .before .before .before .text-of .ensures) in
+    let key = text-written (to .source .version) (to .nodes .now) (to .strings .now) (to .layout .texts) (to .layout .paths) (to .layout .lengths) (to .layout .at) (to .w .now) (c .before .before .before .before .text-of .result .now) (to .a) (c .before .before .before .before .before .if1 .taken) (c .before .before .before .before .text-of .ensures) in
     c .before .before .put-text .ensures ∙ rw (← key)
 
 node-of-requires : tie.Need-node-of-requires
@@ -52,7 +52,7 @@ put-read-requires c κs =
     let x = c .before .before .before .node-of in
     let end = c .before .before .at-end in
     let n = c .before .long-of in
-    let key = path-written (to .source .version) (to .nodes .now) (to .strings .now) (to .t .texts) (to .t .paths) (to .t .lengths) (to .t .at) (to .w .now) (to .a) (x .result) (n .result) (end .result) (c .before .before .before .before .if1 .left) (x .ensures) (end .ensures) (n .ensures) in
+    let key = path-written (to .source .version) (to .nodes .now) (to .strings .now) (to .layout .texts) (to .layout .paths) (to .layout .lengths) (to .layout .at) (to .w .now) (to .a) (x .result) (n .result) (end .result) (c .before .before .before .before .if1 .left) (x .ensures) (end .ensures) (n .ensures) in
     omega (arith, key .1, c .before .before .before .before .before .before .before .before .before .before .before .pre .1)
 
 same-length-2 : tie.Need-same-length-2
@@ -64,7 +64,7 @@ returns-2 c =
     let x = c .before .before .before .before .before .before .node-of in
     let end = c .before .before .before .before .before .at-end in
     let n = c .before .before .before .before .long-of in
-    let key = path-written (to .source .version) (to .nodes .now) (to .strings .now) (to .t .texts) (to .t .paths) (to .t .lengths) (to .t .at) (to .w .now) (to .a) (x .result) (n .result) (end .result) (c .before .before .before .before .before .before .before .if1 .left) (x .ensures) (end .ensures) (n .ensures) in
+    let key = path-written (to .source .version) (to .nodes .now) (to .strings .now) (to .layout .texts) (to .layout .paths) (to .layout .lengths) (to .layout .at) (to .w .now) (to .a) (x .result) (n .result) (end .result) (c .before .before .before .before .before .before .before .if1 .left) (x .ensures) (end .ensures) (n .ensures) in
     c .before .before .put-read .ensures ∙ rw (key .1, key .0)
 
 pub put-key-spec : {M : Type 1} → statement M

@@ -28,16 +28,16 @@ returns c =
     let entry-counts = c .before .before .before .before .before .entry-counts in
     let image-length = c .before .before .before .before .image-length in
     let s = draftOf (to .source .version) (to .nodes .now) (to .children .now) (to .named .now) (to .definitions .now) (to .items .now) (to .payload .now) (to .strings .now) in
-    put-short (to .ink) s (to .work .now) (to .l) (to .uses) asked (to .out .now) _ (rw (entry-counts .ensures) at (image-length .ensures)) _
+    put-short (to .ink) s (to .work .now) (to .layout) (to .uses) asked (to .out .now) _ (rw (entry-counts .ensures) at (image-length .ensures)) _
     (c .before .before .length .given .1) (c .if1 .taken)
 
-add-t21 : tie.Need-add-t21
-add-t21 c =
+add-planned : tie.Need-add-planned
+add-planned c =
     let to = c .before .before .before .before .before .before .before .before .before .before .before .before .before .before .before .before .args in
     let asked = c .before .before .before .before .before .before .before .before .before .before .before .before .before .before .before .before .pre in
     let entry-counts = c .before .before .before .before .before .before .entry-counts in
     let s = draftOf (to .source .version) (to .nodes .now) (to .children .now) (to .named .now) (to .definitions .now) (to .items .now) (to .payload .now) (to .strings .now) in
-    let room = offsets-room (to .ink) s (to .work .now) (to .l) (to .uses) asked (to .out .now) in
+    let room = offsets-room (to .ink) s (to .work .now) (to .layout) (to .uses) asked (to .out .now) in
     omega (arith, room, c .before .before .before .before .before .before .before .before .before .before .before .before .before .before .before .before .good .1 .1 .1 .1 .1 .1 .1 .1 .0)
 
 fill-requires : tie.Need-fill-requires
@@ -49,7 +49,7 @@ fill-requires c κs =
     let length = c .before .before .before .before .length in
     let s = draftOf (to .source .version) (to .nodes .now) (to .children .now) (to .named .now) (to .definitions .now) (to .items .now) (to .payload .now) (to .strings .now) in
     rw (entry-counts .ensures)
-    (fill-asks (to .ink) s (to .work .now) (to .l) (to .uses) asked (to .out .now) _ (rw (entry-counts .ensures) at (image-length .ensures)) _ (length .given .1)
+    (fill-asks (to .ink) s (to .work .now) (to .layout) (to .uses) asked (to .out .now) _ (rw (entry-counts .ensures) at (image-length .ensures)) _ (length .given .1)
     (c .before .before .if1 .left))
 
 returns-2 : tie.Need-returns-2
@@ -58,7 +58,7 @@ returns-2 c =
     let asked = c .before .before .before .before .before .before .before .before .before .before .before .before .before .pre in
     let entry-counts = c .before .before .before .entry-counts in
     let s = draftOf (to .source .version) (to .nodes .now) (to .children .now) (to .named .now) (to .definitions .now) (to .items .now) (to .payload .now) (to .strings .now) in
-    put-long (to .ink) s (to .work .now) (to .l) (to .uses) asked (to .out .now) _ (rw (entry-counts .ensures) at (c .before .before .image-length .ensures))
+    put-long (to .ink) s (to .work .now) (to .layout) (to .uses) asked (to .out .now) _ (rw (entry-counts .ensures) at (c .before .before .image-length .ensures))
     (c .enum-told .given .1)
 
 same-length : tie.Need-same-length
@@ -73,7 +73,7 @@ returns-3 c =
     let length = c .before .before .before .before .before .before .before .length in
     let if1 = c .before .before .before .before .before .if1 in
     let s = draftOf (to .source .version) (to .nodes .now) (to .children .now) (to .named .now) (to .definitions .now) (to .items .now) (to .payload .now) (to .strings .now) in
-    put-done (to .ink) s (to .work .now) (to .l) (to .uses) asked (to .out .now) _ (rw (entry-counts .ensures) at (image-length .ensures)) _ (length .given .1) (if1 .left) _
+    put-done (to .ink) s (to .work .now) (to .layout) (to .uses) asked (to .out .now) _ (rw (entry-counts .ensures) at (image-length .ensures)) _ (length .given .1) (if1 .left) _
     (c .before .before .fill .ensures)
 
 pub put-image-spec : {M : Type 1} → statement M
@@ -86,7 +86,7 @@ put-image-spec =
     enum-known-length
     cast-if1
     returns
-    add-t21
+    add-planned
     fill-requires
     returns-2
     same-length

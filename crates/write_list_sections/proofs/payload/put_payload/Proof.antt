@@ -9,10 +9,10 @@ use Rattle.write_list_sections.proofs.payload.put_payload.Statement.{st
 use Rattle.write_list_sections.proofs.payload.put_payload.Tie as tie
 
 abbrev Inv-loop : tie.InvT-loop
-Inv-loop nodes payload w order offsets out₀ source count text₀ at₀ j₀ out text at j = Paying (source .version) nodes payload w order offsets out₀ out text at j
+Inv-loop nodes payload w out₀ source order count text₀ at₀ j₀ out text at j = Paying (source .version) nodes payload w order text₀ out₀ out text at j
 
 abbrev μ-loop : tie.MeasureT-loop
-μ-loop nodes payload w order offsets out₀ source count text₀ at₀ j₀ out text at j = length nodes / nodeWords (source .version) - j
+μ-loop nodes payload w out₀ source order count text₀ at₀ j₀ out text at j = length nodes / nodeWords (source .version) - j
 
 node-count-requires : tie.Need-node-count-requires Inv-loop μ-loop
 node-count-requires c κs = search needs

@@ -10,11 +10,11 @@ use Rattle.write_tree_sections.proofs.children.put_children.Statement.{
 use Rattle.write_tree_sections.proofs.children.put_children.Tie as tie
 
 abbrev Inv-loop : tie.InvT-loop
-Inv-loop nodes children work numbers out₀ source order count at₀ j₀ out at j =
-    Running 0 (length nodes / nodeWords (source .version)) (entry (source .version) nodes children work (numbers .order) (numbers .new)) out₀ out j at
+Inv-loop nodes children work layout out₀ source order count at₀ j₀ out at j =
+    Running 0 (length nodes / nodeWords (source .version)) (entry (source .version) nodes children work (layout .order) (layout .new)) out₀ out j at
 
 abbrev μ-loop : tie.MeasureT-loop
-μ-loop nodes children work numbers out₀ source order count at₀ j₀ out at j = length nodes / nodeWords (source .version) - j
+μ-loop nodes children work layout out₀ source order count at₀ j₀ out at j = length nodes / nodeWords (source .version) - j
 
 node-count-requires : tie.Need-node-count-requires Inv-loop μ-loop
 node-count-requires c κs = search needs

@@ -9,17 +9,17 @@ use Rattle.write_tree_sections.proofs.named.put_named.Statement.{statem
 use Rattle.write_tree_sections.proofs.named.put_named.Tie as tie
 
 abbrev Inv-loop : tie.InvT-loop
-Inv-loop nodes named work numbers out₀ source order count text₀ at₀ j₀ out text at j =
-    Naming (source .version) nodes named work numbers out₀ out text at j
+Inv-loop nodes named work layout offsets out₀ source order count text₀ at₀ j₀ out text at j =
+    Naming (source .version) nodes named work layout offsets out₀ out text at j
 
 abbrev μ-loop : tie.MeasureT-loop
-μ-loop nodes named work numbers out₀ source order count text₀ at₀ j₀ out text at j = length nodes / nodeWords (source .version) - j
+μ-loop nodes named work layout offsets out₀ source order count text₀ at₀ j₀ out text at j = length nodes / nodeWords (source .version) - j
 
 node-count-requires : tie.Need-node-count-requires Inv-loop μ-loop
 node-count-requires c κs = search needs
 
 loop-holds : tie.Need-loop-holds Inv-loop μ-loop
-loop-holds c = begin _ _ _ _ _ (c .before .before .before .before .before .pre .0) _ (c .before .before .before .before .before .pre .1)
+loop-holds c = begin _ _ _ _ _ _ (c .before .before .before .before .before .pre .0) _ (c .before .before .before .before .before .pre .1)
 
 add-word : tie.Need-add-word Inv-loop μ-loop
 add-word c = omega (arith, c .before .before .before .before .before .before .before .pre .0 .order .order-end)
@@ -46,10 +46,10 @@ put-named-of-requires c κs =
     let word = c .before .before .before .word in
     let node-at = c .before .before .node-at in
     let named-count = c .before .named-count in
-    let t = step-text _ _ _ _ _ (asked .0) _ _ _ _ _ (loop .inv) below _ (word .ensures) _ (node-at .ensures) _ (named-count .ensures) in (
+    let t = step-text _ _ _ _ _ _ (asked .0) _ _ _ _ _ (loop .inv) below _ (word .ensures) _ (node-at .ensures) _ (named-count .ensures) in (
       asked .0 .order .new-start,
       omega arith,
-      step-room _ _ _ _ _ (asked .0) _ _ _ _ _ (loop .inv) below _ (word .ensures) _ (node-at .ensures)
+      step-room _ _ _ _ _ _ (asked .0) _ _ _ _ _ (loop .inv) below _ (word .ensures) _ (node-at .ensures)
           _ (named-count .ensures),
     )
 
@@ -67,7 +67,7 @@ add-text c =
     let word = c .before .before .before .before .before .before .word in
     let node-at = c .before .before .before .before .before .node-at in
     let named-count = c .before .before .before .before .named-count in
-    step-text _ _ _ _ _ (asked .0) _ _ _ _ _ (loop .inv) below _ (word .ensures) _ (node-at .ensures) _ (named-count .ensures) in
+    step-text _ _ _ _ _ _ (asked .0) _ _ _ _ _ (loop .inv) below _ (word .ensures) _ (node-at .ensures) _ (named-count .ensures) in
     omega arith
 
 cast-at : tie.Need-cast-at Inv-loop μ-loop
@@ -87,8 +87,8 @@ add-at c =
     let word = c .before .before .before .before .before .before .word in
     let node-at = c .before .before .before .before .before .node-at in
     let named-count = c .before .before .before .before .named-count in
-    step-room _ _ _ _ _ (asked .0) _ _ _ _ _ (loop .inv) below _ (word .ensures) _ (node-at .ensures) _ (named-count .ensures) in
-    omega (arith, room, c .before .before .before .before .before .before .before .before .loop .inv .running .long, c .before .before .before .before .before .before .before .before .before .before .before .before .before .before .good .1 .1 .1 .1 .0)
+    step-room _ _ _ _ _ _ (asked .0) _ _ _ _ _ (loop .inv) below _ (word .ensures) _ (node-at .ensures) _ (named-count .ensures) in
+    omega (arith, room, c .before .before .before .before .before .before .before .before .loop .inv .running .long, c .before .before .before .before .before .before .before .before .before .before .before .before .before .before .good .1 .1 .1 .1 .1 .0)
 
 add-j : tie.Need-add-j Inv-loop μ-loop
 add-j c = search needs
@@ -106,14 +106,14 @@ loop-again c =
     let word = c .before .before .before .before .before .before .word in
     let node-at = c .before .before .before .before .before .node-at in
     let named-count = c .before .before .before .before .named-count in
-    step-next _ _ _ _ _ (asked .0) _ _ _ _ _ (loop .inv) below _ (word .ensures) _ (node-at .ensures) _ (named-count .ensures) _
+    step-next _ _ _ _ _ _ (asked .0) _ _ _ _ _ (loop .inv) below _ (word .ensures) _ (node-at .ensures) _ (named-count .ensures) _
     (c .before .before .put-named-of .ensures)
 
 same-length : tie.Need-same-length Inv-loop μ-loop
 same-length c = search needs
 
 returns : tie.Need-returns Inv-loop μ-loop
-returns c = λ s order kept e d k. finish s _ _ _ order _ kept _ (c .before .before .before .before .before .before .before .pre .0) _ _ _ _ _ (c .before .loop .inv) (rw (c .before .before .node-count .ensures) at (c .loop-test .left)) e d k
+returns c = λ s order kept e d k. finish s _ _ _ order _ kept _ _ (c .before .before .before .before .before .before .before .pre .0) _ _ _ _ _ (c .before .loop .inv) (rw (c .before .before .node-count .ensures) at (c .loop-test .left)) e d k
 
 pub put-named-spec : {M : Type 1} → statement M
 put-named-spec =

@@ -11,11 +11,11 @@ use Rattle.write_tree_sections.proofs.nodes.put_nodes.Statement.{statem
 use Rattle.write_tree_sections.proofs.nodes.put_nodes.Tie as tie
 
 abbrev Inv-loop : tie.InvT-loop
-Inv-loop nodes payload work numbers out₀ source order count size next-text₀ starts₀ at₀ j₀ out next-text starts at j =
-    Going (source .version) nodes payload work numbers out₀ out next-text starts at j
+Inv-loop nodes payload work layout out₀ source order count size next-text₀ starts₀ at₀ j₀ out next-text starts at j =
+    Going (source .version) nodes payload work layout out₀ out next-text starts at j
 
 abbrev μ-loop : tie.MeasureT-loop
-μ-loop nodes payload work numbers out₀ source order count size next-text₀ starts₀ at₀ j₀ out next-text starts at j = length nodes / nodeWords (source .version) - j
+μ-loop nodes payload work layout out₀ source order count size next-text₀ starts₀ at₀ j₀ out next-text starts at j = length nodes / nodeWords (source .version) - j
 
 node-count-requires : tie.Need-node-count-requires Inv-loop μ-loop
 node-count-requires c κs = search needs
