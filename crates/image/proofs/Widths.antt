@@ -32,6 +32,10 @@ is-ten version = refl
 pub size-words : (n version : ℕ) → n * (4 * nodeWords version) ≡ 4 * (n * nodeWords version)
 size-words n version = sym (mul-assoc n 4 (nodeWords version)) ∙ ap (λ (x : ℕ). x * nodeWords version) (mul-comm n 4) ∙ mul-assoc 4 n (nodeWords version)
 
+-- a node has two bytes at least
+pub nodes-fewer : (n version : ℕ) → n + n ≤ n * (4 * nodeWords version)
+nodes-fewer n version = omega (arith, size-words n version, mul-le-mul-left n (words-some version))
+
 -- the words before a node whose number is a word
 pub number-words : (i version : ℕ) → i ≤ NONE → i * nodeWords version ≤ NONE * 11
 unfolding nodeWords

@@ -5,6 +5,7 @@ use mathlib.Core.List.{List, [], _++_}
 use lib.ListN.{length, getD}
 use Rattle.words.specs.Words.{NONE}
 use Rattle.image.specs.Sections.{Sections, nodeCount}
+use Rattle.image.specs.declared.EntryCounts.{EntryCounts}
 use Rattle.image.specs.Encoding.{sectionOut}
 use Rattle.draft.specs.Source.{draftOf}
 use Rattle.draft.specs.Draft.{tablesRule, reachRule, shapeRule}
@@ -18,8 +19,7 @@ use Rattle.write_numbering.specs.declared.numbers.Numbers.{Numbers}
 use Rattle.write_paths.specs.declared.path_index.Paths.{Paths}
 use Rattle.write_paths.specs.PathIndex.{PathsAt, LengthsAt}
 use Rattle.write_image.specs.declared.Places.{Places}
-use Rattle.write_image.specs.declared.size.Entries.{Entries}
-use Rattle.write_image.specs.Length.{entriesOf, placesBy, imageLength}
+use Rattle.write_image.specs.Length.{imageCounts, placesBy, imageLength}
 
 -- rules 19 to 21 are kept, a word can say how long the image is, and the work words hold the numbers of the nodes and the offsets of
 -- the texts in use
@@ -111,11 +111,11 @@ abbrev pub pathsOf : Tables → ℕ → Paths
 pathsOf t count = record { nodes = t .at + t .paths; lengths = t .at + t .lengths; count = count }
 
 -- of the texts and tables: all is known of the draft, its index and the texts in use
-pub record Ready (s : Sections) (w : List ℕ) (n : Numbers) (t : Tables) (e : Entries) : Type 0 where
+pub record Ready (s : Sections) (w : List ℕ) (n : Numbers) (t : Tables) (c : EntryCounts) : Type 0 where
   pub told : Told s w n
-  pub entries : e ≡ entriesOf s
+  pub counts : c ≡ imageCounts s
   pub texts : t .texts ≡ length (textUses s (numbering s))
-  pub indexed : Indexed s w (pathsOf t (e .index))
+  pub indexed : Indexed s w (pathsOf t (c .index))
   pub keyed : Keyed s w n t
 
 -- the same for the sections, with the room that they take
@@ -124,5 +124,5 @@ pub record Sectioned (s : Sections) (w : List ℕ) (n : Numbers) (t : Tables) (p
   pub texts : t .texts ≡ length (textUses s (numbering s))
   pub indexed : Indexed s w p
   pub keyed : Keyed s w n t
-  pub places : q ≡ placesBy (s .version) (entriesOf s)
-  pub fits : placesBy (s .version) (entriesOf s) .end ≤ room
+  pub places : q ≡ placesBy (s .version) (imageCounts s)
+  pub fits : placesBy (s .version) (imageCounts s) .end ≤ room

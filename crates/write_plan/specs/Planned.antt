@@ -8,9 +8,9 @@ use lib.Dec.{leb}
 use Rattle.laws.specs.Refusal.{unless, _▸_}
 use Rattle.words.specs.Words.{NONE}
 use Rattle.image.specs.Sections.{Sections, nodeCount}
+use Rattle.image.specs.declared.EntryCounts.{EntryCounts}
 use Rattle.draft.specs.Draft.{tablesRule, writeWords, reachRule, shapeRule, pathsRule}
-use Rattle.draft.specs.declared.EntryCounts.{EntryCounts}
-use Rattle.draft.specs.Needs.{entryCounts}
+use Rattle.draft.specs.Needs.{draftCounts}
 use Rattle.draft.specs.Source.{draftOf}
 use Rattle.draft.specs.Numbering.{numbering, oldOf}
 use Rattle.write_text_uses.specs.Uses.{storedBytes}
@@ -32,7 +32,7 @@ layoutBy c needed =
     record { at = 2 * uses; paths = 2 * uses; lengths = 2 * uses + c .nodes; order = needed - 2 * c .nodes; new = needed - c .nodes }
 
 abbrev pub layoutOf : Sections → Layout
-layoutOf s = layoutBy (entryCounts s) (writeWords s)
+layoutOf s = layoutBy (draftCounts s) (writeWords s)
 
 -- the rules that are tested on the way. An image with more uses of texts than a word can count, or longer texts, is too long
 unfoldable pub planRule : Sections → ℕ

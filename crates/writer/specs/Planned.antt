@@ -3,14 +3,15 @@ use Prim.Native.Nat.{ℕ, _+_}
 use mathlib.Core.Path.{_≡_}
 use mathlib.Core.List.{List}
 use lib.ListN.{length}
-use Rattle.image.specs.Sections.{Sections, nodeCount, childCount, namedCount, definitionCount, itemCount}
+use Rattle.image.specs.Sections.{Sections}
+use Rattle.image.specs.declared.EntryCounts.{EntryCounts}
+use Rattle.image.specs.Counted.{countsWith}
 use Rattle.write_text_keys.specs.declared.Tables.{Tables}
 use Rattle.write_numbering.specs.declared.numbers.Numbers.{Numbers}
 use Rattle.write_plan.specs.declared.Layout.{Layout}
 use Rattle.write_plan.specs.declared.Uses.{Uses}
 use Rattle.draft.specs.Draft.{tablesRule, writeWords}
 use Rattle.write_plan.specs.Planned.{layoutOf, planRule, Prepared}
-use Rattle.write_image.specs.declared.size.Entries.{Entries}
 
 -- where numbers and offsets lie; offsets are behind the sorted uses
 abbrev pub numbersBy : Layout → Uses → Numbers
@@ -19,19 +20,9 @@ numbersBy l u = record { order = l .order; new = l .new; offsets = u .texts + u 
 abbrev pub tablesBy : Layout → Uses → Tables
 tablesBy l u = record { at = l .at; texts = u .texts; paths = l .paths; lengths = l .lengths }
 
--- the entries of the image
-abbrev pub entriesBy : Sections → Uses → Entries
-entriesBy s u =
-    record {
-      nodes = nodeCount s;
-      children = childCount s;
-      named = namedCount s;
-      definitions = definitionCount s;
-      items = itemCount s;
-      index = u .paths;
-      payload = length (s .payload);
-      strings = u .strings;
-    }
+-- the counts of the image
+abbrev pub countsBy : Sections → Uses → EntryCounts
+countsBy s u = countsWith s (u .paths) (u .strings)
 
 -- the tables of a draft are right, the plan passed, and the work words hold what was planned
 pub record Drawn (s : Sections) (w : List ℕ) (l : Layout) (u : Uses) : Type 0 where
