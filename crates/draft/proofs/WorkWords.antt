@@ -8,8 +8,8 @@ use mir.Val.{Fits}
 use lib.Dec.{leb}
 use borrow.Author.Tests.{le-leb, lt-leb, leb-true}
 use Rattle.laws.specs.Refusal.{unless}
+use Rattle.image.specs.declared.EntryCounts.{EntryCounts}
 use Rattle.draft.specs.declared.Needed.the-variants.{Words, TooMany}
-use Rattle.draft.specs.declared.EntryCounts.{EntryCounts}
 use Rattle.draft.specs.Needs.{wordsFor, neededOf, neededNumber}
 
 fewer : (needed work : ℕ) → work < needed → TooMany ≡ neededOf needed work

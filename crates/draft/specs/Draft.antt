@@ -14,7 +14,7 @@ use Rattle.records.specs.Records.{fieldsRule, parentRule, rootRight, usedUp, re
 use Rattle.tree.specs.Tree.{entriesRule, readWalk, allSeen, Walked, trees}
 use Rattle.index.specs.Paths.{nameless, canonicalPath, paths}
 use Rattle.index.specs.Definitions.{goodDefinition, goodItem, itemsRight, numberOfItems, itemsUsedUp, definitionText, itemTextOf, definitions}
-use Rattle.draft.specs.Needs.{entryCounts, wordsFor}
+use Rattle.draft.specs.Needs.{draftCounts, wordsFor}
 
 -- ---- 19: the tables
 
@@ -54,7 +54,7 @@ tablesRule s =
 -- ---- 7: the work words
 
 abbrev pub writeWords : Sections → ℕ
-writeWords s = wordsFor (entryCounts s)
+writeWords s = wordsFor (draftCounts s)
 
 -- ---- 20: every node is reached by entries from the root
 

@@ -2,23 +2,16 @@
 use Prim.Native.Nat.{ℕ, _+_, _*_}
 use mathlib.Core.Bool.{cond}
 use lib.Dec.{leb}
-use lib.ListN.{length}
-use Rattle.image.specs.Sections.{Sections, nodeCount, childCount, namedCount, definitionCount, itemCount}
+use Rattle.image.specs.Sections.{Sections}
 use Rattle.image.specs.Refusals.{tooFewWords}
-use Rattle.draft.specs.declared.EntryCounts.{EntryCounts}
+use Rattle.image.specs.declared.EntryCounts.{EntryCounts}
+use Rattle.image.specs.Counted.{countsWith}
 use Rattle.draft.specs.declared.Needed.{Needed}
 use Rattle.draft.specs.declared.Needed.the-variants.{Words, TooMany}
 
-abbrev pub entryCounts : Sections → EntryCounts
-entryCounts s =
-    record {
-      nodes = nodeCount s;
-      children = childCount s;
-      named = namedCount s;
-      definitions = definitionCount s;
-      items = itemCount s;
-      payload = length (s .payload);
-    }
+-- a draft has no index, and its strings are stored anew: neither is counted
+abbrev pub draftCounts : Sections → EntryCounts
+draftCounts s = countsWith s 0 0
 
 -- 7: 16 words a node, 4 for each other entry and payload byte
 abbrev pub wordsFor : EntryCounts → ℕ

@@ -7,8 +7,9 @@ pub mod layout; // layout.rt: where things lie in the work words
 ghost use mathlib.Core.Path.{_≡_};
 ghost use mathlib.Core.List.{[]};
 ghost use Rattle.draft.specs.Source.{draftOf};
-ghost use Rattle.draft.specs.Needs.{entryCounts, wordsFor, neededOf};
+ghost use Rattle.draft.specs.Needs.{draftCounts, wordsFor, neededOf};
 use crate::source::Source;
+use image::EntryCounts;
 use image::ImageView;
 
 // How many work words a draft needs, or that they are more than are lent.
@@ -17,17 +18,7 @@ pub enum Needed {
     TooMany,
 }
 
-// How many entries of each kind a draft has, and bytes of the payload.
-pub struct EntryCounts {
-    pub nodes: usize,
-    pub children: usize,
-    pub named: usize,
-    pub definitions: usize,
-    pub items: usize,
-    pub payload: usize,
-}
-
-// Counts the entries of a draft.
+// Counts the entries of a draft. It has no index, and its strings are stored anew: neither is counted.
 pub fn entry_counts(
     nodes: &[u32],
     children: &[u32],
@@ -39,7 +30,7 @@ pub fn entry_counts(
 ) -> EntryCounts
     ensures { λ r. ⌜ (let s = draftOf (source .version) (now (nodes .entry)) (now (children .entry)) (now (named .entry)) (now (definitions .entry))
         (now (items .entry)) (now (payload .entry)) [] in
-        r ≡ entryCounts s) ⌝ }
+        r ≡ draftCounts s) ⌝ }
 {
     EntryCounts {
         nodes: source::node_count(nodes, source),
@@ -47,7 +38,9 @@ pub fn entry_counts(
         named: named.len() / ImageView::TEXT_ENTRY_WORDS,
         definitions: definitions.len() / ImageView::DEFINITION_WORDS,
         items: items.len() / ImageView::TEXT_ENTRY_WORDS,
+        index: 0,
         payload: payload.len(),
+        strings: 0,
     }
 }
 

@@ -4,10 +4,12 @@ use mathlib.Core.Path.{_≡_, refl, sym, ap, _∙_}
 use mathlib.Core.List.{List, [], _∷_, _++_, append-assoc}
 use native.Mathlib.Omega.{arith}
 use native.Mathlib.Numerals.{add-one}
+use mir.Syntax.{w32}
+use mir.Val.{Fits}
 use lib.ListN.{length, getD, take, drop, set, length-set}
 use lib.Seq.{take-suc, drop-cons, set-at, append-snoc, length-take-le}
 use Rattle.laws.specs.Counted.{joinOf, sumOf}
-use Rattle.words.specs.Words.{bytes4, bytesOf}
+use Rattle.words.specs.Words.{bytes4, bytesOf, NONE}
 use Rattle.words.proofs.Words.{length-bytes}
 use Rattle.texts.specs.Text.{ascii}
 use Rattle.checksum.specs.Crc.{checksumOf}
@@ -16,9 +18,9 @@ use Rattle.image.specs.Sections.{Sections, nodeSize, nodeCount, childSiz
 use Rattle.image.specs.Encoding.{countOf, sectionOut, startOf, bodyOf, headerWith, imageOf}
 use Rattle.words.specs.Output.{over, putAt}
 use Rattle.words.proofs.FilledOutput.{more, front-is, filled-front}
-use Rattle.image.specs.declared.encoding.EntryCounts.{EntryCounts}
-use Rattle.image.specs.Counted.{CountsOf}
-use Rattle.image.proofs.Widths.{size-words, count-of}
+use Rattle.image.specs.declared.EntryCounts.{EntryCounts}
+use Rattle.image.specs.Counted.{lengthBy, CountsOf}
+use Rattle.image.proofs.Widths.{size-words, nodes-fewer, count-of}
 
 -- ---- a list that is copied over the start of another
 
@@ -80,16 +82,27 @@ module _ (long : ℕ) (c : EntryCounts) where
   start6 = start5 + c .index * textEntrySize
 
   abbrev start7 : ℕ
-  start7 = start6 + c .payload * 1
+  start7 = start6 + c .payload
 
   abbrev start8 : ℕ
-  start8 = start7 + c .strings * 1
+  start8 = start7 + c .strings
 
   -- the words behind the magic
   abbrev pub headerWords : ℕ → ℕ → List ℕ
   headerWords version ink =
       version ∷ ink ∷ start8 ∷ 88 ∷ c .nodes ∷ start1 ∷ c .children ∷ start2 ∷ c .named ∷ start3 ∷ c .definitions ∷ start4 ∷ c .items ∷ start5 ∷ c .index
       ∷ start6 ∷ c .payload ∷ start7 ∷ c .strings ∷ 0 ∷ []
+
+-- a word can say each count and each start, if it can say how long the image is
+module _ (version long : ℕ) (c : EntryCounts) (e : long ≡ c .nodes * nodeSize version) (h : lengthBy version c ≤ NONE) where
+  pub counts-fit : Fits w32 (c .nodes) × Fits w32 (c .children) × Fits w32 (c .named) × Fits w32 (c .definitions) × Fits w32 (c .items) × Fits w32 (c .index) × Fits w32 (c .payload)
+      × Fits w32 (c .strings)
+  counts-fit =
+      (omega (arith, nodes-fewer (c .nodes) version), omega arith, omega arith, omega arith, omega arith, omega arith, omega arith, omega arith)
+
+  pub starts-fit : Fits w32 (start1 long c) × Fits w32 (start2 long c) × Fits w32 (start3 long c) × Fits w32 (start4 long c) × Fits w32 (start5 long c) × Fits w32 (start6 long c)
+      × Fits w32 (start7 long c) × Fits w32 (start8 long c)
+  starts-fit = (omega arith, omega arith, omega arith, omega arith, omega arith, omega arith, omega arith, omega arith)
 
 module _ (version long : ℕ) (s : Sections) (c : EntryCounts) (e : long ≡ c .nodes * nodeSize version) (k : CountsOf version s c) where
   nodes-count : c .nodes ≡ nodeCount s

@@ -36,6 +36,10 @@ size-words n version = sym (mul-assoc n 4 (nodeWords version)) ∙ ap (λ (x : �
 pub least-size : (n version : ℕ) → n * (4 * commonWords) ≤ n * nodeSize version
 least-size n version = mul-le-mul-left n (omega (arith, words-some version))
 
+-- a node has two bytes at least
+pub nodes-fewer : (n version : ℕ) → n + n ≤ n * (4 * nodeWords version)
+nodes-fewer n version = omega (arith, size-words n version, mul-le-mul-left n (words-some version))
+
 -- the words before a node whose number is a word
 pub number-words : (i version : ℕ) → i ≤ NONE → i * nodeWords version ≤ NONE * (commonWords + 1)
 unfolding nodeWords

@@ -8,23 +8,12 @@ ghost use Rattle.image.specs.Header.{magic, headerLength};
 ghost use Rattle.image.specs.Sections.{Sections, nodeSize};
 ghost use Rattle.image.specs.Encoding.{headerWith, bodyOf, imageOf};
 ghost use Rattle.words.specs.Output.{over};
-ghost use Rattle.image.specs.Counted.{endOf, CountsOf};
+ghost use Rattle.image.specs.Counted.{lengthBy, CountsOf};
+use crate::EntryCounts;
 use crate::ImageView;
 use crate::node_size;
 use words::output::put_words;
 use words::put_word;
-
-// How many entries each section has.
-pub struct EntryCounts {
-    pub nodes: u32,
-    pub children: u32,
-    pub named: u32,
-    pub definitions: u32,
-    pub items: u32,
-    pub index: u32,
-    pub payload: u32,
-    pub strings: u32,
-}
 
 // Writes the magic at the start of the output.
 fn put_magic(out: &mut [u8])
@@ -40,46 +29,45 @@ fn put_magic(out: &mut [u8])
 }
 
 // Bytes of `count` nodes.
-fn nodes_length(version: u32, count: u32) -> u32
-    requires { ⌜ count * nodeSize version ≤ NONE ⌝ }
+pub fn nodes_length(version: u32, count: usize) -> usize
+    requires { ⌜ count * nodeSize version ≤ 18446744073709551615 ⌝ }
     ensures { λ r. ⌜ r ≡ count * nodeSize version ⌝ }
 {
-    count * node_size(version)
+    count * (node_size(version) as usize)
 }
 
 // Writes the header of an image whose checksum is not known yet: it is 0. The versions and the counts say the rest.
 pub fn put_header(version: u32, ink: u32, counts: EntryCounts, out: &mut [u8])
-    requires { ⌜ (headerLength ≤ length (now out)) × (endOf version counts ≤ NONE) ⌝ }
+    requires { ⌜ (headerLength ≤ length (now out)) × (lengthBy version counts ≤ NONE) ⌝ }
     ensures { λ r. ⌜ ((s : Sections) → CountsOf version s counts → now (out .exit) ≡ over (headerWith ink s 0) (now (out .entry))) ⌝ }
 {
-    let children = ImageView::HEADER_LENGTH as u32 + nodes_length(version, counts.nodes);
-    let named = children + counts.children * ImageView::CHILD_SIZE;
-    let definitions = named + counts.named * ImageView::NAMED_SIZE;
-    let items = definitions + counts.definitions * ImageView::DEFINITION_SIZE;
-    let index = items + counts.items * ImageView::ITEM_SIZE;
-    let payload = index + counts.index * ImageView::INDEX_SIZE;
-    let strings = payload + counts.payload * ImageView::PAYLOAD_SIZE;
-    let end = strings + counts.strings * ImageView::STRINGS_SIZE;
+    let children = ImageView::HEADER_LENGTH + nodes_length(version, counts.nodes);
+    let named = children + counts.children * ImageView::WORD_BYTES;
+    let definitions = named + counts.named * ImageView::TEXT_ENTRY_BYTES;
+    let items = definitions + counts.definitions * ImageView::DEFINITION_BYTES;
+    let index = items + counts.items * ImageView::TEXT_ENTRY_BYTES;
+    let payload = index + counts.index * ImageView::TEXT_ENTRY_BYTES;
+    let strings = payload + counts.payload;
     let words = [
         version,
         ink,
-        end,
+        (strings + counts.strings) as u32,
         ImageView::HEADER_LENGTH as u32,
-        counts.nodes,
-        children,
-        counts.children,
-        named,
-        counts.named,
-        definitions,
-        counts.definitions,
-        items,
-        counts.items,
-        index,
-        counts.index,
-        payload,
-        counts.payload,
-        strings,
-        counts.strings,
+        counts.nodes as u32,
+        children as u32,
+        counts.children as u32,
+        named as u32,
+        counts.named as u32,
+        definitions as u32,
+        counts.definitions as u32,
+        items as u32,
+        counts.items as u32,
+        index as u32,
+        counts.index as u32,
+        payload as u32,
+        counts.payload as u32,
+        strings as u32,
+        counts.strings as u32,
         0,
     ];
     put_magic(out);

@@ -21,6 +21,18 @@ pub struct Section {
     pub count: u32,
 }
 
+// How many entries each section has; of payload and strings, bytes.
+pub struct EntryCounts {
+    pub nodes: usize,
+    pub children: usize,
+    pub named: usize,
+    pub definitions: usize,
+    pub items: usize,
+    pub index: usize,
+    pub payload: usize,
+    pub strings: usize,
+}
+
 // What the header of an image says: the format version, the ink version and the eight sections.
 pub struct ImageView {
     pub version: u32,

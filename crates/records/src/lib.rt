@@ -26,7 +26,7 @@ ghost use Rattle.records.specs.Shown.{containerAmong, startsNext};
 ghost use Rattle.records.specs.Shown.{containerRule, choiceRule, divertRule, textRule, targetRule, assignmentRule, referenceRule, listRule};
 ghost use Rattle.records.specs.Shown.{fieldsBy, parentBy, rootBy, sumsAfter, usedUpBy};
 
-// How many nodes, ordered children and named children the sections have.
+// The counts of sections that the rules of a record ask for: nodes, ordered children, named children.
 pub struct Counts {
     pub nodes: usize,
     pub children: usize,

@@ -9,9 +9,10 @@ use lib.Dec.{leb}
 use borrow.Author.Tests.{le-leb, lt-leb}
 use Rattle.words.specs.Words.{NONE}
 use Rattle.image.specs.Sections.{textEntrySize}
-use Rattle.write_image.specs.declared.size.Entries.{Entries}
+use Rattle.image.specs.declared.EntryCounts.{EntryCounts}
+use Rattle.image.specs.Counted.{lengthBy}
 use Rattle.write_image.specs.declared.size.Size.the-variants.{Bytes, TooLong}
-use Rattle.write_image.specs.Length.{frontBy, lengthBy, capped, sizeOf}
+use Rattle.write_image.specs.Length.{frontBy, capped, sizeOf}
 
 pub capped-few : (n : ℕ) → n < 4294967296 → capped n ≡ n
 unfolding capped
@@ -44,7 +45,7 @@ pub adds : (r t n m : ℕ) → r ≡ capped (t + m) → t ≡ capped n → r ≡
 adds r t n m e f = e ∙ ap (λ (x : ℕ). capped (x + m)) f ∙ capped-next n m
 
 -- the sections behind them
-pub whole : (version : ℕ) (e : Entries) (a b c d r : ℕ) → a ≡ capped (frontBy version e) → b ≡ capped (a + e .items * textEntrySize) → c ≡ capped (b + e .index * textEntrySize)
+pub whole : (version : ℕ) (e : EntryCounts) (a b c d r : ℕ) → a ≡ capped (frontBy version e) → b ≡ capped (a + e .items * textEntrySize) → c ≡ capped (b + e .index * textEntrySize)
     → d ≡ capped (c + e .payload * 1) → r ≡ capped (d + e .strings * 1) → r ≡ capped (lengthBy version e)
 whole version e a b c d r pa pb pc pd pr =
     let items = adds b a (frontBy version e) (e .items * textEntrySize) pb pa in

@@ -14,7 +14,7 @@ use Rattle.words.proofs.Words.{length-bytes}
 use Rattle.image.specs.Sections.{Sections, nodeWords, textEntryWords, definitionWords, nodeSize, childSize, textEntrySize, definitionSize, nodeCount, childCount, namedCount, definitionCount, itemCount, nodeWord, definitionWord, tagOf}
 use Rattle.image.specs.declared.NodeRecord.{NodeRecord}
 use Rattle.image.proofs.Entries.{node-record}
-use Rattle.image.proofs.Widths.{size-words}
+use Rattle.image.proofs.Widths.{size-words, nodes-fewer}
 use Rattle.image.specs.Encoding.{sectionOut}
 use Rattle.records.specs.Fields.{kindOf}
 use Rattle.records.specs.Records.{numberOfChildren, numberOfNamed, payloadLengthOf}
@@ -50,7 +50,7 @@ use Rattle.write_text_keys.specs.Keys.{keyIn}
 use Rattle.write_interning.specs.Uses.{textsOf, storedOf, joined, Offsets}
 use Rattle.write_image.specs.Length.{imageLength}
 use Rattle.write_image.specs.Given.{Told, Indexed, Keyed, TreeReady, ListsReady, TextsReady, treeOut, listsOut, textsOut, definitionsAt}
-use Rattle.write_image.proofs.SectionLengths.{Sized, sized, once, nodes-fewer}
+use Rattle.write_image.proofs.SectionLengths.{Sized, sized, once}
 
 ones-length : (n : ℕ) (g : ℕ → List ℕ) → length (joinOf n (λ j. g j ∷ [])) ≡ n
 ones-length n g = join-length n (λ j. g j ∷ []) ∙ sum-const n 1 ∙ mul-one n

@@ -11,7 +11,7 @@ use Rattle.draft_image.specs.Written.{written}
 use Rattle.image.specs.Counted.{CountsOf}
 use Rattle.words.specs.Output.{over}
 use Rattle.words.proofs.FilledOutput.{filled-front, more-part, front-is}
-use Rattle.write_image.specs.Length.{entriesOf, countsBy}
+use Rattle.write_image.specs.Length.{imageCounts}
 use Rattle.write_image.proofs.SectionLengths.{Sized}
 
 -- a part that was lent from `a` to the end, as it comes back
@@ -44,7 +44,7 @@ three-parts out₀ out₁ out₂ a b c ys zs at₁ at₂ h e p y f q z =
     over-next out₀ out₂ (a ++ b) c zs at₂ two (omega (arith, length-append a b)) (omega arith) z
 
 -- the counts that the header says
-pub counts-right : (s : Sections) → Sized s (written s) → CountsOf (s .version) (written s) (countsBy (entriesOf s))
+pub counts-right : (s : Sections) → Sized s (written s) → CountsOf (s .version) (written s) (imageCounts s)
 counts-right s z =
     record {
       versioned = z .versioned;

@@ -4,7 +4,6 @@ use mathlib.Core.Path.{_≡_, refl, ap, _∙_}
 use mathlib.Core.List.{List, []}
 use mathlib.Core.Bool.{Bool, true, false, cond}
 use native.Mathlib.Omega.{arith}
-use native.Mathlib.Nat.{mul-le-mul-left}
 use lib.ListN.{length, length-append}
 use lib.Dec.{eqb}
 use borrow.Author.Tests.{eqb-true}
@@ -14,7 +13,7 @@ use Rattle.words.proofs.Words.{length-bytes}
 use Rattle.texts.specs.Text.{ascii}
 use Rattle.image.specs.Header.{headerLength, magic}
 use Rattle.image.specs.Sections.{Sections, nodeWords, textEntryWords, definitionWords, nodeSize, childSize, textEntrySize, definitionSize, nodeCount, childCount, namedCount, definitionCount, itemCount, tagOf, f}
-use Rattle.image.proofs.Widths.{words-some, size-words}
+use Rattle.image.proofs.Widths.{size-words}
 use Rattle.image.specs.Encoding.{sectionOut, startOf, bodyOf, headerWith, imageOf}
 use Rattle.records.specs.Records.{numberOfChildren, numberOfNamed, payloadLengthOf, listItems, listOrigins}
 use Rattle.records.proofs.PassedRules.{payload-range, used-up}
@@ -41,10 +40,6 @@ pub image-length : (ink : ℕ) (v : Sections) → length (imageOf ink v) ≡ sta
 unfolding imageOf bodyOf startOf
 image-length ink v =
     length-append (headerWith ink v _) (joinOf 8 (sectionOut v)) ∙ rw (head-length ink v _, join-length 8 (sectionOut v)) refl
-
--- a node has two bytes at least
-pub nodes-fewer : (n version : ℕ) → n + n ≤ n * nodeSize version
-nodes-fewer n version = omega (arith, size-words n version, mul-le-mul-left n (words-some version))
 
 -- ---- a list's payload
 

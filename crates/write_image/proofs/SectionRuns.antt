@@ -18,13 +18,12 @@ use Rattle.draft_image.specs.Written.{written}
 use Rattle.draft_image.specs.Encode.{imageFor}
 use Rattle.words.specs.Output.{over}
 use Rattle.draft.specs.declared.layout.Layout.{Layout}
-use Rattle.image.specs.declared.encoding.EntryCounts.{EntryCounts}
-use Rattle.image.specs.Counted.{endOf, CountsOf}
+use Rattle.image.specs.declared.EntryCounts.{EntryCounts}
+use Rattle.image.specs.Counted.{lengthBy, CountsOf}
 use Rattle.write_image.specs.declared.Places.{Places}
-use Rattle.write_image.specs.declared.size.Entries.{Entries}
-use Rattle.write_image.specs.Length.{lengthBy, Small, countsBy, placesBy, entriesOf}
+use Rattle.write_image.specs.Length.{placesBy, imageCounts}
 use Rattle.write_image.specs.Given.{treeOut, TreeReady, definitionsAt, listsOut, ListsReady, textsOut, TextsReady, Ready, Sectioned}
-use Rattle.write_image.proofs.SectionLengths.{head-length, sized, nodes-fewer}
+use Rattle.write_image.proofs.SectionLengths.{head-length, sized}
 use Rattle.write_image.proofs.Premises.{tree-length, lists-length, texts-length}
 use Rattle.write_image.proofs.SectionLayers.{over-next, three-parts, counts-right}
 
@@ -101,29 +100,13 @@ image-long : (ink : ℕ) (v : Sections) → length (imageOf ink v) ≡ headerLen
 unfolding imageOf
 image-long ink v = length-append (headerWith ink v _) (bodyOf v) ∙ ap (λ (m : ℕ). m + length (bodyOf v)) (head-length ink v _)
 
-module _ (s : Sections) (w : List ℕ) (l : Layout) (e : Entries) (r : Ready s w l e) where
-  -- the length that the entries say is the image's
+module _ (s : Sections) (w : List ℕ) (l : Layout) (e : EntryCounts) (r : Ready s w l e) where
+  -- the length that the counts say is the image's
   pub long-enough : lengthBy (s .version) e ≤ NONE
-  long-enough = omega (arith, ap (lengthBy (s .version)) (r .entries), r .told .long)
+  long-enough = omega (arith, ap (lengthBy (s .version)) (r .counts), r .told .long)
 
-  pub counts-small : Small e
-  counts-small =
-      record {
-        nodes = omega (arith, long-enough, nodes-fewer (e .nodes) (s .version));
-        children = omega (arith, long-enough);
-        named = omega (arith, long-enough);
-        definitions = omega (arith, long-enough);
-        items = omega (arith, long-enough);
-        index = omega (arith, long-enough);
-        payload = omega (arith, long-enough);
-        strings = omega (arith, long-enough);
-      }
-
-  pub end-small : (c : EntryCounts) → c ≡ countsBy e → endOf (s .version) c ≤ NONE
-  end-small c k = omega (arith, ap (endOf (s .version)) k, long-enough)
-
-  pub body-end : (q : Places) → q ≡ placesBy (s .version) e → headerLength + q .end ≡ lengthBy (s .version) (entriesOf s)
-  body-end q k = omega (arith, ap (λ (x : Places). x .end) k, ap (lengthBy (s .version)) (r .entries))
+  pub body-end : (q : Places) → q ≡ placesBy (s .version) e → headerLength + q .end ≡ lengthBy (s .version) (imageCounts s)
+  body-end q k = omega (arith, ap (λ (x : Places). x .end) k, ap (lengthBy (s .version)) (r .counts))
 
   pub sectioned : (q : Places) (room : ℕ) → q ≡ placesBy (s .version) e → q .end ≤ room → Sectioned s w l (e .index) q room
   sectioned q room k h =
@@ -131,11 +114,11 @@ module _ (s : Sections) (w : List ℕ) (l : Layout) (e : Entries) (r : Ready s w
         told = r .told;
         indexed = r .indexed;
         keyed = r .keyed;
-        places = k ∙ ap (placesBy (s .version)) (r .entries);
-        fits = omega (arith, ap (λ (x : Places). x .end) (k ∙ ap (placesBy (s .version)) (r .entries)));
+        places = k ∙ ap (placesBy (s .version)) (r .counts);
+        fits = omega (arith, ap (λ (x : Places). x .end) (k ∙ ap (placesBy (s .version)) (r .counts)));
       }
 
-  body-length : headerLength + length (bodyOf (written s)) ≡ lengthBy (s .version) (entriesOf s)
+  body-length : headerLength + length (bodyOf (written s)) ≡ lengthBy (s .version) (imageCounts s)
   body-length =
       omega (
         arith,
@@ -147,17 +130,17 @@ module _ (s : Sections) (w : List ℕ) (l : Layout) (e : Entries) (r : Ready s w
         texts-length s w l (r .told),
       )
 
-  pub image-put : (ink : ℕ) (c : EntryCounts) (q : Places) (out₀ out₁ out₂ ys zs : List ℕ) → c ≡ countsBy e → q ≡ placesBy (s .version) e → lengthBy (s .version) (entriesOf s) ≤ length out₀
-      → ((v : Sections) → CountsOf (s .version) v c → out₁ ≡ over (headerWith ink v 0) out₀)
+  pub image-put : (ink : ℕ) (q : Places) (out₀ out₁ out₂ ys zs : List ℕ) → q ≡ placesBy (s .version) e → lengthBy (s .version) (imageCounts s) ≤ length out₀
+      → ((v : Sections) → CountsOf (s .version) v e → out₁ ≡ over (headerWith ink v 0) out₀)
       → ys ≡ over (bodyOf (written s)) (take (length out₁ - headerLength) (drop headerLength out₁)) → out₂ ≡ putMid headerLength (length out₁ - headerLength) out₁ ys
       → ((i : ℕ) (v : Sections) → take (headerLength + q .end) out₂ ≡ headerWith i v 0 ++ bodyOf v → zs ≡ imageOf i v)
       → zs ++ drop (headerLength + q .end) out₂ ≡ over (imageFor ink s) out₀
-  image-put ink c q out₀ out₁ out₂ ys zs k p h put y f sum =
+  image-put ink q out₀ out₁ out₂ ys zs p h put y f sum =
       let v = written s in
       let head = headerWith ink v 0 in
       let size : length (head ++ bodyOf v) ≡ headerLength + q .end =
       omega (arith, length-append head (bodyOf v), head-length ink v 0, body-length, body-end q p) in
-      let first : out₁ ≡ over head out₀ = put v (subst (CountsOf (s .version) v) (sym (k ∙ ap countsBy (r .entries))) (counts-right s (sized s (r .told .tables) (r .told .reach)))) in
+      let first : out₁ ≡ over head out₀ = put v (subst (CountsOf (s .version) v) (sym (r .counts)) (counts-right s (sized s (r .told .tables) (r .told .reach)))) in
       let both : out₂ ≡ over (head ++ bodyOf v) out₀ =
       f ∙ over-next out₀ out₁ head (bodyOf v) ys headerLength first (sym (head-length ink v 0)) (omega (arith, body-length)) y in
       let image : zs ≡ imageOf ink v = sum ink v (ap (take (headerLength + q .end)) both ∙ take-at (head ++ bodyOf v) (drop (length (head ++ bodyOf v)) out₀) (headerLength + q .end) size) in

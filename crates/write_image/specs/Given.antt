@@ -5,6 +5,7 @@ use mathlib.Core.List.{List, [], _++_}
 use lib.ListN.{length, getD}
 use Rattle.words.specs.Words.{NONE}
 use Rattle.image.specs.Sections.{Sections, nodeCount}
+use Rattle.image.specs.declared.EntryCounts.{EntryCounts}
 use Rattle.image.specs.Encoding.{sectionOut}
 use Rattle.draft.specs.Source.{draftOf}
 use Rattle.draft.specs.declared.layout.Layout.{Layout}
@@ -16,8 +17,7 @@ use Rattle.draft_image.specs.Ready.{OldsAt, NewsAt, OffsetsAt, nodeUses, namedU
 use Rattle.write_text_keys.specs.Keys.{keyIn, Placed}
 use Rattle.write_paths.specs.PathIndex.{PathsAt, LengthsAt}
 use Rattle.write_image.specs.declared.Places.{Places}
-use Rattle.write_image.specs.declared.size.Entries.{Entries}
-use Rattle.write_image.specs.Length.{entriesOf, placesBy, imageLength}
+use Rattle.write_image.specs.Length.{imageCounts, placesBy, imageLength}
 
 -- rules 19 to 21 are kept, a word can say how long the image is, and the work words hold the numbers of the nodes and the offsets of
 -- the texts in use, of which the paths come last
@@ -101,10 +101,10 @@ pub record TextsReady (version : ℕ) (nodes payload strings w : List ℕ) (l : 
 -- ---- all of it
 
 -- of the texts and tables: all is known of the draft, its index and the texts in use
-pub record Ready (s : Sections) (w : List ℕ) (l : Layout) (e : Entries) : Type 0 where
+pub record Ready (s : Sections) (w : List ℕ) (l : Layout) (c : EntryCounts) : Type 0 where
   pub told : Told s w l
-  pub entries : e ≡ entriesOf s
-  pub indexed : Indexed s w l (e .index)
+  pub counts : c ≡ imageCounts s
+  pub indexed : Indexed s w l (c .index)
   pub keyed : Keyed s w l
 
 -- the same for the sections, with the room that they take
@@ -112,5 +112,5 @@ pub record Sectioned (s : Sections) (w : List ℕ) (l : Layout) (count : ℕ) (q
   pub told : Told s w l
   pub indexed : Indexed s w l count
   pub keyed : Keyed s w l
-  pub places : q ≡ placesBy (s .version) (entriesOf s)
-  pub fits : placesBy (s .version) (entriesOf s) .end ≤ room
+  pub places : q ≡ placesBy (s .version) (imageCounts s)
+  pub fits : placesBy (s .version) (imageCounts s) .end ≤ room

@@ -9,40 +9,23 @@ ghost use Prim.Native.Nat.{_+_, _≤_};
 ghost use lib.ListN.{length};
 ghost use Rattle.words.specs.Words.{NONE};
 ghost use Rattle.draft.specs.Source.{draftOf};
+ghost use Rattle.image.specs.Counted.{lengthBy};
 ghost use Rattle.image.specs.Encoding.{bodyOf};
 ghost use Rattle.draft_image.specs.Written.{written};
 ghost use Rattle.draft_image.specs.Encode.{imageFor};
 ghost use Rattle.words.specs.Output.{over};
-ghost use Rattle.write_image.specs.Length.{lengthBy, Small, countsBy, placesBy, imageLength};
+ghost use Rattle.write_image.specs.Length.{placesBy, imageLength};
 ghost use Rattle.write_image.specs.Given.{Ready, Sectioned};
 use crate::list_part::put_lists;
-use crate::size::Entries;
-use crate::size::nodes_length;
 use crate::text_part::put_texts;
 use crate::tree_part::put_tree;
 use draft::layout::Layout;
 use draft::source::Source;
+use image::EntryCounts;
 use image::ImageView;
-use image::encoding::EntryCounts;
+use image::encoding::nodes_length;
 use image::encoding::put_checksum;
 use image::encoding::put_header;
-
-// The counts that the header says.
-fn counts_of(entries: Entries) -> EntryCounts
-    requires { ⌜ Small entries ⌝ }
-    ensures { λ r. ⌜ r ≡ countsBy entries ⌝ }
-{
-    EntryCounts {
-        nodes: entries.nodes as u32,
-        children: entries.children as u32,
-        named: entries.named as u32,
-        definitions: entries.definitions as u32,
-        items: entries.items as u32,
-        index: entries.index as u32,
-        payload: entries.payload as u32,
-        strings: entries.strings as u32,
-    }
-}
 
 // Where the sections that hold lists begin behind the header, where those that hold texts, and where they end.
 struct Places {
@@ -51,22 +34,22 @@ struct Places {
     end: usize,
 }
 
-// The same by the entries.
-fn places_of(entries: Entries, source: Source) -> Places
-    requires { ⌜ lengthBy (source .version) entries ≤ NONE ⌝ }
-    ensures { λ r. ⌜ r ≡ placesBy (source .version) entries ⌝ }
+// The same by the counts.
+fn places_of(counts: EntryCounts, source: Source) -> Places
+    requires { ⌜ lengthBy (source .version) counts ≤ NONE ⌝ }
+    ensures { λ r. ⌜ r ≡ placesBy (source .version) counts ⌝ }
 {
-    let lists = nodes_length(entries.nodes, source)
-        + entries.children * ImageView::WORD_BYTES
-        + entries.named * ImageView::TEXT_ENTRY_BYTES;
+    let lists = nodes_length(source.version, counts.nodes)
+        + counts.children * ImageView::WORD_BYTES
+        + counts.named * ImageView::TEXT_ENTRY_BYTES;
     let texts = lists
-        + entries.definitions * ImageView::DEFINITION_BYTES
-        + entries.items * ImageView::TEXT_ENTRY_BYTES
-        + entries.index * ImageView::TEXT_ENTRY_BYTES;
+        + counts.definitions * ImageView::DEFINITION_BYTES
+        + counts.items * ImageView::TEXT_ENTRY_BYTES
+        + counts.index * ImageView::TEXT_ENTRY_BYTES;
     Places {
         lists,
         texts,
-        end: texts + entries.payload + entries.strings,
+        end: texts + counts.payload + counts.strings,
     }
 }
 
@@ -129,13 +112,13 @@ pub fn fill(
     strings: &[u8],
     work: &[u32],
     layout: Layout,
-    entries: Entries,
+    counts: EntryCounts,
     out: &mut [u8],
     source: Source,
 )
     requires { ⌜ (let s =
         draftOf (source .version) (now nodes) (now children) (now named) (now definitions) (now items) (now payload) (now strings) in
-        Ready s (now work) layout entries) ⌝ }
+        Ready s (now work) layout counts) ⌝ }
     requires { ⌜ (let s =
         draftOf (source .version) (now nodes) (now children) (now named) (now definitions) (now items) (now payload) (now strings) in
         imageLength s ≤ length (now out)) ⌝ }
@@ -144,8 +127,8 @@ pub fn fill(
         (now (payload .entry)) (now (strings .entry)) in
         now (out .exit) ≡ over (imageFor ink s) (now (out .entry))) ⌝ }
 {
-    put_header(source.version, ink, counts_of(entries), out);
-    let places = places_of(entries, source);
+    put_header(source.version, ink, counts, out);
+    let places = places_of(counts, source);
     let header = ImageView::HEADER_LENGTH;
     let end = header + places.end;
     put_sections(

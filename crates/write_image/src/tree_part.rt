@@ -6,11 +6,11 @@ ghost use lib.ListN.{length};
 ghost use Rattle.draft.specs.Source.{draftOf};
 ghost use Rattle.words.specs.Output.{over};
 ghost use Rattle.write_image.specs.Given.{Told, TreeReady, treeOut, definitionsAt};
-use crate::size::nodes_length;
 use draft::layout::Layout;
 use draft::source::Source;
 use draft::source::node_count;
 use image::ImageView;
+use image::encoding::nodes_length;
 use write_tree_sections::children::put_children;
 use write_tree_sections::named::put_named;
 use write_tree_sections::nodes::put_nodes;
@@ -32,7 +32,7 @@ pub fn put_tree(
         Told s (now (work .entry)) layout → (now (out .exit) ≡ over (treeOut s) (now (out .entry))) × (r ≡ definitionsAt s layout)) ⌝ }
 {
     let text = put_nodes(nodes, payload, work, layout, out, source);
-    let at_children = nodes_length(node_count(nodes, source), source);
+    let at_children = nodes_length(source.version, node_count(nodes, source));
     put_children(
         nodes,
         children,

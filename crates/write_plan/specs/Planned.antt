@@ -9,10 +9,10 @@ use Rattle.laws.specs.Refusal.{unless, _▸_}
 use Rattle.words.specs.Words.{NONE}
 use Rattle.image.specs.Sections.{Sections, nodeCount}
 use Rattle.image.specs.Refusals.{noRoom}
+use Rattle.image.specs.declared.EntryCounts.{EntryCounts}
 use Rattle.draft.specs.Draft.{tablesRule, writeWords, reachRule, shapeRule, pathsRule}
-use Rattle.draft.specs.declared.EntryCounts.{EntryCounts}
 use Rattle.draft.specs.declared.layout.Layout.{Layout}
-use Rattle.draft.specs.Needs.{entryCounts}
+use Rattle.draft.specs.Needs.{draftCounts}
 use Rattle.draft.specs.Source.{draftOf}
 use Rattle.draft.specs.Numbering.{numbering, oldOf}
 use Rattle.write_text_uses.specs.Uses.{storedBytes}
@@ -41,7 +41,7 @@ layoutBy c needed =
     }
 
 abbrev pub layoutOf : Sections → Layout
-layoutOf s = layoutBy (entryCounts s) (writeWords s)
+layoutOf s = layoutBy (draftCounts s) (writeWords s)
 
 -- the rules that are tested on the way. An image with more uses of texts than a word can count, or longer texts, is too long
 unfoldable pub planRule : Sections → ℕ

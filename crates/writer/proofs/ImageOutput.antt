@@ -7,19 +7,20 @@ use lib.ListN.{length}
 use Rattle.laws.specs.Refusal.{unless}
 use Rattle.words.specs.Words.{NONE}
 use Rattle.image.specs.Sections.{Sections}
+use Rattle.image.specs.declared.EntryCounts.{EntryCounts}
+use Rattle.image.specs.Counted.{lengthBy}
 use Rattle.draft_image.specs.Encode.{imageFor}
 use Rattle.words.specs.Output.{over}
 use Rattle.draft.specs.declared.layout.Layout.{Layout}
 use Rattle.write_plan.specs.declared.Uses.{Uses}
-use Rattle.write_image.specs.declared.size.Entries.{Entries}
 use Rattle.write_image.specs.declared.size.Size.{Size}
 use Rattle.write_image.specs.declared.size.Size.the-variants.{Bytes, TooLong}
-use Rattle.write_image.specs.Length.{lengthBy, sizeOf, imageLength}
+use Rattle.write_image.specs.Length.{sizeOf, imageLength}
 use Rattle.write_image.specs.Given.{Ready}
 use Rattle.writer.specs.declared.Encoded.the-variants.{Written, Short, Refused}
 use Rattle.writer.specs.Answer.{fitsOutput, EncodeAnswered}
-use Rattle.writer.specs.Planned.{plannedLayout, entriesBy, Drawn}
-use Rattle.writer.proofs.PlanToImage.{rules, most, entries-known, ready}
+use Rattle.writer.specs.Planned.{plannedLayout, countsBy, Drawn}
+use Rattle.writer.proofs.PlanToImage.{rules, most, counts-known, ready}
 use Rattle.writer.proofs.Outcomes.{size-bytes, size-long, image-long, image-short, image-put}
 
 module _ (ink : ℕ) (s : Sections) (w : List ℕ) (l : Layout) (u : Uses) (d : Drawn s w l u) (out₀ : List ℕ) where
@@ -27,9 +28,9 @@ module _ (ink : ℕ) (s : Sections) (w : List ℕ) (l : Layout) (u : Uses) (d : 
   pub offsets-room : u .texts + u .paths ≤ length w
   offsets-room = omega (arith, most s (d .tables) (d .planned) w (d .long) u (d .prepared), d .long)
 
-  module _ (a : Size) (e : a ≡ sizeOf (lengthBy (s .version) (entriesBy s u))) where
+  module _ (a : Size) (e : a ≡ sizeOf (lengthBy (s .version) (countsBy s u))) where
     known : a ≡ sizeOf (imageLength s)
-    known = e ∙ ap (λ (x : Entries). sizeOf (lengthBy (s .version) x)) (entries-known s (d .tables) (d .planned) w (d .long) u (d .prepared))
+    known = e ∙ ap (λ (x : EntryCounts). sizeOf (lengthBy (s .version) x)) (counts-known s (d .tables) (d .planned) w (d .long) u (d .prepared))
 
     pub put-long : a ≡ TooLong → EncodeAnswered ink s (unless (fitsOutput ink s (length out₀)) 23) out₀ out₀ (Refused 23)
     put-long q = image-long ink s (d .tables) (rules s (d .tables) (d .planned) .0) out₀ (size-long (imageLength s) a known q)
@@ -42,9 +43,9 @@ module _ (ink : ℕ) (s : Sections) (w : List ℕ) (l : Layout) (u : Uses) (d : 
       put-short h = image-short ink s (d .tables) (rules s (d .tables) (d .planned) .0) out₀ m (sized .1) (omega (arith, sized .0)) (sized .0)
 
       module _ (h : m ≤ length out₀) where
-        pub fill-asks : Ready s w (plannedLayout l u) (entriesBy s u) × (imageLength s ≤ length out₀)
+        pub fill-asks : Ready s w (plannedLayout l u) (countsBy s u) × (imageLength s ≤ length out₀)
         fill-asks = (
-          subst (λ (x : Layout). Ready s w (plannedLayout x u) (entriesBy s u)) (sym (d .layout))
+          subst (λ (x : Layout). Ready s w (plannedLayout x u) (countsBy s u)) (sym (d .layout))
               (ready s (d .tables) (d .planned) w (d .long) u (d .prepared) (sized .1)),
           omega (arith, sized .0),
         )

@@ -20,9 +20,9 @@ use Rattle.write_plan.specs.declared.Uses.{Uses}
 use Rattle.write_plan.specs.Planned.{layoutOf, planRule, Prepared}
 use Rattle.write_plan.proofs.Premises.{once}
 use Rattle.write_plan.proofs.UseTexts.{boxes-long, uses-long}
-use Rattle.write_image.specs.Length.{entriesOf, imageLength}
+use Rattle.write_image.specs.Length.{imageCounts, imageLength}
 use Rattle.write_image.specs.Given.{Told, Ready}
-use Rattle.writer.specs.Planned.{plannedLayout, entriesBy}
+use Rattle.writer.specs.Planned.{plannedLayout, countsBy}
 
 module _ (s : Sections) (p : tablesRule s ≡ 0) (e : planRule s ≡ 0) where
   -- the rules that the plan tests, one by one
@@ -50,8 +50,8 @@ module _ (s : Sections) (p : tablesRule s ≡ 0) (e : planRule s ≡ 0) where
     few : u .paths ≤ nodeCount s
     few = omega (arith, known .paths, boxes-long s p (rules .0) (rules .2), within s (nodeCount s) (tables s p .fields) .containers)
 
-    pub entries-known : entriesBy s u ≡ entriesOf s
-    entries-known = rw (known .paths, known .strings) refl
+    pub counts-known : countsBy s u ≡ imageCounts s
+    counts-known = rw (known .paths, known .strings) refl
 
     -- a stored path is no longer than all stored texts
     path-short : (k : ℕ) → k < length (byPath s order) → length (pathOf s order (getD (byPath s order) k 0)) ≤ length (storedBytes s)
@@ -89,11 +89,11 @@ module _ (s : Sections) (p : tablesRule s ≡ 0) (e : planRule s ≡ 0) where
           omega (arith, both-words, path-short k h) in
           ap (λ (i : ℕ). getD w i 0) (sym place) ∙ sym (getD-drop (layoutOf s .at) w (layoutOf s .lengths + x + x) 0) ∙ low
 
-      pub ready : Ready s w (plannedLayout (layoutOf s) u) (entriesBy s u)
+      pub ready : Ready s w (plannedLayout (layoutOf s) u) (countsBy s u)
       ready =
           record {
             told = told;
-            entries = entries-known;
+            counts = counts-known;
             indexed =
                 record {
                   all = known .paths;

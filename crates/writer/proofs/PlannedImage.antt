@@ -8,9 +8,9 @@ use lib.ListN.{length}
 use Rattle.laws.specs.Refusal.{unless}
 use Rattle.image.specs.Header.{inkRight}
 use Rattle.image.specs.Sections.{Sections}
-use Rattle.draft.specs.declared.EntryCounts.{EntryCounts}
+use Rattle.image.specs.declared.EntryCounts.{EntryCounts}
 use Rattle.draft.specs.declared.layout.Layout.{Layout}
-use Rattle.draft.specs.Needs.{entryCounts, wordsFor}
+use Rattle.draft.specs.Needs.{draftCounts, wordsFor}
 use Rattle.draft.specs.Source.{draftOf}
 use Rattle.draft.specs.Draft.{tablesRule, writeWords}
 use Rattle.write_plan.specs.declared.Uses.{Uses}
@@ -29,10 +29,10 @@ module _ (ink : ℕ) (version : ℕ) (ns cs ms ds is ps ss : List ℕ) (i : inkR
   s = draftOf version ns cs ms ds is ps ss
 
   -- the work words are enough for the counts
-  pub layout-asks : (c : EntryCounts) → c ≡ entryCounts s → wordsFor c ≤ length w₀
+  pub layout-asks : (c : EntryCounts) → c ≡ draftCounts s → wordsFor c ≤ length w₀
   layout-asks c e = rw e (omega (arith, long))
 
-  module _ (c : EntryCounts) (e : c ≡ entryCounts s) (l : Layout) (laid : l ≡ layoutBy c (length w₀)) where
+  module _ (c : EntryCounts) (e : c ≡ draftCounts s) (l : Layout) (laid : l ≡ layoutBy c (length w₀)) where
     layout : l ≡ layoutOf s
     layout = laid ∙ (λ t. layoutBy (e t) (long t))
 

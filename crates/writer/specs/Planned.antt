@@ -3,12 +3,13 @@ use Prim.Native.Nat.{ℕ, _+_}
 use mathlib.Core.Path.{_≡_}
 use mathlib.Core.List.{List}
 use lib.ListN.{length}
-use Rattle.image.specs.Sections.{Sections, nodeCount, childCount, namedCount, definitionCount, itemCount}
+use Rattle.image.specs.Sections.{Sections}
+use Rattle.image.specs.declared.EntryCounts.{EntryCounts}
+use Rattle.image.specs.Counted.{countsWith}
 use Rattle.draft.specs.declared.layout.Layout.{Layout}
 use Rattle.write_plan.specs.declared.Uses.{Uses}
 use Rattle.draft.specs.Draft.{tablesRule, writeWords}
 use Rattle.write_plan.specs.Planned.{layoutOf, planRule, Prepared}
-use Rattle.write_image.specs.declared.size.Entries.{Entries}
 
 -- where things lie once the uses are counted: the offsets are behind the sorted uses
 abbrev pub plannedLayout : Layout → Uses → Layout
@@ -23,19 +24,9 @@ plannedLayout l u =
       offsets = u .texts + u .paths;
     }
 
--- the entries of the image
-abbrev pub entriesBy : Sections → Uses → Entries
-entriesBy s u =
-    record {
-      nodes = nodeCount s;
-      children = childCount s;
-      named = namedCount s;
-      definitions = definitionCount s;
-      items = itemCount s;
-      index = u .paths;
-      payload = length (s .payload);
-      strings = u .strings;
-    }
+-- the counts of the image
+abbrev pub countsBy : Sections → Uses → EntryCounts
+countsBy s u = countsWith s (u .paths) (u .strings)
 
 -- the tables of a draft are right, the plan passed, and the work words hold what was planned
 pub record Drawn (s : Sections) (w : List ℕ) (l : Layout) (u : Uses) : Type 0 where

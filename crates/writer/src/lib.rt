@@ -13,18 +13,17 @@ ghost use Rattle.draft_image.specs.Encode.{imageFor, encodeRule, outAfter, enco
 ghost use Rattle.laws.specs.Refusal.{unless};
 ghost use Rattle.write_plan.specs.Planned.{layoutBy};
 ghost use Rattle.writer.specs.Planned.{Drawn};
-use draft::EntryCounts;
 use draft::Needed;
 use draft::layout::Layout;
 use draft::source::Source;
 use draft::tables;
+use image::EntryCounts;
 use image::ImageView;
 use image::header::ink_right;
 use image::refusal::BAD_INK_VERSION;
 use image::refusal::NO_ROOM;
 use image::refusal::TOO_FEW_WORDS;
 use write_image::size;
-use write_image::size::Entries;
 use write_image::size::Size;
 use write_plan::Plan;
 use write_plan::Uses;
@@ -78,18 +77,18 @@ fn put_image(
         (now (payload .entry)) (now (strings .entry)) in
         EncodeAnswered ink s (unless (fitsOutput ink s (length (now (out .entry)))) noRoom) (now (out .entry)) (now (out .exit)) r) ⌝ }
 {
-    let counts = draft::entry_counts(nodes, children, named, definitions, items, payload, source);
-    let entries = Entries {
-        nodes: counts.nodes,
-        children: counts.children,
-        named: counts.named,
-        definitions: counts.definitions,
-        items: counts.items,
-        index: uses.paths,
-        payload: counts.payload,
-        strings: uses.strings,
-    };
-    match size::image_length(entries, source) {
+    let mut counts = draft::entry_counts(
+        nodes,
+        children,
+        named,
+        definitions,
+        items,
+        payload,
+        source,
+    );
+    counts.index = uses.paths;
+    counts.strings = uses.strings;
+    match size::image_length(counts, source) {
         Size::TooLong => Encoded::Refused(NO_ROOM),
         Size::Bytes(length) => {
             if out.len() < length as usize {
@@ -109,7 +108,7 @@ fn put_image(
                 strings,
                 work,
                 planned,
-                entries,
+                counts,
                 out,
                 source,
             );

@@ -2,17 +2,14 @@
 use mathlib.Core.Path.{refl, sym}
 use native.Mathlib.Omega.{arith}
 use lib.Seq.{length-take-le}
-use Rattle.write_image.proofs.SectionRuns.{long-enough, counts-small, end-small, body-end, sectioned, image-put}
+use Rattle.write_image.proofs.SectionRuns.{long-enough, body-end, sectioned, image-put}
 use borrow.Author.Needs.{needs}
 use Rattle.write_image.proofs.fill.Statement.{statement}
 use Rattle.write_image.proofs.fill.Tie as tie
 
-counts-of-requires : tie.Need-counts-of-requires
-counts-of-requires c κs = counts-small _ _ _ _ (c .before .before .before .before .before .before .before .before .before .pre .0)
-
 put-header-requires : tie.Need-put-header-requires
 put-header-requires c κs =
-    let p = c .before .before .before .before .before .before .before .before .before .before .before .pre in (omega (arith, p .1), end-small _ _ _ _ (p .0) _ (c .before .counts-of .ensures))
+    let p = c .before .before .before .before .before .before .before .before .before .pre in (omega (arith, p .1), long-enough _ _ _ _ (p .0))
 
 places-of-requires : tie.Need-places-of-requires
 places-of-requires c κs = long-enough _ _ _ _ (c .before .before .before .before .before .before .before .before .before .before .before .before .before .before .pre .0)
@@ -55,18 +52,16 @@ same-length c = search needs
 returns : tie.Need-returns
 returns c =
     let p = c .before .before .before .before .before .before .before .before .before .before .before .before .before .before .before .before .before .before .before .before .before .before .before .before .pre in
-    let counts-of = c .before .before .before .before .before .before .before .before .before .before .before .before .before .before .counts-of in
-    let put-header = c .before .before .before .before .before .before .before .before .before .before .before .before .put-header in
+    let put-header = c .before .before .before .before .before .before .before .before .before .before .before .before .before .put-header in
     let places-of = c .before .before .before .before .before .before .before .before .before .places-of in
     let put-sections = c .before .before .before .before .before .before .put-sections in
-    image-put _ _ _ _ (p .0) _ _ _ _ _ _ _ _ (counts-of .ensures) (places-of .ensures) (p .1) (put-header .ensures)
+    image-put _ _ _ _ (p .0) _ _ _ _ _ _ _ (places-of .ensures) (p .1) (put-header .ensures)
     (put-sections .ensures) refl (c .before .before .put-checksum .ensures)
 
 pub fill-spec : {M : Type 1} → statement M
 fill-spec =
     tie.close
     (tie.spec
-    counts-of-requires
     put-header-requires
     places-of-requires
     add-end

@@ -2,7 +2,7 @@
 use Rattle.story_image.proofs.WorkWords.{most-to-write, some-to-write}
 use mathlib.Core.Path.{ap, _∙_}
 use borrow.Author.Needs.{needs}
-use Rattle.draft.specs.declared.EntryCounts.{EntryCounts}
+use Rattle.image.specs.declared.EntryCounts.{EntryCounts}
 use Rattle.draft.specs.Needs.{wordsFor, neededOf}
 use Rattle.story_image.proofs.needed.story_image_write_words.Statement.{statement}
 use Rattle.story_image.proofs.needed.story_image_write_words.Tie as tie

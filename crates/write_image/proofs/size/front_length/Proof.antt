@@ -32,7 +32,7 @@ add-requires-4 c κs = (capped-le _ _ (c .add3 .ensures), omega arith, omega ari
 returns : tie.Need-returns
 returns c =
     let source = c .before .before .before .before .before .args .source in
-    let e = c .before .before .before .before .before .args .entries in
+    let e = c .before .before .before .before .before .args .counts in
     let nodes = rw (c .before .before .before .before .node-words .ensures) at (c .before .before .before .add .ensures) in
     let children = adds _ _ (headerLength + e .nodes * nodeSize (source .version)) (e .children * childSize) (c .before .before .add2 .ensures) nodes in
     let named = adds _ _ (headerLength + e .nodes * nodeSize (source .version) + e .children * childSize) (e .named * textEntrySize) (c .before .add3 .ensures) children in

@@ -27,14 +27,14 @@ returns : tie.Need-returns
 returns c =
     let b = c .before .before .before .before in
     let add2 = c .before .before .before .add2 in
-    let total = whole (b .before .before .args .source .version) (b .before .before .args .entries) _ _ _ _ _ (b .before .front-length .ensures) (b .add .ensures)
+    let total = whole (b .before .before .args .source .version) (b .before .before .args .counts) _ _ _ _ _ (b .before .front-length .ensures) (b .add .ensures)
     (add2 .ensures) (c .before .before .add3 .ensures) (c .before .add4 .ensures) in size-few _ _ total (search needs)
 
 returns-2 : tie.Need-returns-2
 returns-2 c =
     let b = c .before .before .before .before in
     let add2 = c .before .before .before .add2 in
-    let total = whole (b .before .before .args .source .version) (b .before .before .args .entries) _ _ _ _ _ (b .before .front-length .ensures) (b .add .ensures)
+    let total = whole (b .before .before .args .source .version) (b .before .before .args .counts) _ _ _ _ _ (b .before .front-length .ensures) (b .add .ensures)
     (add2 .ensures) (c .before .before .add3 .ensures) (c .before .add4 .ensures) in size-many _ _ total (search needs)
 
 pub image-length-spec : {M : Type 1} → statement M
