@@ -108,14 +108,14 @@ module _ (s : Sections) where
     unfolding kindIn flatMap fieldTexts fields
     most-in [] t a = few (eqb t 1)
       where
-        few : (b : Bool) → cond b 1 0 ≤ 2 + cond (eqb t 12) (length (listTexts s (f s i 0))) 0
+        few : (b : Bool) → 0 + cond b 1 0 ≤ 2 + cond (eqb t 12) (length (listTexts s (f s i 0))) 0
         few true = omega arith
         few false = omega arith
-    most-in (row ∷ rows) t a = by (eqb t (row .0)) refl
+    most-in (row ∷ rows) t a = by (eqb t (row .0)) refl (most-in rows t (a .1))
       where
-        by : (b : Bool) → eqb t (row .0) ≡ b → Most t (cond b (row .1) (kindIn rows t))
-        by true e = subst (λ (x : ℕ). Most x (row .1)) (sym (eqb-true t (row .0) e)) (a .0)
-        by false e = most-in rows t (a .1)
+        by : (b : Bool) → eqb t (row .0) ≡ b → Most t (kindIn rows t) → Most t (cond b (row .1) (kindIn rows t))
+        by true e later = subst (λ (x : ℕ). Most x (row .1)) (sym (eqb-true t (row .0) e)) (a .0)
+        by false e later = later
 
     most : (t : ℕ) → Most t (kindOf t)
     most t = most-in kindTable t each
