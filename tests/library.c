@@ -654,7 +654,8 @@ static void drafts(const char *folder) {
               memcmp(exact, output, length) == 0,
           "the same bytes in exactly as much room");
     CHECK(put(&draft, 18, 100, exact, length - 1, &again) == STORY_IMAGE_NO_ROOM && again == length, "a byte too few");
-    CHECK(put(&draft, 18, 100, exact, 0, &again) == STORY_IMAGE_NO_ROOM && again == length, "no output asks for the length");
+    CHECK(put(&draft, 18, 100, exact, 0, &again) == STORY_IMAGE_NO_ROOM && again == length,
+          "no output asks for the length");
     free(exact);
     free(image.bytes);
 

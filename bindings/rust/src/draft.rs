@@ -105,7 +105,9 @@ impl From<WriteError> for Refusal {
 impl fmt::Display for WriteError {
     fn fmt(&self, f: &mut fmt::Formatter<'_>) -> fmt::Result {
         match self {
-            WriteError::Short { needed } => write!(f, "refused with 23: the output is too short, the image has {needed} bytes"),
+            WriteError::Short { needed } => {
+                write!(f, "refused with 23: the output is too short, the image has {needed} bytes")
+            }
             WriteError::Refused(refusal) => refusal.fmt(f),
         }
     }
