@@ -89,6 +89,17 @@ module _ (v : ℕ) (nodes : List ℕ) where
         take-append-le m (readBack k v nodes strings (stepBack v nodes c)) (lastByte strings c ∷ []) (omega (arith, read-length k (stepBack v nodes c)))
         ∙ read-front n m k (stepBack v nodes c) (omega arith)
 
+    -- the last bytes behind those before them
+    pub read-split : (k m n : ℕ) (c : Cursor) → n ≡ m + k → readBack n v nodes strings c ≡ readBack m v nodes strings (back k v nodes c) ++ readBack k v nodes strings c
+    unfolding readBack back
+    read-split zero m n c e =
+        let p : n ≡ m = omega arith in
+        rw p (sym (append-nil (readBack m v nodes strings c)))
+    read-split (suc k) m zero c e = absurd (omega arith)
+    read-split (suc k) m (suc n) c e =
+        ap (λ (l : List ℕ). l ++ (lastByte strings c ∷ [])) (read-split k m n (stepBack v nodes c) (omega arith))
+        ∙ append-assoc (readBack m v nodes strings (back k v nodes (stepBack v nodes c))) (readBack k v nodes strings (stepBack v nodes c)) (lastByte strings c ∷ [])
+
     -- one byte
     pub read-one : (left n : ℕ) (c : Cursor) → n ≡ left + 1 → readBack n v nodes strings c ≡ readBack left v nodes strings (stepBack v nodes c) ++ (lastByte strings c ∷ [])
     unfolding readBack

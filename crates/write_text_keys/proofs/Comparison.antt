@@ -8,17 +8,42 @@ use lib.Dec.{ltb}
 use lib.ListN.{length, take, drop, take-append-drop}
 use lib.Seq.{drop-cons, length-take-le}
 use borrow.Author.Tests.{le-ltb}
+use Rattle.texts.specs.declared.Order.{Order}
+use Rattle.texts.specs.declared.Order.the-variants.{Less, Equal, Greater}
 use Rattle.texts.specs.Text.{byHead, orderOf, isLess, before}
 use Rattle.write_text_keys.specs.Keys.{decided}
 
--- one byte more behind
+-- more behind: what is in front decides first
+pub decided-append : (xs ys s t : List ℕ) (later : Bool) → length xs ≡ length ys → decided (xs ++ s) (ys ++ t) later ≡ decided xs ys (decided s t later)
+unfolding decided
+decided-append [] [] s t later e = refl
+decided-append [] (v ∷ ys) s t later e = absurd (omega arith)
+decided-append (u ∷ xs) [] s t later e = absurd (omega arith)
+decided-append (u ∷ xs) (v ∷ ys) s t later e = ap (λ (r : Bool). cond (ltb u v) true (cond (ltb v u) false r)) (decided-append xs ys s t later (omega arith))
+
+-- one byte more
 pub decided-last : (xs ys : List ℕ) (x y : ℕ) (later : Bool) → length xs ≡ length ys
     → decided (xs ++ (x ∷ [])) (ys ++ (y ∷ [])) later ≡ decided xs ys (cond (ltb x y) true (cond (ltb y x) false later))
 unfolding decided
-decided-last [] [] x y later e = refl
-decided-last [] (v ∷ ys) x y later e = absurd (omega arith)
-decided-last (u ∷ xs) [] x y later e = absurd (omega arith)
-decided-last (u ∷ xs) (v ∷ ys) x y later e = ap (λ (r : Bool). cond (ltb u v) true (cond (ltb v u) false r)) (decided-last xs ys x y later (omega arith))
+decided-last xs ys x y later e = decided-append xs ys (x ∷ []) (y ∷ []) later e
+
+-- what the order of two texts decides, where nothing is behind the shorter one
+abbrev pub byOrder : Order → Bool → Bool
+byOrder Less later = true
+byOrder Equal later = later
+byOrder Greater later = false
+
+pub decided-order : (xs ys : List ℕ) (later : Bool) → length xs ≡ length ys → decided xs ys later ≡ byOrder (orderOf xs ys) later
+unfolding decided orderOf
+decided-order [] [] later e = refl
+decided-order [] (y ∷ ys) later e = absurd (omega arith)
+decided-order (x ∷ xs) [] later e = absurd (omega arith)
+decided-order (x ∷ xs) (y ∷ ys) later e = by (ltb x y) (ltb y x) (decided-order xs ys later (omega arith))
+  where
+    by : (p q : Bool) → decided xs ys later ≡ byOrder (orderOf xs ys) later → cond p true (cond q false (decided xs ys later)) ≡ byOrder (byHead p q (orderOf xs ys)) later
+    by true q r = refl
+    by false true r = refl
+    by false false r = r
 
 -- one text against itself
 pub decided-self : (xs : List ℕ) (later : Bool) → decided xs xs later ≡ later

@@ -2,6 +2,7 @@ pub mod Comparison
 pub mod Copies
 pub mod Digits
 pub mod BackwardReads
+pub mod NameRuns
 pub mod Pieces
 pub mod Uses
 pub mod Lengths

@@ -4,7 +4,7 @@ use Prim.Native.Nat.{ℕ, zero, suc, _+_, _-_, _*_, _^_, _≤_}
 use mathlib.Core.List.{List, [], _∷_, _++_}
 use mathlib.Core.Bool.{Bool, true, false, cond, not, _&&_}
 use lib.ListN.{length, getD, drop}
-use lib.Dec.{eqb, ltb}
+use lib.Dec.{eqb, leb, ltb}
 use Rattle.texts.specs.Decimal.{decimal, decimals}
 use Rattle.texts.specs.Dots.{dot}
 use Rattle.image.specs.Sections.{textOrEmpty, sections}
@@ -47,6 +47,10 @@ unfoldable pub stepBack : ℕ → List ℕ → Cursor → Cursor
 stepBack version nodes c =
     cond (eqb (c .left) 0) (atEnd version nodes (c .above))
     (record { named = c .named; at = c .at; left = c .left - 1; above = c .above })
+
+-- how many bytes are left of a cursor's name: none of a place, nor of a name that is not inside the strings
+unfoldable pub nameLeft : List ℕ → Cursor → ℕ
+nameLeft strings c = cond (c .named) (cond (leb (c .at + c .left) (length strings)) (c .left) 0) 0
 
 -- as many bytes as the first argument says, before a cursor
 unfoldable pub readBack : ℕ → ℕ → List ℕ → List ℕ → Cursor → List ℕ
@@ -131,5 +135,5 @@ lengthFrom (suc n) version nodes x =
 
 -- names on an `unfolding` line what a computation with this module needs
 unfoldable pub keyed : Unit {0}
-unfolding pieceLength atEnd lastByte stepBack readBack back decided keyOf keyLength endOf lengthBelow lengthFrom sections decimals
+unfolding pieceLength atEnd lastByte stepBack nameLeft readBack back decided keyOf keyLength endOf lengthBelow lengthFrom sections decimals
 keyed = tt

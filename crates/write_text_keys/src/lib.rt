@@ -10,11 +10,12 @@ ghost use Rattle.texts.specs.Text.{before};
 ghost use Rattle.texts.specs.Decimal.{decimal};
 ghost use Rattle.draft.specs.Source.{wordOf};
 ghost use Rattle.write_text_keys.specs.Keys.{pieceLength, atEnd, lastByte, stepBack, readBack, back, decided, alike, nodeOf};
-ghost use Rattle.write_text_keys.specs.Keys.{longOf, keyOf, keyLength, endOf, keyIn, textIn, onePart, Placed, lengthBelow};
+ghost use Rattle.write_text_keys.specs.Keys.{nameLeft, longOf, keyOf, keyLength, endOf, keyIn, textIn, onePart, Placed, lengthBelow};
 use draft::layout::Layout;
 use draft::source;
 use draft::source::Source;
 use image::order::comes_before;
+use texts::Order;
 
 // Where a text is read backward: a piece of it is a name at an offset of the strings, or a place. So many bytes of the piece are left,
 // and before them a dot and the piece of the node above.
@@ -119,6 +120,19 @@ fn step_back(nodes: &[u32], c: Cursor, source: Source) -> Cursor
     }
 }
 
+// The cursor so many bytes before another in the same piece.
+fn back_within(c: Cursor, count: usize) -> Cursor
+    requires { ⌜ count ≤ c .left ⌝ }
+    ensures { λ r. ⌜ ((version : ℕ) (nodes : List ℕ) → r ≡ back count version nodes c) ⌝ }
+{
+    Cursor {
+        named: c.named,
+        at: c.at,
+        left: c.left - count as u32,
+        above: c.above,
+    }
+}
+
 // The cursor `count` bytes before another. A whole piece is passed in one step.
 fn skip(nodes: &[u32], c: Cursor, count: usize, source: Source) -> Cursor
     ensures { λ r. ⌜ r ≡ back count (source .version) (now (nodes .entry)) c ⌝ }
@@ -129,12 +143,20 @@ fn skip(nodes: &[u32], c: Cursor, count: usize, source: Source) -> Cursor
         rest -= x.left as usize + 1;
         x = at_end(nodes, x.above, source);
     }
-    Cursor {
-        named: x.named,
-        at: x.at,
-        left: x.left - rest as u32,
-        above: x.above,
+    back_within(x, rest)
+}
+
+// The smallest of three numbers.
+fn shortest(a: usize, b: usize, c: usize) -> usize
+    ensures { λ r. ⌜ (r ≤ a) × (r ≤ b) × (r ≤ c) ⌝ }
+{
+    if a < b {
+        if a < c {
+            return a;
+        }
+        return c;
     }
+    if b < c { b } else { c }
 }
 
 // Whether what is left before both cursors is one text, since one node is above both.
@@ -163,7 +185,54 @@ fn decide(x: u8, y: u8, later: bool) -> bool
     later
 }
 
+// How many of the `n` bytes before each of two cursors both read from names that are inside the strings.
+fn run_length(strings: &[u8], c: Cursor, d: Cursor, n: usize) -> usize
+    ensures { λ r. ⌜ (r ≤ n) × (r ≤ nameLeft (now (strings .entry)) c) × (r ≤ nameLeft (now (strings .entry)) d) ⌝ }
+{
+    if !c.named {
+        return 0;
+    }
+    if !d.named {
+        return 0;
+    }
+    if strings.len() < c.at as usize + c.left as usize {
+        return 0;
+    }
+    if strings.len() < d.at as usize + d.left as usize {
+        return 0;
+    }
+    shortest(c.left as usize, d.left as usize, n)
+}
+
+// The `run` bytes before a cursor, which are its name's.
+fn run_of(strings: &[u8], c: Cursor, run: usize) -> &[u8]
+    requires { ⌜ (0 < run) × (run ≤ nameLeft (now strings) c) ⌝ }
+    ensures { λ r. ⌜ ((version : ℕ) (nodes : List ℕ) → now r ≡ readBack run version nodes (now (strings .entry)) c) ⌝ }
+{
+    let end = c.at as usize + c.left as usize;
+    &strings[end - run..end]
+}
+
+// Whether the `run` bytes before `c`, all of its name, come before those before `d`; where they are alike, `later` says it of what is
+// behind them. One part of the strings is not read.
+fn run_below(strings: &[u8], c: Cursor, d: Cursor, run: usize, later: bool) -> bool
+    requires { ⌜ (0 < run) × (run ≤ nameLeft (now strings) c) × (run ≤ nameLeft (now strings) d) ⌝ }
+    ensures { λ r. ⌜ ((version : ℕ) (nodes : List ℕ) → let read = readBack run version nodes (now (strings .entry)) in
+        r ≡ decided (read c) (read d) later) ⌝ }
+{
+    if c.at as usize + c.left as usize == d.at as usize + d.left as usize {
+        return later;
+    }
+    let order = texts::compare(run_of(strings, c, run), run_of(strings, d, run));
+    match order {
+        Order::Less => true,
+        Order::Equal => later,
+        Order::Greater => false,
+    }
+}
+
 // Whether the `n` bytes before `c` come before the `n` bytes before `d`; where they are alike, `later` says it of what is behind them.
+// What both read from names is compared at once.
 fn read_below(
     nodes: &[u32],
     strings: &[u8],
@@ -184,10 +253,18 @@ fn read_below(
         if rest_alike(x, y) {
             return less;
         }
-        less = decide(last_byte(strings, x), last_byte(strings, y), less);
-        x = step_back(nodes, x, source);
-        y = step_back(nodes, y, source);
-        left -= 1;
+        let run = run_length(strings, x, y, left);
+        if run == 0 {
+            less = decide(last_byte(strings, x), last_byte(strings, y), less);
+            x = step_back(nodes, x, source);
+            y = step_back(nodes, y, source);
+            left -= 1;
+        } else {
+            less = run_below(strings, x, y, run, less);
+            x = back_within(x, run);
+            y = back_within(y, run);
+            left -= run;
+        }
     }
     less
 }

@@ -5,6 +5,7 @@ use Prim.Native.Nat.{_-_}
 use mathlib.Core.Path.{_≡_, refl, sym, _∙_}
 use Rattle.write_text_keys.specs.Keys.{readBack, decided}
 use Rattle.write_text_keys.proofs.Uses.{none-decided, rest-decided, byte-decided}
+use Rattle.write_text_keys.proofs.NameRuns.{InName, in-name, run-decided}
 use Rattle.write_text_keys.proofs.read_below.Statement.{statement}
 use Rattle.write_text_keys.proofs.read_below.Tie as tie
 
@@ -27,6 +28,9 @@ returns c =
     let at = c .before .before .before in
     let to = at .before .before .before .args in
     sym (at .loop .inv ∙ rest-decided (to .source .version) (to .nodes .now) (to .strings .now) (at .loop .left) (at .loop .x) (at .loop .y) (at .loop .less) (sym (c .before .rest-alike .ensures) ∙ c .if1 .taken))
+
+run-length-requires : tie.Need-run-length-requires Inv-loop μ-loop
+run-length-requires c κs = search needs
 
 last-byte-requires : tie.Need-last-byte-requires Inv-loop μ-loop
 last-byte-requires c κs = search needs
@@ -51,12 +55,45 @@ loop-less c = search needs
 
 loop-again : tie.Need-loop-again Inv-loop μ-loop
 loop-again c =
-    let at = c .before .before .before .before .before .before .before .before in
+    let at = c .before .before .before .before .before .before .before .before .before .before in
     let to = at .before .before .before .args in
     let left = at .loop .left - 1 in
     at .loop .inv
-    ∙ byte-decided (to .source .version) (to .nodes .now) (to .strings .now) left (at .loop .left) (at .loop .x) (at .loop .y) (at .loop .less) (omega arith)
+    ∙ byte-decided (to .source .version) (to .nodes .now) (to .strings .now) left (at .loop .left) (at .loop .x) (at .loop .y) (at .loop .less) (omega (arith, c .before .before .before .before .before .before .before .before .before .loop-test .taken))
     ∙ rw (c .before .step-back .ensures, c .step-back2 .ensures, c .before .before .decide .ensures, c .before .before .before .before .last-byte .ensures, c .before .before .before .last-byte2 .ensures)
+
+-- a run is one of names
+first : (c : tie.Else2 Inv-loop μ-loop) → InName (c .before .before .before .before .before .before .before .before .args .strings .now) (c .before .before .before .before .before .loop .x) (c .before .run-length .result)
+first c = in-name _ _ _ (omega arith) (c .before .run-length .ensures .1)
+
+second : (c : tie.Else2 Inv-loop μ-loop) → InName (c .before .before .before .before .before .before .before .before .args .strings .now) (c .before .before .before .before .before .loop .y) (c .before .run-length .result)
+second c = in-name _ _ _ (omega arith) (c .before .run-length .ensures .2)
+
+run-below-requires : tie.Need-run-below-requires Inv-loop μ-loop
+run-below-requires c κs = search needs
+
+back-within-requires : tie.Need-back-within-requires Inv-loop μ-loop
+back-within-requires c κs = first (c .before) .left
+
+back-within-requires-2 : tie.Need-back-within-requires-2 Inv-loop μ-loop
+back-within-requires-2 c κs = second (c .before .before) .left
+
+sub-left-2 : tie.Need-sub-left-2 Inv-loop μ-loop
+sub-left-2 c = search needs
+
+loop-less-2 : tie.Need-loop-less-2 Inv-loop μ-loop
+loop-less-2 c = search needs
+
+loop-again-2 : tie.Need-loop-again-2 Inv-loop μ-loop
+loop-again-2 c =
+    let run = c .before .before .before .before .run-length .result in
+    let at = c .before .before .before .before .before .before .before .before in
+    let to = at .before .before .before .args in
+    let v = to .source .version in
+    let nodes = to .nodes .now in
+    at .loop .inv
+    ∙ run-decided v nodes (to .strings .now) run (at .loop .left - run) (at .loop .left) (at .loop .x) (at .loop .y) (at .loop .less) (omega arith)
+    ∙ rw (c .before .back-within .ensures v nodes, c .back-within2 .ensures v nodes, c .before .before .run-below .ensures v nodes)
 
 returns-2 : tie.Need-returns-2 Inv-loop μ-loop
 returns-2 c =
@@ -74,6 +111,7 @@ read-below-spec =
     loop-holds
     rest-alike-requires
     returns
+    run-length-requires
     last-byte-requires
     last-byte-requires-2
     decide-requires
@@ -82,4 +120,10 @@ read-below-spec =
     sub-left
     loop-less
     loop-again
+    run-below-requires
+    back-within-requires
+    back-within-requires-2
+    sub-left-2
+    loop-less-2
+    loop-again-2
     returns-2)

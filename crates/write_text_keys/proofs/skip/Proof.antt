@@ -4,7 +4,7 @@ use native.Mathlib.Omega.{arith}
 use Prim.Native.Nat.{_+_, _-_}
 use mathlib.Core.Path.{_≡_, refl, sym, ap, _∙_}
 use Rattle.write_text_keys.specs.Keys.{back}
-use Rattle.write_text_keys.proofs.BackwardReads.{back-in, back-up}
+use Rattle.write_text_keys.proofs.BackwardReads.{back-up}
 use Rattle.write_text_keys.proofs.skip.Statement.{statement}
 use Rattle.write_text_keys.proofs.skip.Tie as tie
 
@@ -41,17 +41,14 @@ loop-again c =
     let to = at .before .before .args in
     at .loop .inv ∙ back-up (to .source .version) (to .nodes .now) (at .loop .rest) (at .loop .rest - (at .loop .x .left + 1)) (at .loop .x) (omega arith) ∙ ap (back (at .loop .rest - (at .loop .x .left + 1)) (to .source .version) (to .nodes .now)) (sym (c .at-end .ensures))
 
-cast-t10 : tie.Need-cast-t10 Inv-loop μ-loop
-cast-t10 c = search needs
-
-sub-t11 : tie.Need-sub-t11 Inv-loop μ-loop
-sub-t11 c = search needs
+back-within-requires : tie.Need-back-within-requires Inv-loop μ-loop
+back-within-requires c κs = search needs
 
 returns : tie.Need-returns Inv-loop μ-loop
 returns c =
     let at = c .before .before .before in
     let to = at .before .before .args in
-    sym (at .loop .inv ∙ back-in (to .source .version) (to .nodes .now) (at .loop .rest) (at .loop .x) (omega arith))
+    c .back-within .ensures (to .source .version) (to .nodes .now) ∙ sym (at .loop .inv)
 
 pub skip-spec : {M : Type 1} → statement M
 skip-spec =
@@ -67,6 +64,5 @@ skip-spec =
     at-end-requires
     loop-less
     loop-again
-    cast-t10
-    sub-t11
+    back-within-requires
     returns)
