@@ -141,7 +141,7 @@ pub fn fill(
         strings,
         work,
         layout,
-        entries.index,
+        counts.index,
         places,
         &mut out[header..],
         source,

@@ -29,7 +29,7 @@ tagAt version nodes x = wordOf version nodes x 2
 unfoldable pub containersIn : ℕ → List ℕ → List ℕ → ℕ → ℕ → List ℕ
 containersIn version nodes w at zero = []
 containersIn version nodes w at (suc n) =
-    containersIn version nodes w at n ++ cond (eqb (tagAt version nodes (getD w (at + n) 0)) 1) (getD w (at + n) 0 ∷ []) []
+    containersIn version nodes w at n ++ cond (eqb (tagAt version nodes (getD w (at + n) 0)) containerTag) (getD w (at + n) 0 ∷ []) []
 
 -- word k from `at` on names a node whose parent is a container that an earlier one names
 pub record ParentListed (version : ℕ) (nodes w : List ℕ) (at k : ℕ) : Type 0 where

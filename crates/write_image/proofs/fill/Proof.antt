@@ -9,14 +9,14 @@ use Rattle.write_image.proofs.fill.Tie as tie
 
 put-header-requires : tie.Need-put-header-requires
 put-header-requires c κs =
-    let p = c .before .before .before .before .before .before .before .before .before .pre in (omega (arith, p .1), long-enough _ _ _ _ (p .0))
+    let p = c .before .before .before .before .before .before .before .before .before .before .pre in (omega (arith, p .1), long-enough _ _ _ _ (p .0))
 
 places-of-requires : tie.Need-places-of-requires
-places-of-requires c κs = long-enough _ _ _ _ (c .before .before .before .before .before .before .before .before .before .before .before .before .before .before .pre .0)
+places-of-requires c κs = long-enough _ _ _ _ (c .before .before .before .before .before .before .before .before .before .before .before .before .before .pre .0)
 
 add-end : tie.Need-add-end
 add-end c =
-    let p = c .before .before .before .before .before .before .before .before .before .before .before .before .before .before .before .before .pre in
+    let p = c .before .before .before .before .before .before .before .before .before .before .before .before .before .before .before .pre in
     omega (arith, p .1, body-end _ _ _ _ (p .0) _ (c .before .places-of .ensures))
 
 sub-put-sections : tie.Need-sub-put-sections
@@ -30,13 +30,13 @@ part-put-sections-end c = search needs
 
 put-sections-requires : tie.Need-put-sections-requires
 put-sections-requires c κs =
-    let p = c .before .before .before .before .before .before .before .before .before .before .before .before .before .before .before .before .before .pre in
+    let p = c .before .before .before .before .before .before .before .before .before .before .before .before .before .before .before .before .pre in
     let places = c .before .before .places-of .ensures in
     sectioned _ _ _ _ (p .0) _ _ places (omega (arith, p .1, body-end _ _ _ _ (p .0) _ places))
 
 slice-relend-prefix-put-checksum : tie.Need-slice-relend-prefix-put-checksum
 slice-relend-prefix-put-checksum c =
-    let p = c .before .before .before .before .before .before .before .before .before .before .before .before .before .before .before .before .before .before .before .before .pre in
+    let p = c .before .before .before .before .before .before .before .before .before .before .before .before .before .before .before .before .before .before .before .pre in
     let places-of = c .before .before .before .before .before .places-of in
     omega (arith, p .1, body-end _ _ _ _ (p .0) _ (places-of .ensures))
 
@@ -51,8 +51,8 @@ same-length c = search needs
 
 returns : tie.Need-returns
 returns c =
-    let p = c .before .before .before .before .before .before .before .before .before .before .before .before .before .before .before .before .before .before .before .before .before .before .before .before .pre in
-    let put-header = c .before .before .before .before .before .before .before .before .before .before .before .before .before .put-header in
+    let p = c .before .before .before .before .before .before .before .before .before .before .before .before .before .before .before .before .before .before .before .before .before .before .before .pre in
+    let put-header = c .before .before .before .before .before .before .before .before .before .before .before .before .put-header in
     let places-of = c .before .before .before .before .before .before .before .before .before .places-of in
     let put-sections = c .before .before .before .before .before .before .put-sections in
     image-put _ _ _ _ (p .0) _ _ _ _ _ _ _ (places-of .ensures) (p .1) (put-header .ensures)
