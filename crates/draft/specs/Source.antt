@@ -5,6 +5,7 @@ use mathlib.Core.List.{List, []}
 use lib.ListN.{getD}
 use Rattle.image.specs.Sections.{Sections, nodeWords}
 use Rattle.records.specs.declared.Counts.{Counts}
+use Rattle.draft.specs.declared.source.PathNode.{PathNode}
 use Rattle.records.specs.Shown.{countsOf}
 
 abbrev pub draftOf : ℕ → List ℕ → List ℕ → List ℕ → List ℕ → List ℕ → List ℕ → List ℕ → Sections
@@ -28,6 +29,16 @@ nodesOnly version nodes payload = draftOf version nodes [] [] [] [] payload []
 -- word k of node n, in the nodes' words: 0 past the end
 abbrev pub wordOf : ℕ → List ℕ → ℕ → ℕ → ℕ
 wordOf version nodes n k = getD nodes (n * nodeWords version + k) 0
+
+-- what a path needs of node n
+abbrev pub pathNode : ℕ → List ℕ → ℕ → PathNode
+pathNode version nodes n =
+    record {
+      parent = wordOf version nodes n 0;
+      place = wordOf version nodes n 1;
+      offset = wordOf version nodes n 3;
+      len = wordOf version nodes n 4;
+    }
 
 -- sections whose nodes, payload and strings are these, with their counts
 pub record NodesFrom (s : Sections) (version : ℕ) (nodes payload strings : List ℕ) (c : Counts) : Type 0 where

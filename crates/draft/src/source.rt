@@ -7,7 +7,7 @@ ghost use Rattle.words.specs.Words.{wordAt, wordIn};
 ghost use Rattle.image.specs.Sections.{commonWords, nodeWords, textEntryWords, definitionWords};
 ghost use Rattle.image.specs.Entries.{recordOf, textEntryOf, definitionOf};
 ghost use Rattle.records.specs.Shown.{tagIn};
-ghost use Rattle.draft.specs.Source.{draftOf, wordOf};
+ghost use Rattle.draft.specs.Source.{draftOf, wordOf, pathNode};
 use image::Definition;
 use image::ImageView;
 use image::NodeRecord;
@@ -61,6 +61,35 @@ pub fn word_of(nodes: &[u32], n: u32, k: usize, source: Source) -> u32
     ensures { λ r. ⌜ r ≡ wordOf (source .version) (now (nodes .entry)) n k ⌝ }
 {
     word(nodes, first_word(n as usize, source) + k)
+}
+
+// What a path needs of a node: its parent, its place and its name.
+pub struct PathNode {
+    pub parent: u32,
+    pub place: u32,
+    pub offset: u32,
+    pub len: u32,
+}
+
+// That of the node that a word names: 0 past the end. One test serves the four words of a node that is there.
+pub fn path_node(nodes: &[u32], n: u32, source: Source) -> PathNode
+    ensures { λ r. ⌜ r ≡ pathNode (source .version) (now (nodes .entry)) n ⌝ }
+{
+    let at = first_word(n as usize, source);
+    if at + 4 < nodes.len() {
+        return PathNode {
+            parent: nodes[at],
+            place: nodes[at + 1],
+            offset: nodes[at + 3],
+            len: nodes[at + 4],
+        };
+    }
+    PathNode {
+        parent: word_of(nodes, n, 0, source),
+        place: word_of(nodes, n, 1, source),
+        offset: word_of(nodes, n, 3, source),
+        len: word_of(nodes, n, 4, source),
+    }
 }
 
 // The node whose words begin at `at`.

@@ -8,7 +8,8 @@ use borrow.Author.Tests.{lt-ltb, le-ltb}
 use Rattle.texts.specs.Decimal.{decimal}
 use Rattle.image.specs.Sections.{textOrEmpty}
 use Rattle.index.specs.Paths.{noName}
-use Rattle.draft.specs.Source.{wordOf}
+use Rattle.draft.specs.declared.source.PathNode.{PathNode}
+use Rattle.draft.specs.Source.{wordOf, pathNode}
 use Rattle.write_text_keys.specs.declared.Cursor.{Cursor}
 use Rattle.write_text_keys.specs.Keys.{pieceLength, atEnd, nodeOf, longOf, keyLength, endOf}
 
@@ -26,14 +27,30 @@ module _ (v : ℕ) (nodes : List ℕ) (x offset len : ℕ) (b : Bool) (o : offse
   unfolding pieceLength
   piece-named t = rw (read ∙ t) l
 
-  module _ (left above : ℕ) (s : left ≡ pieceLength v nodes x) (u : above ≡ wordOf v nodes x 0) where
-    pub end-unnamed : (place : ℕ) → place ≡ wordOf v nodes x 1 → b ≡ true → record { named = false; at = place; left = left; above = above } ≡ atEnd v nodes x
-    unfolding atEnd
-    end-unnamed place e t = rw (read ∙ t) (cc)
+-- ---- the end of a piece, by what a path needs of its node
 
-    pub end-named : b ≡ false → record { named = true; at = offset; left = left; above = above } ≡ atEnd v nodes x
-    unfolding atEnd
-    end-named t = rw (read ∙ t) (cc)
+module _ (v : ℕ) (nodes : List ℕ) (x : ℕ) (node : PathNode) (e : node ≡ pathNode v nodes x) (b : Bool) (p : b ≡ noName (node .offset) (node .len)) where
+  above : node .parent ≡ wordOf v nodes x 0
+  above = ap (λ (n : PathNode). n .parent) e
+
+  unnamed : (t : Bool) → b ≡ t → noName (wordOf v nodes x 3) (wordOf v nodes x 4) ≡ t
+  unnamed t h = ap (λ (n : PathNode). noName (n .offset) (n .len)) (sym e) ∙ sym p ∙ h
+
+  pub end-unnamed : (left : ℕ) → left ≡ length (decimal (node .place)) → b ≡ true → record { named = false; at = node .place; left = left; above = node .parent } ≡ atEnd v nodes x
+  unfolding atEnd pieceLength
+  end-unnamed left l t =
+      let place : node .place ≡ wordOf v nodes x 1 = ap (λ (n : PathNode). n .place) e in
+      let size : left ≡ length (decimal (wordOf v nodes x 1)) = l ∙ ap (λ (n : ℕ). length (decimal n)) place in
+      let up = above in
+      rw (unnamed true t) (cc)
+
+  pub end-named : b ≡ false → record { named = true; at = node .offset; left = node .len; above = node .parent } ≡ atEnd v nodes x
+  unfolding atEnd pieceLength
+  end-named t =
+      let offset : node .offset ≡ wordOf v nodes x 3 = ap (λ (n : PathNode). n .offset) e in
+      let len : node .len ≡ wordOf v nodes x 4 = ap (λ (n : PathNode). n .len) e in
+      let up = above in
+      rw (unnamed false t) (cc)
 
 -- ---- a use
 

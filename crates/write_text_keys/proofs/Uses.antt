@@ -13,7 +13,7 @@ use Rattle.texts.specs.Text.{before}
 use Rattle.texts.proofs.Text.{before-self}
 use Rattle.image.specs.Sections.{partAt, textOrEmpty}
 use Rattle.write_text_keys.specs.declared.Cursor.{Cursor}
-use Rattle.write_text_keys.specs.Keys.{textIn, onePart, atEnd, lastByte, stepBack, readBack, back, decided, alike, nodeOf, longOf, keyOf, keyLength, endOf}
+use Rattle.write_text_keys.specs.Keys.{atEnd, lastByte, stepBack, readBack, back, decided, alike, nodeOf, longOf, keyOf, keyLength, endOf}
 use Rattle.write_text_keys.proofs.Comparison.{decided-last, decided-self, before-shorter, before-longer}
 use Rattle.write_text_keys.proofs.BackwardReads.{read-length, read-front, read-one, read-alike, piece-read}
 
@@ -24,13 +24,8 @@ tail-part at w = take-all (length w - at) (drop at w) (omega (arith, length-drop
 -- ---- texts
 
 -- one part is one text
-pub part-self : (strings tab : List ℕ) (a b : ℕ) → onePart tab a b ≡ true → false ≡ before (textIn strings tab a) (textIn strings tab b)
-part-self strings tab a b e =
-    let p = both-true (eqb (getD tab (a + a) 0) (getD tab (b + b) 0)) _ e in
-    let at : getD tab (a + a) 0 ≡ getD tab (b + b) 0 = eqb-true _ _ (p .0) in
-    let len : getD tab (a + a + 1) 0 ≡ getD tab (b + b + 1) 0 = eqb-true _ _ (p .1) in
-    let one : textIn strings tab a ≡ textIn strings tab b = λ t. textOrEmpty strings (at t) (len t) in
-    sym (ap (λ (x : List ℕ). before x (textIn strings tab b)) one ∙ before-self (textIn strings tab b))
+pub part-self : (strings : List ℕ) (offset len at size : ℕ) → offset ≡ at → len ≡ size → false ≡ before (textOrEmpty strings offset len) (textOrEmpty strings at size)
+part-self strings offset len at size e l = sym (rw (e, l) (before-self (textOrEmpty strings at size)))
 
 module _ (v : ℕ) (nodes strings : List ℕ) where
   -- a name, read from its end

@@ -87,10 +87,6 @@ longOf lengths tab x = getD tab (lengths + x + x) 0 + 2 ^ 32 * getD tab (lengths
 abbrev pub textIn : List ℕ → List ℕ → ℕ → List ℕ
 textIn strings tab a = textOrEmpty strings (getD tab (a + a) 0) (getD tab (a + a + 1) 0)
 
--- text uses a and b are one part of the strings
-abbrev pub onePart : List ℕ → ℕ → ℕ → Bool
-onePart tab a b = eqb (getD tab (a + a) 0) (getD tab (b + b) 0) && eqb (getD tab (a + a + 1) 0) (getD tab (b + b + 1) 0)
-
 -- the text of use a, by the tables of uses
 unfoldable pub keyOf : ℕ → List ℕ → List ℕ → ℕ → ℕ → ℕ → List ℕ → ℕ → List ℕ
 keyOf version nodes strings texts paths lengths tab a =

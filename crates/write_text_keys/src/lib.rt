@@ -8,14 +8,21 @@ ghost use lib.Dec.{ltb};
 ghost use lib.ListN.{length, getD, drop};
 ghost use Rattle.texts.specs.Text.{before};
 ghost use Rattle.texts.specs.Decimal.{decimal};
+ghost use Rattle.image.specs.Sections.{textOrEmpty};
 ghost use Rattle.draft.specs.Source.{wordOf};
 ghost use Rattle.write_text_keys.specs.Keys.{pieceLength, atEnd, lastByte, stepBack, readBack, back, decided, alike, nodeOf};
-ghost use Rattle.write_text_keys.specs.Keys.{nameLeft, longOf, keyOf, keyLength, endOf, keyIn, textIn, onePart, Placed, lengthBelow};
+ghost use Rattle.write_text_keys.specs.Keys.{nameLeft, longOf, keyOf, keyLength, endOf, keyIn, textIn, Placed, lengthBelow};
 use draft::layout::Layout;
 use draft::source;
 use draft::source::Source;
 use image::order::comes_before;
 use texts::Order;
+
+// Where a text lies in the strings.
+struct Part {
+    offset: u32,
+    len: u32,
+}
 
 // Where a text is read backward: a piece of it is a name at an offset of the strings, or a place. So many bytes of the piece are left,
 // and before them a dot and the piece of the node above.
@@ -48,23 +55,21 @@ fn piece_length(nodes: &[u32], x: u32, source: Source) -> u32
 fn at_end(nodes: &[u32], x: u32, source: Source) -> Cursor
     ensures { λ r. ⌜ r ≡ atEnd (source .version) (now (nodes .entry)) x ⌝ }
 {
-    let above = source::word_of(nodes, x, 0, source);
-    let offset = source::word_of(nodes, x, 3, source);
-    let left = piece_length(nodes, x, source);
-    if index::no_name(offset, source::word_of(nodes, x, 4, source)) {
-        let place = source::word_of(nodes, x, 1, source);
+    let node = source::path_node(nodes, x, source);
+    if index::no_name(node.offset, node.len) {
+        let left = digit_count(node.place);
         return Cursor {
             named: false,
-            at: place,
+            at: node.place,
             left,
-            above,
+            above: node.parent,
         };
     }
     Cursor {
         named: true,
-        at: offset,
-        left,
-        above,
+        at: node.offset,
+        left: node.len,
+        above: node.parent,
     }
 }
 
@@ -269,12 +274,35 @@ fn read_below(
     less
 }
 
+// Where text use `a` lies. One test serves both words where they are there.
+fn part_of(tab: &[u32], a: u32) -> Part
+    ensures { λ r. ⌜ (r .offset ≡ getD (now (tab .entry)) (a + a) 0) × (r .len ≡ getD (now (tab .entry)) (a + a + 1) 0) ⌝ }
+{
+    let i = a as usize + a as usize;
+    if i + 1 < tab.len() {
+        return Part {
+            offset: tab[i],
+            len: tab[i + 1],
+        };
+    }
+    Part {
+        offset: source::word(tab, i),
+        len: source::word(tab, i + 1),
+    }
+}
+
+// The bytes of a part of the strings.
+fn part_bytes(strings: &[u8], part: Part) -> &[u8]
+    ensures { λ r. ⌜ now r ≡ textOrEmpty (now (strings .entry)) (part .offset) (part .len) ⌝ }
+{
+    image::text_part(strings, part.offset, part.len)
+}
+
 // The bytes of text use `a`.
 fn text_of<'s, 't>(strings: &'s [u8], tab: &'t [u32], a: u32) -> &'s [u8]
     ensures { λ r. ⌜ now r ≡ textIn (now (strings .entry)) (now (tab .entry)) a ⌝ }
 {
-    let i = a as usize + a as usize;
-    image::text_part(strings, source::word(tab, i), source::word(tab, i + 1))
+    part_bytes(strings, part_of(tab, a))
 }
 
 // The node whose path is use `a`.
@@ -313,37 +341,34 @@ fn end_of(nodes: &[u32], tab: &[u32], layout: Layout, a: u32, source: Source) ->
     ensures { λ r. ⌜ r ≡ endOf (source .version) (now (nodes .entry)) (layout .texts) (layout .paths) (now (tab .entry)) a ⌝ }
 {
     if (a as usize) < layout.texts {
-        let i = a as usize + a as usize;
+        let part = part_of(tab, a);
         return Cursor {
             named: true,
-            at: source::word(tab, i),
-            left: source::word(tab, i + 1),
+            at: part.offset,
+            left: part.len,
             above: 0,
         };
     }
     at_end(nodes, node_of(tab, layout, a), source)
 }
 
-// Whether two text uses are one part of the strings.
-fn one_part(tab: &[u32], a: u32, b: u32) -> bool
-    ensures { λ r. ⌜ r ≡ onePart (now (tab .entry)) a b ⌝ }
+// Whether the text of one part comes before that of another. One part of the strings is not read.
+fn parts_below(strings: &[u8], p: Part, q: Part) -> bool
+    ensures { λ r. ⌜ (let text = textOrEmpty (now (strings .entry)) in r ≡ before (text (p .offset) (p .len)) (text (q .offset) (q .len))) ⌝ }
 {
-    let i = a as usize + a as usize;
-    let j = b as usize + b as usize;
-    if source::word(tab, i) != source::word(tab, j) {
-        return false;
+    if p.offset == q.offset {
+        if p.len == q.len {
+            return false;
+        }
     }
-    source::word(tab, i + 1) == source::word(tab, j + 1)
+    comes_before(part_bytes(strings, p), part_bytes(strings, q))
 }
 
-// Whether the text of text use `a` comes before that of text use `b`. One part of the strings is not read.
+// Whether the text of text use `a` comes before that of text use `b`.
 fn texts_below(strings: &[u8], tab: &[u32], a: u32, b: u32) -> bool
     ensures { λ r. ⌜ (let text = textIn (now (strings .entry)) (now (tab .entry)) in r ≡ before (text a) (text b)) ⌝ }
 {
-    if one_part(tab, a, b) {
-        return false;
-    }
-    comes_before(text_of(strings, tab, a), text_of(strings, tab, b))
+    parts_below(strings, part_of(tab, a), part_of(tab, b))
 }
 
 // Whether the text of use `a` comes before that of use `b`, by cursors: the longer one's surplus is passed, then both are read backward.
