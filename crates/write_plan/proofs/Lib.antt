@@ -1,3 +1,4 @@
+pub mod SharedTexts
 pub mod Premises
 pub mod UseTexts
 pub mod StoreAnswers

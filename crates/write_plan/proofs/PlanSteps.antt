@@ -40,7 +40,9 @@ use Rattle.write_paths.specs.Arranged.{indexedOf, Indexes}
 use Rattle.write_plan.specs.declared.Uses.{Uses}
 use Rattle.write_plan.specs.declared.Plan.{Plan}
 use Rattle.write_plan.specs.declared.Plan.the-variants.{Ready, Refused}
+use Rattle.write_plan.specs.Shared.{SameTexts}
 use Rattle.write_plan.specs.Planned.{layoutOf, planRule, Prepared, PlanOf, StoredPlan}
+use Rattle.write_plan.proofs.SharedTexts.{table-same, long-same, key-same}
 use Rattle.write_paths.proofs.NodeList.{same-later}
 use Rattle.write_plan.proofs.Premises.{once}
 use Rattle.write_plan.proofs.UseTexts.{texts-same, uses-long, tables-put, put-behind, boxes-long, boxes′, longs′, key-use, paths-rise}
@@ -212,11 +214,14 @@ module _ (version : ℕ) (ns cs ms ds is ps ss : List ℕ) (p : tablesRule (draf
         pub store-room : texts + found + (texts + found) ≤ layoutOf s .at
         store-room = omega (arith, bound, texts-all)
 
-        pub store-placed : (layoutOf s .at + layoutOf s .paths ≤ length w₃) × (layoutOf s .at + layoutOf s .lengths ≤ length w₃)
-        store-placed = (omega (arith, long, long₂, long₃, laid .lists, laid .sizes, laid .numbers), omega (arith, long, long₂, long₃, laid .sizes, laid .numbers))
-
         text-room : 2 * length (textUses s (numbering s)) ≤ layoutOf s .paths
         text-room = omega (arith, bound)
+
+        pub store-tables : (texts + texts ≤ layoutOf s .paths) × (layoutOf s .paths ≤ layoutOf s .lengths)
+        store-tables = (omega (arith, texts-all, text-room), omega (arith, laid .lists))
+
+        pub store-placed : (layoutOf s .at + layoutOf s .paths ≤ length w₃) × (layoutOf s .at + layoutOf s .lengths ≤ length w₃)
+        store-placed = (omega (arith, long, long₂, long₃, laid .lists, laid .sizes, laid .numbers), omega (arith, long, long₂, long₃, laid .sizes, laid .numbers))
 
         tab : List ℕ
         tab = drop (layoutOf s .at) w₂
@@ -243,7 +248,7 @@ module _ (version : ℕ) (ns cs ms ds is ps ss : List ℕ) (p : tablesRule (draf
             ap (distinct [])
             (texts-same (texts + found) key (uses s (numbering s)) (uses-long s ∙ omega (arith, texts-all, found-all)) key-now)
 
-        module _ (w₄ : List ℕ) (kept : drop (layoutOf s .at) w₄ ≡ drop (layoutOf s .at) w₃) where
+        module _ (w₄ : List ℕ) (kept : SameTexts ss (layoutOf s .at) texts w₃ w₄) where
           rest : planRule s ≡ (unless (leb (length (uses s (numbering s))) NONE) 23 ▸ unless (leb (length (storedBytes s)) NONE) 23)
           rest = plan-rest s q r free
 
@@ -259,12 +264,15 @@ module _ (version : ℕ) (ns cs ms ds is ps ss : List ℕ) (p : tablesRule (draf
               let e : layoutOf s .at + (i - layoutOf s .at) ≡ i = omega (arith, laid .sizes) in
               let there : (l : List ℕ) → getD l i 0 ≡ getD (drop (layoutOf s .at) l) (i - layoutOf s .at) 0 =
               λ l. sym (getD-drop (layoutOf s .at) l (i - layoutOf s .at) 0 ∙ ap (λ (k : ℕ). getD l k 0) e) in
-              there w₄ ∙ ap (λ (l : List ℕ). getD l (i - layoutOf s .at) 0) (kept ∙ tables-now)
+              kept .behind i (omega (arith, texts-all, text-room, laid .lists, laid .sizes)) ∙ there w₃ ∙ ap (λ (l : List ℕ). getD l (i - layoutOf s .at) 0) tables-now
               ∙ put-behind (useWords s (numbering s)) (drop (layoutOf s .at) w₂) (i - layoutOf s .at)
               (omega (arith, uses-length s (numbering s), bound, laid .sizes)) ∙ sym (there w₂) ∙ late i h
 
-          tables-last : drop (layoutOf s .at) w₄ ≡ useWords s (numbering s) ++ drop (length (useWords s (numbering s))) (drop (layoutOf s .at) w₂)
-          tables-last = kept ∙ tables-now
+          front : texts + texts ≤ layoutOf s .paths
+          front = omega (arith, texts-all, text-room)
+
+          behind : layoutOf s .paths ≤ layoutOf s .lengths
+          behind = omega (arith, laid .lists)
 
           prepared : (u : Uses) → u ≡ record { texts = texts; paths = found; strings = length (joined (storedOf key (texts + found))) }
               → Offsets key (texts + found) w₄ → Prepared s w₄ u
@@ -285,15 +293,17 @@ module _ (version : ℕ) (ns cs ms ds is ps ss : List ℕ) (p : tablesRule (draf
                 keys =
                     λ a h.
                     let l : a < texts + found = omega (arith, ut, up) in
-                    rw ut (ap (λ (tab : List ℕ). keyOf version ns ss texts (layoutOf s .paths) (layoutOf s .lengths) tab a) kept ∙ key-now a l);
+                    rw ut (key-same ss (layoutOf s .at) texts (layoutOf s .paths) (layoutOf s .lengths) w₃ w₄ front behind kept version ns a ∙ key-now a l);
                 boxes =
                     λ k h.
-                    ap (λ (tab : List ℕ). getD tab (layoutOf s .paths + k) 0) tables-last
+                    table-same ss (layoutOf s .at) texts (layoutOf s .paths) (layoutOf s .lengths) w₃ w₄ front behind kept (layoutOf s .paths + k) (omega (arith, front))
+                    ∙ ap (λ (tab : List ℕ). getD tab (layoutOf s .paths + k) 0) tables-now
                     ∙ boxes′ s p q r free (layoutOf s .paths) (layoutOf s .lengths) text-room (omega arith) (drop (layoutOf s .at) w₂) (sorted .boxes free)
                     (sorted .lengths free) k (omega (arith, up, found-all));
                 lengths =
                     λ k h.
-                    ap (λ (tab : List ℕ). longOf (layoutOf s .lengths) tab (oldOf (numbering s) (getD (byPath s (numbering s)) k 0))) tables-last
+                    long-same ss (layoutOf s .at) texts (layoutOf s .paths) (layoutOf s .lengths) w₃ w₄ front behind kept (oldOf (numbering s) (getD (byPath s (numbering s)) k 0))
+                    ∙ ap (λ (tab : List ℕ). longOf (layoutOf s .lengths) tab (oldOf (numbering s) (getD (byPath s (numbering s)) k 0))) tables-now
                     ∙ longs′ s p q r free (layoutOf s .paths) (layoutOf s .lengths) text-room (omega arith) (drop (layoutOf s .at) w₂) (sorted .boxes free)
                     (sorted .lengths free) k (omega (arith, up, found-all));
               }

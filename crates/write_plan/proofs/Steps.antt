@@ -29,9 +29,10 @@ use Rattle.write_paths.specs.Listed.{ParentsFirst}
 use Rattle.write_paths.specs.Arranged.{Rooted, Indexes}
 use Rattle.write_plan.specs.declared.Plan.{Plan}
 use Rattle.write_plan.specs.declared.Plan.the-variants.{Refused}
+use Rattle.write_plan.specs.Shared.{SameTexts}
 use Rattle.write_plan.specs.Planned.{layoutOf, PlanOf, StoredPlan, Shaped, ShapedTables}
 use Rattle.write_plan.proofs.Premises.{rooted, parents-first}
-use Rattle.write_plan.proofs.PlanSteps.{number-fit, number-leads, number-low, number-room, seen-whole, laid, few-nodes, olds-known, olds-in, plan-unreached, reach-passes, plan-shape, plan-paths, indexed-refused, collect-asks, store-room, store-placed, store-rises, planned}
+use Rattle.write_plan.proofs.PlanSteps.{number-fit, number-leads, number-low, number-room, seen-whole, laid, few-nodes, olds-known, olds-in, plan-unreached, reach-passes, plan-shape, plan-paths, indexed-refused, collect-asks, store-room, store-tables, store-placed, store-rises, planned}
 
 -- with so many texts
 abbrev pub withTexts : Layout → ℕ → Layout
@@ -145,18 +146,21 @@ module _ (version : ℕ) (ns cs ms ds is ps ss w₁ : List ℕ) (l : Layout) (kn
         collected = subst (λ (x : Layout). Collected t (wordsFrom w₂ (x .order) (nodeCount t)) w₂ (x .at) w₃ texts) el (gathered cs ss)
 
         pub store-asks : ((texts + found + (texts + found) ≤ l .at) × Placed (withTexts l texts) (length w₃))
-            × RisesFrom (byKey (keyIn version ns ss (withTexts l texts) w₃)) texts (texts + found)
+            × (((texts + texts ≤ l .paths) × (l .paths ≤ l .lengths)) × RisesFrom (byKey (keyIn version ns ss (withTexts l texts) w₃)) texts (texts + found))
         store-asks =
             rw el (
               (
                 store-room version ns cs ms ds is ps ss p q w₁ long numbers r w₂ found long₂ sorted w₃ texts long₃ collected,
                 store-placed version ns cs ms ds is ps ss p q w₁ long numbers r w₂ found long₂ sorted w₃ texts long₃ collected,
               ),
-              store-rises version ns cs ms ds is ps ss p q w₁ long numbers r w₂ found long₂ sorted w₃ texts long₃ collected,
+              (
+                store-tables version ns cs ms ds is ps ss p q w₁ long numbers r w₂ found long₂ sorted w₃ texts long₃ collected,
+                store-rises version ns cs ms ds is ps ss p q w₁ long numbers r w₂ found long₂ sorted w₃ texts long₃ collected,
+              ),
             )
 
-        pub prepared : (w₄ : List ℕ) (m : Plan) → StoredPlan (keyIn version ns ss (withTexts l texts) w₃) texts found w₄ m → drop (l .at) w₄ ≡ drop (l .at) w₃ → PlanOf t w₄ m
+        pub prepared : (w₄ : List ℕ) (m : Plan) → StoredPlan (keyIn version ns ss (withTexts l texts) w₃) texts found w₄ m → SameTexts ss (l .at) texts w₃ w₄ → PlanOf t w₄ m
         prepared w₄ m stored kept =
             planned version ns cs ms ds is ps ss p q w₁ long numbers r w₂ found long₂ sorted w₃ texts long₃ collected w₄
-            (subst (λ (x : Layout). drop (x .at) w₄ ≡ drop (x .at) w₃) el kept) m
+            (subst (λ (x : Layout). SameTexts ss (x .at) texts w₃ w₄) el kept) m
             (subst (λ (x : Layout). StoredPlan (keyIn version ns ss (withTexts x texts) w₃) texts found w₄ m) el stored)

@@ -1,15 +1,19 @@
 // What a draft's image will hold, worked out in the work words before a byte of the output is written: the numbers of the nodes, the
 // paths in text order, the offset of every text. Rules 20 to 22, and 23 where the texts alone are too long.
+pub mod sharing; // sharing.rt: texts that are alike, taken from one place
+
 ghost use mathlib.Core.Path.{_≡_};
 ghost use mathlib.Core.List.{List};
 ghost use Prim.Native.Nat.{ℕ, _+_, _≤_};
-ghost use lib.ListN.{length, drop};
+ghost use lib.ListN.{length};
 ghost use Rattle.texts.specs.Text.{byKey};
 ghost use Rattle.write_interning.specs.Uses.{RisesFrom};
 ghost use Rattle.write_text_keys.specs.Keys.{keyIn, Placed};
 ghost use Rattle.draft.specs.Source.{draftOf};
 ghost use Rattle.draft.specs.Draft.{tablesRule, writeWords};
+ghost use Rattle.write_plan.specs.Shared.{SameTexts};
 ghost use Rattle.write_plan.specs.Planned.{layoutOf, StoredPlan, Shaped, ShapedTables, PlanOf};
+use crate::sharing::share;
 use draft::layout::Layout;
 use draft::shape;
 use draft::source::Source;
@@ -32,7 +36,7 @@ pub enum Plan {
     Refused(u32),
 }
 
-// Stores the texts and paths in use, each once.
+// Stores the texts and paths in use, each once. The table may take a text from another place than it did.
 fn store(
     nodes: &[u32],
     strings: &[u8],
@@ -42,16 +46,18 @@ fn store(
     source: Source,
 ) -> Plan
     requires { ⌜ (layout .texts + paths + (layout .texts + paths) ≤ layout .at) × Placed layout (length (now w)) ⌝ }
+    requires { ⌜ (layout .texts + layout .texts ≤ layout .paths) × (layout .paths ≤ layout .lengths) ⌝ }
     requires { ⌜ RisesFrom (byKey (keyIn (source .version) (now nodes) (now strings) layout (now w))) (layout .texts) (layout .texts + paths) ⌝ }
     ensures answer { λ r. ⌜ (let key = keyIn (source .version) (now (nodes .entry)) (now (strings .entry)) layout (now (w .entry)) in
         StoredPlan key (layout .texts) paths (now (w .exit)) r) ⌝ }
-    ensures tables { λ r. ⌜ drop (layout .at) (now (w .exit)) ≡ drop (layout .at) (now (w .entry)) ⌝ }
+    ensures tables { λ r. ⌜ SameTexts (now (strings .entry)) (layout .at) (layout .texts) (now (w .entry)) (now (w .exit)) ⌝ }
 {
     let texts = layout.texts;
     let n = texts + paths;
     if 4294967295 < n {
         return Plan::Refused(NO_ROOM);
     }
+    share(strings, w, layout);
     match write_interning::intern(nodes, strings, w, layout, n, source) {
         Stored::Whole(strings) => Plan::Ready(Uses {
             texts,
