@@ -38,6 +38,7 @@ use Rattle.lookups.specs.declared.ListItem.{ListItem}
 use Rattle.lookups.specs.declared.ListItemAnswer.{ListItemAnswer}
 use Rattle.lookups.specs.declared.ListItemAnswer.the-variants as listed
 use Rattle.image.specs.Refusals.{notFound}
+use Rattle.image.specs.Sections.{listHeadSize}
 
 -- ---- an answer in a lent slice: its words, where there are some and they fit
 
@@ -148,4 +149,4 @@ listItemAnswer listed.NotFound = none
 -- ---- of a list value, out of its payload: how many items, how many origins
 
 abbrev pub listCountWords : List ℕ → Option (List ℕ)
-listCountWords payload = cond (leb 8 (length payload)) (some (wordAt payload 0 ∷ wordAt payload 4 ∷ [])) none
+listCountWords payload = cond (leb listHeadSize (length payload)) (some (wordAt payload 0 ∷ wordAt payload 4 ∷ [])) none

@@ -9,7 +9,7 @@ use lib.ListN.{length, getD, take, drop, take-append-drop, length-drop}
 use lib.Seq.{drop-cons, drop-drop, length-take-le}
 use lib.Bits.{bitXor, xor-shifted}
 use Rattle.checksum.specs.Crc.{shifts, crcFrom}
-use Rattle.checksum.specs.Lanes.{numberOf, above, lanesFrom}
+use Rattle.checksum.specs.Lanes.{littleEndian, above, lanesFrom}
 use Rattle.checksum.specs.Polynomial.{_⊕_}
 use Rattle.checksum.proofs.Polynomials.{sum-assoc, sum-zero, sum-of-sums, sum-up}
 use Rattle.checksum.proofs.Bits.{up-up}
@@ -20,7 +20,7 @@ use Rattle.checksum.proofs.Linear.{fourAt, comm, shifts-add, crc-number
 
 -- four bytes of a list, as a number
 abbrev pub wordAt : List ℕ → ℕ → ℕ
-wordAt s i = numberOf (take 4 (drop i s))
+wordAt s i = littleEndian (take 4 (drop i s))
 
 assoc : (p q r : ℕ) → bitXor (bitXor p q) r ≡ bitXor p (bitXor q r)
 unfolding _⊕_
@@ -39,13 +39,13 @@ unfolding _⊕_
 xor-zero p = sum-zero p
 
 -- a list's number, in two parts
-pub number-append : (xs ys : List ℕ) → numberOf (xs ++ ys) ≡ bitXor (numberOf xs) (numberOf ys * 2 ^ (length xs * 8))
-unfolding numberOf
-number-append [] ys = sym (mul-one (numberOf ys))
+pub number-append : (xs ys : List ℕ) → littleEndian (xs ++ ys) ≡ bitXor (littleEndian xs) (littleEndian ys * 2 ^ (length xs * 8))
+unfolding littleEndian
+number-append [] ys = sym (mul-one (littleEndian ys))
 number-append (x ∷ xs) ys =
     let l = length xs * 8 in
-    let p = numberOf xs in
-    let q = numberOf ys in
+    let p = littleEndian xs in
+    let q = littleEndian ys in
     let e : l + 8 ≡ suc (length xs) * 8 = omega arith in
     ap (λ z. bitXor (z * 2 ^ 8) x) (number-append xs ys)
     ∙ ap (λ z. bitXor z x) (up 8 p (q * 2 ^ l) ∙ ap (bitXor (p * 2 ^ 8)) (up-up q l 8 ∙ ap (λ k. q * 2 ^ k) e))
@@ -56,16 +56,16 @@ number-append (x ∷ xs) ys =
 word-length : (s : List ℕ) (i : ℕ) → i + 4 ≤ length s → length (take 4 (drop i s)) ≡ 4
 word-length s i h = length-take-le 4 (drop i s) (simp length-drop (omega arith))
 
-pub number-word : (s : List ℕ) (i j : ℕ) → j ≡ i + 4 → j ≤ length s → numberOf (drop i s) ≡ above (numberOf (drop j s)) (wordAt s i)
+pub number-word : (s : List ℕ) (i j : ℕ) → j ≡ i + 4 → j ≤ length s → littleEndian (drop i s) ≡ above (littleEndian (drop j s)) (wordAt s i)
 number-word s i j e h =
-    ap numberOf (sym (take-append-drop 4 (drop i s)))
+    ap littleEndian (sym (take-append-drop 4 (drop i s)))
     ∙ number-append (take 4 (drop i s)) (drop 4 (drop i s))
-    ∙ ap₂ (λ l t. bitXor (wordAt s i) (numberOf t * 2 ^ (l * 8))) (word-length s i (omega arith)) (drop-drop 4 i s ∙ ap (λ k. drop k s) (sym e))
+    ∙ ap₂ (λ l t. bitXor (wordAt s i) (littleEndian t * 2 ^ (l * 8))) (word-length s i (omega arith)) (drop-drop 4 i s ∙ ap (λ k. drop k s) (sym e))
 
 -- sixteen bytes
 pub number-block : (s : List ℕ) (i : ℕ)
     → i + 16 ≤ length s
-    → numberOf (drop i s) ≡ above (above (above (above (numberOf (drop (i + 16) s)) (wordAt s (i + 12))) (wordAt s (i + 8))) (wordAt s (i + 4))) (wordAt s i)
+    → littleEndian (drop i s) ≡ above (above (above (above (littleEndian (drop (i + 16) s)) (wordAt s (i + 12))) (wordAt s (i + 8))) (wordAt s (i + 4))) (wordAt s i)
 number-block s i h =
     number-word s i (i + 4) refl (omega arith)
     ∙ ap (λ x. above x (wordAt s i))
@@ -109,7 +109,7 @@ five a b c d r =
 
 pub lanes-start : (c : ℕ) (s : List ℕ) → lanesFrom c 0 0 0 s ≡ crcFrom c s
 unfolding lanesFrom
-lanes-start c s = ap (λ x. shifts (length s * 8) (bitXor x (numberOf s))) (xor-zero c) ∙ sym (crc-number c s)
+lanes-start c s = ap (λ x. shifts (length s * 8) (bitXor x (littleEndian s))) (xor-zero c) ∙ sym (crc-number c s)
 
 -- sixteen bytes more, at least as many left
 pub lanes-next : (s : List ℕ) (i a b c d : ℕ)
@@ -119,7 +119,7 @@ pub lanes-next : (s : List ℕ) (i a b c d : ℕ)
 unfolding lanesFrom
 lanes-next s i a b c d h =
     let m = (length s - (i + 28)) * 8 in
-    let t = numberOf (drop (i + 16) s) in
+    let t = littleEndian (drop (i + 16) s) in
     let p = bitXor a (wordAt s i) in
     let q = bitXor b (wordAt s (i + 4)) in
     let r = bitXor c (wordAt s (i + 8)) in
@@ -161,7 +161,7 @@ pub lanes-end : (s : List ℕ) (a b c d p q r u : ℕ)
 unfolding lanesFrom
 lanes-end s a b c d p q r u h ep eq er eu =
     let m = length (drop 16 s) * 8 in
-    let t = numberOf (drop 16 s) in
+    let t = littleEndian (drop 16 s) in
     let k : length s * 8 ≡ 32 + (32 + (32 + (32 + m))) = simp length-drop (omega arith) in
     let w0 = wordAt s 0 in
     let w1 = wordAt s 4 in
@@ -189,8 +189,8 @@ lanes-end s a b c d p q r u h ep eq er eu =
 -- ---- what the code reads
 
 -- four bytes by sums
-pub word-number : (a b c d : ℕ) → a < 256 → b < 256 → c < 256 → d < 256 → a + 256 * (b + 256 * (c + 256 * d)) ≡ numberOf (a ∷ b ∷ c ∷ d ∷ [])
-unfolding numberOf
+pub word-number : (a b c d : ℕ) → a < 256 → b < 256 → c < 256 → d < 256 → a + 256 * (b + 256 * (c + 256 * d)) ≡ littleEndian (a ∷ b ∷ c ∷ d ∷ [])
+unfolding littleEndian
 word-number a b c d ha hb hc hd =
     sym
     (ap (λ x. bitXor (bitXor (bitXor (x * 2 ^ 8) c * 2 ^ 8) b * 2 ^ 8) a) (xor-shifted 0 8 d hd)

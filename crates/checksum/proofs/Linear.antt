@@ -8,7 +8,7 @@ use native.Mathlib.Omega.{arith}
 use lib.ListN.{length, getD}
 use lib.Bits.{bitXor, xor-shifted}
 use Rattle.checksum.specs.Crc.{polynomial, shift, shifts, byteStep, crcFrom}
-use Rattle.checksum.specs.Lanes.{shifted, numberOf}
+use Rattle.checksum.specs.Lanes.{shifted, littleEndian}
 use Rattle.checksum.specs.Polynomial.{_⊕_}
 use Rattle.checksum.proofs.Xor.{each-bit, bit-lt}
 use Rattle.checksum.proofs.Shifts.{shifts-high, value-from}
@@ -62,11 +62,11 @@ in-place k n m x =
 
 -- ---- bytes at once
 
-pub crc-number : (c : ℕ) (bs : List ℕ) → crcFrom c bs ≡ shifts (length bs * 8) (bitXor c (numberOf bs))
-unfolding crcFrom byteStep shifts numberOf _⊕_
+pub crc-number : (c : ℕ) (bs : List ℕ) → crcFrom c bs ≡ shifts (length bs * 8) (bitXor c (littleEndian bs))
+unfolding crcFrom byteStep shifts littleEndian _⊕_
 crc-number c [] = sym (sum-zero c)
 crc-number c (b ∷ bs) =
-    let n = numberOf bs in
+    let n = littleEndian bs in
     let d = bitXor c b in
     let e : suc (length bs) * 8 ≡ 8 + length bs * 8 = omega arith in
     crc-number (shifts 8 d) bs

@@ -15,9 +15,9 @@ unfoldable pub laneEntries : List ℕ
 laneEntries = shifted 128 ++ (shifted 120 ++ (shifted 112 ++ shifted 104))
 
 -- the number that bytes are, the first one lowest
-unfoldable pub numberOf : List ℕ → ℕ
-numberOf [] = 0
-numberOf (b ∷ bs) = bitXor (numberOf bs * 2 ^ 8) b
+unfoldable pub littleEndian : List ℕ → ℕ
+littleEndian [] = 0
+littleEndian (b ∷ bs) = bitXor (littleEndian bs * 2 ^ 8) b
 
 -- h above the 32 bits of x
 abbrev pub above : ℕ → ℕ → ℕ
@@ -25,4 +25,4 @@ above h x = bitXor x (h * 2 ^ 32)
 
 -- four registers, each for the word that follows where the one before it stops: they are added to the bytes, and all leaves by shifts
 unfoldable pub lanesFrom : ℕ → ℕ → ℕ → ℕ → List ℕ → ℕ
-lanesFrom a b c d bs = shifts (length bs * 8) (bitXor (above (above (above d c) b) a) (numberOf bs))
+lanesFrom a b c d bs = shifts (length bs * 8) (bitXor (above (above (above d c) b) a) (littleEndian bs))

@@ -6,7 +6,7 @@ ghost use Prim.Native.Nat.{_+_, _≤_, min};
 ghost use lib.ListN.{length, take, drop};
 ghost use lib.Bits.{bitXor};
 ghost use Rattle.checksum.specs.Crc.{shifts, crcTable, byteStep, crcFrom, crc32, checksumOf};
-ghost use Rattle.checksum.specs.Lanes.{laneEntries, numberOf, lanesFrom};
+ghost use Rattle.checksum.specs.Lanes.{laneEntries, littleEndian, lanesFrom};
 
 // Where the checksum's own bytes begin, and where the bytes after them do.
 const SKIP_FROM: usize = 84;
@@ -1345,7 +1345,7 @@ fn update_bytes(table: &[u32; 256], crc: u32, bytes: &[u8]) -> u32
 
 // Four bytes as a number, the first one lowest.
 fn word(a: u8, b: u8, c: u8, d: u8) -> u32
-    ensures { λ r. ⌜ r ≡ numberOf (a ∷ b ∷ c ∷ d ∷ []) ⌝ }
+    ensures { λ r. ⌜ r ≡ littleEndian (a ∷ b ∷ c ∷ d ∷ []) ⌝ }
 {
     (a as u32) + 256 * ((b as u32) + 256 * ((c as u32) + 256 * (d as u32)))
 }
@@ -1365,7 +1365,7 @@ fn shift_block(tables: &[u32; 1024], x: u32) -> u32
 // A lane takes in its four bytes at i, and is shifted to the block after.
 fn lane(tables: &[u32; 1024], crc: u32, s: &[u8], i: usize) -> u32
     requires { ⌜ (now tables ≡ laneEntries) × (i + 4 ≤ length (now s)) ⌝ }
-    ensures { λ r. ⌜ r ≡ shifts 128 (bitXor crc (numberOf (take 4 (drop i (now (s .entry)))))) ⌝ }
+    ensures { λ r. ⌜ r ≡ shifts 128 (bitXor crc (littleEndian (take 4 (drop i (now (s .entry)))))) ⌝ }
 {
     shift_block(tables, crc ^ word(s[i], s[i + 1], s[i + 2], s[i + 3]))
 }

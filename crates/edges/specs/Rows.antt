@@ -39,9 +39,9 @@ unfoldable pub twoA : Sections
 twoA =
     plainSections (containerWords NONE NONE NONE NONE 0 2 ++ containerWords 0 0 0 1 2 0 ++ containerWords 0 1 0 1 2 0) (1 ∷ 2 ∷ []) [] (ascii "a")
 
-unfoldable pub rows : Unit {0}
+unfoldable pub rowDrafts : Unit {0}
 unfolding list ring twoA examples
-rows = tt
+rowDrafts = tt
 
 -- rows 1 to 7
 pub record HeaderRows : Type 0 where
@@ -56,7 +56,7 @@ pub record HeaderRows : Type 0 where
   pub row-7 : loadRule smallestImage 1 ≡ 7
 
 header-rows : HeaderRows
-unfolding rows encodes encodings childrens loads
+unfolding rowDrafts encodes encodings childrens loads
 header-rows =
     record {
       row-1 = refl;
@@ -82,7 +82,7 @@ pub record RecordRows : Type 0 where
   pub row-13 : loadRule (imageOf 21 (plainSections (containerWords NONE NONE NONE NONE 0 0) [] (0 ∷ 0 ∷ 0 ∷ 0 ∷ 0 ∷ 0 ∷ []) [])) 9 ≡ 13
 
 record-rows : RecordRows
-unfolding rows encodes encodings childrens loads
+unfolding rowDrafts encodes encodings childrens loads
 record-rows =
     record {
       row-8 = refl;
@@ -104,7 +104,7 @@ pub record TreeRows : Type 0 where
   pub row-18 : ofFound (childQuery (rootNamed NONE NONE) 0 0) .number ≡ 18
 
 tree-rows : TreeRows
-unfolding rows encodes encodings childrens loads
+unfolding rowDrafts encodes encodings childrens loads
 tree-rows =
     record {
       row-14 = refl;
@@ -124,7 +124,7 @@ pub record DraftRows : Type 0 where
   pub write-7 : encodeRule 21 rootDraft 15 140 ≡ 7
 
 draft-rows : DraftRows
-unfolding rows encodes encodings childrens loads
+unfolding rowDrafts encodes encodings childrens loads
 draft-rows =
     record {
       row-19 = refl;

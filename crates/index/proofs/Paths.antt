@@ -17,18 +17,18 @@ use Rattle.texts.proofs.Text.{same-equal, same-unlike}
 use Rattle.image.specs.Sections.{Sections, nodeCount, parentOf}
 use Rattle.tree.specs.Reach.{climb, Climbs}
 use Rattle.index.specs.declared.PathNode.{PathNode}
-use Rattle.index.specs.Paths.{noName, nameless, pieceOf, piece, joined, pathFrom, canonicalPath, topPlace, fitsPath, fits}
+use Rattle.index.specs.Paths.{noName, nameless, pieceOf, piece, joinedByDot, pathFrom, canonicalPath, topPlace, fitsPath, fits}
 use Rattle.index.specs.Parts.{pathNodeOf}
 use Rattle.index.proofs.Suffix.{cut, fits-front, fits-other, fits-short, fits-empty, fits-either, fits-path}
 
 -- ---- one step
 
-joined-below : (parent : ℕ) (front last : List ℕ) → (parent ≡ 0 → ⊥) → joined parent front last ≡ front ++ dot ∷ last
+joined-below : (parent : ℕ) (front last : List ℕ) → (parent ≡ 0 → ⊥) → joinedByDot parent front last ≡ front ++ dot ∷ last
 joined-below zero front last h = absurd (h refl)
 joined-below (suc parent) front last h = refl
 
 module _ (s : Sections) (n i : ℕ) (away : i ≡ 0 → ⊥) where
-  pub path-step : pathFrom (suc n) s i ≡ joined (parentOf s i) (pathFrom n s (parentOf s i)) (piece s i)
+  pub path-step : pathFrom (suc n) s i ≡ joinedByDot (parentOf s i) (pathFrom n s (parentOf s i)) (piece s i)
   unfolding pathFrom
   path-step = rw (ne-eqb i 0 away)
 
@@ -212,12 +212,12 @@ module _ (s : Sections) (i : ℕ) (away : i ≡ 0 → ⊥) (climbs : Climbs s (n
       by (suc k) (suc n) e h a = record { steps = k; bound = n; whole = e; few = omega arith; arrives = a }
 
   -- a path by that of the parent
-  pub path-child : canonicalPath s i ≡ joined (parentOf s i) (canonicalPath s (parentOf s i)) (piece s i)
+  pub path-child : canonicalPath s i ≡ joinedByDot (parentOf s i) (canonicalPath s (parentOf s i)) (piece s i)
   path-child =
       let a = above in
       ap (λ (n : ℕ). pathFrom n s i) (a .whole)
       ∙ path-step s (a .bound) i away
-      ∙ ap (λ (l : List ℕ). joined (parentOf s i) l (piece s i)) (path-enough s (a .steps) (a .bound) (nodeCount s) (parentOf s i) (a .arrives) (a .few) (omega arith))
+      ∙ ap (λ (l : List ℕ). joinedByDot (parentOf s i) l (piece s i)) (path-enough s (a .steps) (a .bound) (nodeCount s) (parentOf s i) (a .arrives) (a .few) (omega arith))
 
   pub top-child : topPlace (nodeCount s) s i ≡ cond (eqb (parentOf s i) 0) (nameless s i) (topPlace (nodeCount s) s (parentOf s i))
   top-child =

@@ -23,16 +23,16 @@ unfoldable pub piece : Sections → ℕ → List ℕ
 piece s i = pieceOf (s .strings) (placeOf s i) (f s i 0) (f s i 1)
 
 -- joined by a dot, below the root without one
-abbrev pub joined : ℕ → List ℕ → List ℕ → List ℕ
-joined zero front last = last
-joined (suc parent) front last = front ++ dot ∷ last
+abbrev pub joinedByDot : ℕ → List ℕ → List ℕ → List ℕ
+joinedByDot zero front last = last
+joinedByDot (suc parent) front last = front ++ dot ∷ last
 
 -- the first argument bounds the steps up to the root
 unfoldable pub pathFrom : ℕ → Sections → ℕ → List ℕ
 pathFrom zero s i = []
 pathFrom (suc n) s i =
     let front = pathFrom n s (parentOf s i) in
-    cond (eqb i 0) [] (joined (parentOf s i) front (piece s i))
+    cond (eqb i 0) [] (joinedByDot (parentOf s i) front (piece s i))
 
 -- from below the root down, joined by dots
 abbrev pub canonicalPath : Sections → ℕ → List ℕ

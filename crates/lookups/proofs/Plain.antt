@@ -23,10 +23,11 @@ use Rattle.index.specs.Definitions.{definitionText, firstItem, numberOfItems, i
 use Rattle.image.proofs.RisingTexts.{rising-before}
 use Rattle.index.proofs.Definitions.{Definition, Definitions, definitions-passed}
 use Rattle.views.specs.declared.Found.the-variants as found
+use Rattle.laws.specs.Lists.{isSome}
 use Rattle.lookups.specs.declared.ListItem.{ListItem}
 use Rattle.lookups.specs.declared.ListItemAnswer.the-variants as answer
 use Rattle.views.specs.View.{signed}
-use Rattle.lookups.specs.Lookup.{entryText, searched, foundAt, namedBy, findNamed, itemPlace, isSome, definitionName, answeringPlace, answers, listItemAt, listItemIn, lastItem}
+use Rattle.lookups.specs.Lookup.{entryText, searched, foundAt, namedBy, findNamed, itemPlace, definitionName, answeringPlace, answers, listItemAt, listItemIn, lastItem}
 use Rattle.lookups.specs.Plain.{HasName, NodeNamed, NamedLookup, Holds, LastHolds, ItemLookup}
 use Rattle.lookups.proofs.HalvingSearch.{Rising, found-there, there-found}
 

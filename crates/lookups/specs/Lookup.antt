@@ -7,6 +7,7 @@ use mathlib.Core.Option.{Option, none, some}
 use lib.ListN.{length, getD}
 use lib.Dec.{leb, ltb}
 use Rattle.laws.specs.Counted.{lastOf, counted}
+use Rattle.laws.specs.Lists.{isSome}
 use Rattle.words.specs.Words.{wordsOf}
 use Rattle.texts.specs.declared.Order.{Order}
 use Rattle.texts.specs.declared.Order.the-variants.{Less, Equal, Greater}
@@ -74,10 +75,6 @@ findNamed s i name = cond (insideContainer s i) (namedBy (s .named) (s .strings)
 unfoldable pub itemPlace : Sections → ℕ → List ℕ → Option ℕ
 itemPlace s d name =
     cond (leb (firstItem s d + numberOfItems s d) (itemCount s)) (searched (s .items) (s .strings) (firstItem s d) (numberOfItems s d) name) none
-
-abbrev pub isSome : Option ℕ → Bool
-isSome none = false
-isSome (some j) = true
 
 -- the definition's name, none where it is not inside the strings
 abbrev pub definitionName : Sections → ℕ → List ℕ

@@ -7,6 +7,7 @@ use mathlib.Core.Option.{Option, none, some, Option·map}
 use native.Mathlib.Omega.{arith}
 use native.Mathlib.Nat.{not-suc-le-zero, le-of-suc-le-suc}
 use lib.ListN.{length, getD}
+use Rattle.laws.specs.Lists.{isSome}
 use Rattle.texts.specs.Text.{same, holds}
 use Rattle.texts.proofs.Text.{same-self, same-equal, same-turned, same-unlike}
 use Rattle.names.specs.Names.{numberIn}
@@ -15,11 +16,6 @@ use Rattle.names.specs.Names.{numberIn}
 unfoldable pub distinct : List (List ℕ) → Bool
 distinct [] = true
 distinct (x ∷ xs) = not (holds xs x) && distinct xs
-
--- there is a number
-abbrev pub isSome : Option ℕ → Bool
-isSome none = false
-isSome (some k) = true
 
 -- the text has the number k in the list
 pub record Placed (names : List (List ℕ)) (t : List ℕ) (k : ℕ) : Type 0 where

@@ -12,7 +12,7 @@ use borrow.Author.Tests.{eqb-true}
 use Rattle.laws.specs.Refusal.{unless, firstOf}
 use Rattle.laws.proofs.First.{passed, first-all}
 use Rattle.names.specs.Names.{numberIn}
-use Rattle.names.specs.Spelling.{elementAt, elementOf, namedIn}
+use Rattle.names.specs.Spelling.{elementAt, elementOf, elementNamed}
 use Rattle.names.proofs.Distinct.{distinct, number-placed, place-number}
 
 -- one computed test, at each number below n
@@ -89,17 +89,17 @@ module _ {A : Type 0} {number : A → ℕ} {kinds : List A} {names : List (List 
   name-number a = place-number names (n .apart) (number a) (number-below a)
 
   -- and names that kind
-  pub name-names : (a : A) → namedIn kinds names (nameIn number names a) ≡ some a
-  unfolding namedIn
+  pub name-names : (a : A) → elementNamed kinds names (nameIn number names a) ≡ some a
+  unfolding elementNamed
   name-names a = rw (name-number a) (n .told a)
 
   -- no two kinds have one name
   pub name-once : (a b : A) → nameIn number names a ≡ nameIn number names b → a ≡ b
-  name-once a b e = let p = name-names a in let q = name-names b in let s = ap (namedIn kinds names) e in cc
+  name-once a b e = let p = name-names a in let q = name-names b in let s = ap (elementNamed kinds names) e in cc
 
   -- what names a kind has its number
-  pub named-number : (t : List ℕ) (a : A) → namedIn kinds names t ≡ some a → numberIn names t ≡ some (number a)
-  unfolding namedIn
+  pub named-number : (t : List ℕ) (a : A) → elementNamed kinds names t ≡ some a → numberIn names t ≡ some (number a)
+  unfolding elementNamed
   named-number t a p = by (numberIn names t) p
     where
       by : (o : Option ℕ) → elementOf kinds o ≡ some a → o ≡ some (number a)
@@ -107,12 +107,12 @@ module _ {A : Type 0} {number : A → ℕ} {kinds : List A} {names : List (List 
       by (some k) q = let e = in-order number kinds 0 k a (n .ordered) q in ap some (omega arith)
 
   -- and is its name
-  pub named-text : (t : List ℕ) (a : A) → namedIn kinds names t ≡ some a → t ≡ nameIn number names a
+  pub named-text : (t : List ℕ) (a : A) → elementNamed kinds names t ≡ some a → t ≡ nameIn number names a
   named-text t a p = number-placed names t (number a) (named-number t a p) .text
 
   -- what names no kind has no number
-  pub unnamed-number : (t : List ℕ) → namedIn kinds names t ≡ none → numberIn names t ≡ none
-  unfolding namedIn
+  pub unnamed-number : (t : List ℕ) → elementNamed kinds names t ≡ none → numberIn names t ≡ none
+  unfolding elementNamed
   unnamed-number t p = by (numberIn names t) refl p
     where
       by : (o : Option ℕ) → numberIn names t ≡ o → elementOf kinds o ≡ none → o ≡ none
@@ -125,10 +125,10 @@ module _ {A : Type 0} {number : A → ℕ} {kinds : List A} {names : List (List 
 
 -- the answers by name, from those by number
 pub named-yes : {A : Type 0} (kinds : List A) (names : List (List ℕ)) (t : List ℕ) (k : ℕ) (o : Option A) → some k ≡ numberIn names t → o ≡ elementAt kinds k
-    → o ≡ namedIn kinds names t
-unfolding namedIn
+    → o ≡ elementNamed kinds names t
+unfolding elementNamed
 named-yes kinds names t k o p q = rw (← p) q
 
-pub named-no : {A : Type 0} (kinds : List A) (names : List (List ℕ)) (t : List ℕ) → none ≡ numberIn names t → none ≡ namedIn kinds names t
-unfolding namedIn
+pub named-no : {A : Type 0} (kinds : List A) (names : List (List ℕ)) (t : List ℕ) → none ≡ numberIn names t → none ≡ elementNamed kinds names t
+unfolding elementNamed
 named-no kinds names t p = rw (← p)

@@ -10,7 +10,7 @@ use lib.Seq.{take-append-seam}
 use Rattle.texts.specs.Text.{same}
 use Rattle.names.specs.declared.Name.{Name}
 use Rattle.names.specs.Names.{numberIn}
-use Rattle.names.specs.Spelling.{namedIn, nameOf, spelled}
+use Rattle.names.specs.Spelling.{elementNamed, nameOf, spelled}
 use Rattle.names.proofs.Numbers.{Numbered, nameIn, name-number, named-text}
 
 -- what is handed back spells the name
@@ -29,5 +29,5 @@ module _ {A : Type 0} {number : A → ℕ} {kinds : List A} {names : List (List 
   spelled-number a = rw (name-spelled (nameIn number names a)) (name-number n a)
 
   -- a text that names a kind is spelt as it was
-  pub spelled-text : (t : List ℕ) (a : A) → namedIn kinds names t ≡ some a → spelled (nameOf (nameIn number names a)) ≡ t
+  pub spelled-text : (t : List ℕ) (a : A) → elementNamed kinds names t ≡ some a → spelled (nameOf (nameIn number names a)) ≡ t
   spelled-text t a p = name-spelled (nameIn number names a) ∙ sym (named-text n t a p)

@@ -3,7 +3,7 @@ use Prim.Native.Nat.{ℕ}
 use mathlib.Core.List.{List, [], _∷_}
 use mathlib.Core.Option.{Option, none, some}
 use Rattle.names.specs.Names.{commands}
-use Rattle.names.specs.Spelling.{namedIn}
+use Rattle.names.specs.Spelling.{elementNamed}
 use Rattle.names.specs.declared.control_command.CommandType.{CommandType}
 use Rattle.names.specs.declared.control_command.CommandType.the-variants.{EvalStart, EvalOutput, EvalEnd, Duplicate, PopEvaluatedValue, PopFunction, PopTunnel, BeginString, EndString, NoOp, ChoiceCount, Turns, TurnsSince, ReadCount, Random, SeedRandom, VisitIndex, SequenceShuffleIndex, StartThread, Done, End, ListFromInt, ListRange, ListRandom, BeginTag, EndTag}
 use Rattle.names.specs.declared.control_command.Command.{Command}
@@ -52,4 +52,4 @@ knownCommand Unknown = none
 
 -- the command that a text names
 abbrev pub commandNamed : List ℕ → Option CommandType
-commandNamed t = namedIn commandTypes commands t
+commandNamed t = elementNamed commandTypes commands t

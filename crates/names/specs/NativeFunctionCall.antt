@@ -3,7 +3,7 @@ use Prim.Native.Nat.{ℕ}
 use mathlib.Core.List.{List, [], _∷_}
 use mathlib.Core.Option.{Option, none, some}
 use Rattle.names.specs.Names.{operators}
-use Rattle.names.specs.Spelling.{namedIn}
+use Rattle.names.specs.Spelling.{elementNamed}
 use Rattle.names.specs.declared.native_function_call.Op.{Op}
 use Rattle.names.specs.declared.native_function_call.Op.the-variants.{Add, Subtract, Divide, Multiply, Mod, Negate, Equal, Greater, Less, GreaterThanOrEquals, LessThanOrEquals, NotEquals, Not, And, Or, Min, Max, Pow, Floor, Ceiling, Int, Float, Has, Hasnt, Intersect, ListMin, ListMax, All, Count, ValueOfList, Invert}
 use Rattle.names.specs.declared.native_function_call.Operator.{Operator}
@@ -56,4 +56,4 @@ knownOperator Unknown = none
 
 -- the operator that a text names
 abbrev pub operatorNamed : List ℕ → Option Op
-operatorNamed t = namedIn ops operators t
+operatorNamed t = elementNamed ops operators t

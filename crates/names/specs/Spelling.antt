@@ -31,8 +31,8 @@ elementOf xs none = none
 elementOf xs (some k) = elementAt xs k
 
 -- of the kinds, which the names name in order, the one that the text names
-unfoldable pub namedIn : {A : Type 0} → List A → List (List ℕ) → List ℕ → Option A
-namedIn kinds names t = elementOf kinds (numberIn names t)
+unfoldable pub elementNamed : {A : Type 0} → List A → List (List ℕ) → List ℕ → Option A
+elementNamed kinds names t = elementOf kinds (numberIn names t)
 
 -- no two commands agree in it modulo 58, and no two operators modulo 54, so that a text is compared with one name alone
 unfoldable pub hashOf : List ℕ → ℕ
@@ -40,5 +40,5 @@ hashOf t = getD t 0 0 * 23 + getD t (length t - 1) 0 * 38 + length t % 16 * 8
 
 -- names on an `unfolding` line what a computation with this module needs
 unfoldable pub spellings : Unit {0}
-unfolding elementAt namedIn hashOf
+unfolding elementAt elementNamed hashOf
 spellings = tt

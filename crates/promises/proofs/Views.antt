@@ -12,10 +12,11 @@ use Rattle.texts.specs.Text.{holds}
 use Rattle.names.specs.declared.control_command.CommandType.{CommandType}
 use Rattle.names.specs.declared.native_function_call.Op.{Op}
 use Rattle.names.specs.Names.{commands, operators}
-use Rattle.names.specs.Spelling.{namedIn}
+use Rattle.names.specs.Spelling.{elementNamed}
 use Rattle.names.specs.ControlCommand.{commandNamed}
 use Rattle.names.specs.NativeFunctionCall.{operatorNamed}
-use Rattle.names.proofs.Distinct.{isSome, number-held}
+use Rattle.laws.specs.Lists.{isSome}
+use Rattle.names.proofs.Distinct.{number-held}
 use Rattle.names.proofs.Numbers.{Numbered, unnamed-number}
 use Rattle.names.proofs.Commands.{commandsNumbered}
 use Rattle.names.proofs.Operators.{operatorsNumbered}
@@ -40,7 +41,7 @@ shown-right s at len t = rw (ne-eqb at NONE (t .offset-given), ne-eqb len NONE (
 
 -- a text that a list of names holds names a kind
 held : {A : Type 0} {number : A → ℕ} {kinds : List A} {names : List (List ℕ)} → Numbered number kinds names → (t : List ℕ) → holds names t ≡ true
-    → namedIn kinds names t ≡ none → ⊥
+    → elementNamed kinds names t ≡ none → ⊥
 held {names = names} n t h e = true≢false (sym h ∙ number-held names t ∙ ap isSome (unnamed-number n t e))
 
 -- ---- kinds

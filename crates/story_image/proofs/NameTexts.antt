@@ -12,7 +12,7 @@ use lib.Dec.{leb}
 use borrow.Author.Tests.{le-leb, lt-leb, leb-true}
 use Rattle.laws.specs.Refusal.{firstOf, unless, refusals}
 use Rattle.names.specs.Names.{commands, operators, numberIn, names}
-use Rattle.names.specs.Spelling.{elementAt, namedIn, nameOf, spelled}
+use Rattle.names.specs.Spelling.{elementAt, elementNamed, nameOf, spelled}
 use Rattle.names.specs.declared.Name.{Name}
 use Rattle.names.proofs.Distinct.{place-number}
 use Rattle.names.proofs.Numbers.{Numbered, nameIn, every, at-element, past-element, named-number, named-yes}

@@ -33,7 +33,7 @@ use Rattle.draft_image.proofs.Joins.{sum-const, join-length, join-same}
 use Rattle.draft_image.proofs.Offsets.{offsets-left, offsets-right}
 use Rattle.write_text_uses.specs.Uses.{storedBytes}
 use Rattle.draft.specs.declared.layout.Layout.{Layout}
-use Rattle.write_tree_sections.specs.Held.{OrderFits, NamedFit, childrenBy, namedBy, payloadBy}
+use Rattle.write_tree_sections.specs.Held.{OrderFits, NamedFit, childrenInOrder, namedInOrder, payloadInOrder}
 use Rattle.write_paths.specs.PathIndex.{IndexFit, PathsAt, LengthsAt}
 use Rattle.words.specs.Output.{over}
 use Rattle.write_text_uses.proofs.Sums.{sum-ordered}
@@ -47,7 +47,7 @@ use Rattle.write_list_sections.specs.Entered.{textsBefore, itemsBeforeIn, paylo
 use Rattle.write_list_sections.proofs.DefinitionWords.{uses-are}
 use Rattle.write_list_sections.proofs.PayloadLoop.{pay-room}
 use Rattle.write_text_keys.specs.Keys.{keyIn}
-use Rattle.write_interning.specs.Uses.{textsOf, storedOf, joined, Offsets}
+use Rattle.write_interning.specs.Uses.{textsOf, storedOf, textsJoined, Offsets}
 use Rattle.write_image.specs.Length.{imageLength}
 use Rattle.write_image.specs.Given.{Told, Indexed, Keyed, TreeReady, ListsReady, TextsReady, treeOut, listsOut, textsOut, definitionsAt}
 use Rattle.write_image.proofs.SectionLengths.{Sized, sized, once}
@@ -203,15 +203,15 @@ module _ (version : ℕ) (nodes children named definitions items payload strings
   s = draftOf version nodes children named definitions items payload strings
 
   module _ (t : Told s w l) where
-    pub children-sum : childrenBy version nodes w (l .order) (length nodes / nodeWords version) ≡ length children
+    pub children-sum : childrenInOrder version nodes w (l .order) (length nodes / nodeWords version) ≡ length children
     unfolding numberOfChildren nodeWord
     children-sum = sum-words s w l t (numberOfChildren s) ∙ used-up s (tables s (t .tables) .used) .children
 
-    pub named-sum : namedBy version nodes w (l .order) (length nodes / nodeWords version) ≡ namedCount s
+    pub named-sum : namedInOrder version nodes w (l .order) (length nodes / nodeWords version) ≡ namedCount s
     unfolding numberOfNamed nodeWord
     named-sum = sum-words s w l t (numberOfNamed s) ∙ used-up s (tables s (t .tables) .used) .named
 
-    pub payload-sum : payloadBy version nodes w (l .order) (length nodes / nodeWords version) ≡ length payload
+    pub payload-sum : payloadInOrder version nodes w (l .order) (length nodes / nodeWords version) ≡ length payload
     unfolding payloadLengthOf nodeWord
     payload-sum = sum-words s w l t (payloadLengthOf s) ∙ used-up s (tables s (t .tables) .used) .payload
 
@@ -351,9 +351,9 @@ module _ (version : ℕ) (nodes children named definitions items payload strings
   unfolding sectionOut written writtenWith
   payload-put e = e d (numbering d) (storedTexts d (numbering d)) refl refl refl (t .tables) (t .olds) (node-offsets d w l t)
 
-  pub strings-put : Keyed d w l → out ≡ over (joined (storedOf (keyIn version nodes strings l w) (l .offsets))) out₀ → out ≡ over (sec 7) out₀
+  pub strings-put : Keyed d w l → out ≡ over (textsJoined (storedOf (keyIn version nodes strings l w) (l .offsets))) out₀ → out ≡ over (sec 7) out₀
   unfolding sectionOut written writtenWith
-  strings-put q e = e ∙ ap (λ (kept : List (List ℕ)). over (joined kept) out₀) (stored-are version nodes children named definitions items payload strings w l t q)
+  strings-put q e = e ∙ ap (λ (kept : List (List ℕ)). over (textsJoined kept) out₀) (stored-are version nodes children named definitions items payload strings w l t q)
 
 -- ---- the room of three runs of sections, by the draft's counts
 
@@ -382,5 +382,5 @@ texts-fit version nodes payload strings w l room r children named definitions it
     let two = stored-are version nodes children named definitions items payload strings w l t q in
     let same : length (storedBytes (draftOf version nodes children named definitions items payload strings))
     ≡ length (storedBytes (draftOf version nodes (r .children) (r .named) (r .definitions) (r .items) payload strings)) =
-    ap (λ (kept : List (List ℕ)). length (joined kept)) (sym two ∙ one) in
+    ap (λ (kept : List (List ℕ)). length (textsJoined kept)) (sym two ∙ one) in
     omega (arith, texts-room version nodes payload strings w l room r)

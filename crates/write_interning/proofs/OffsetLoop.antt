@@ -16,7 +16,7 @@ use Rattle.draft_image.specs.Strings.{distinct, offsetOf}
 use Rattle.write_sorting.proofs.Laws.{cases}
 use Rattle.write_interning.specs.declared.Stored.{Stored}
 use Rattle.write_interning.specs.declared.Stored.the-variants.{Whole, TooLong}
-use Rattle.write_interning.specs.Uses.{First, Firsts, Offsets, storedOf, joined, storedAnswer}
+use Rattle.write_interning.specs.Uses.{First, Firsts, Offsets, storedOf, textsJoined, storedAnswer}
 use Rattle.write_interning.proofs.StoredTexts.{offset-old, offset-new, stored-old, stored-new, stored-holds, first-new, first-old, length-new, length-grows}
 
 -- the offsets of the first k uses stand in x, which are so long together; w is the list where the pass began
@@ -25,7 +25,7 @@ pub record Assigning (key : ℕ → List ℕ) (n : ℕ) (w x : List ℕ) (k tota
   pub room : length x ≡ length w
   pub behind : drop (n + n) x ≡ drop (n + n) w
   pub fits : total < 2 ^ 32
-  pub sum : total ≡ length (joined (storedOf key k))
+  pub sum : total ≡ length (textsJoined (storedOf key k))
   pub done : (p : ℕ) → p < k → getD x (n + p) 0 ≡ offsetOf (storedOf key k) (key p)
   pub left : (p : ℕ) → k ≤ p → p < n → getD x (n + p) 0 ≡ getD w (n + p) 0
 
@@ -114,28 +114,28 @@ module _ (key : ℕ → List ℕ) (n : ℕ) (w : List ℕ) (hn : n + n ≤ lengt
       }
 
   -- where a first use does not fit any more, the whole does not
-  pub assign-long : getD x (n + k) 0 ≡ k → 2 ^ 32 ≤ total + length (key k) → 2 ^ 32 ≤ length (joined (storedOf key n))
+  pub assign-long : getD x (n + k) 0 ≡ k → 2 ^ 32 ≤ total + length (key k) → 2 ^ 32 ≤ length (textsJoined (storedOf key n))
   assign-long e s =
       let f : holds (storedOf key k) (key k) ≡ false = first-new key k (rw e at first-x) in
       let q : suc k + (n - suc k) ≡ n = omega arith in
-      let g : length (joined (storedOf key (suc k))) ≤ length (joined (storedOf key n)) = rw q at (length-grows key (suc k) (n - suc k)) in
+      let g : length (textsJoined (storedOf key (suc k))) ≤ length (textsJoined (storedOf key n)) = rw q at (length-grows key (suc k) (n - suc k)) in
       omega (arith, length-new key k f, A .sum)
 
 -- ---- the two answers
 
 -- what a pass leaves: its answer, and the offsets if they fit
 abbrev pub Assigned : (ℕ → List ℕ) → ℕ → List ℕ → Stored → Type 0
-Assigned key n x r = (r ≡ storedAnswer (length (joined (storedOf key n)))) × (length (joined (storedOf key n)) < 2 ^ 32 → Offsets key n x)
+Assigned key n x r = (r ≡ storedAnswer (length (textsJoined (storedOf key n)))) × (length (textsJoined (storedOf key n)) < 2 ^ 32 → Offsets key n x)
 
-pub assigned-long : (key : ℕ → List ℕ) (n : ℕ) (x : List ℕ) → 2 ^ 32 ≤ length (joined (storedOf key n)) → Assigned key n x TooLong
+pub assigned-long : (key : ℕ → List ℕ) (n : ℕ) (x : List ℕ) → 2 ^ 32 ≤ length (textsJoined (storedOf key n)) → Assigned key n x TooLong
 unfolding storedAnswer
-assigned-long key n x h = (rw (le-ltb (length (joined (storedOf key n))) (2 ^ 32) h), λ m. absurd (omega arith))
+assigned-long key n x h = (rw (le-ltb (length (textsJoined (storedOf key n))) (2 ^ 32) h), λ m. absurd (omega arith))
 
 pub assigned-whole : (key : ℕ → List ℕ) (n : ℕ) (w x : List ℕ) (k total : ℕ) → Assigning key n w x k total → n ≤ k → Assigned key n x (Whole total)
 unfolding storedAnswer
 assigned-whole key n w x k total A h =
     let e : k ≡ n = omega arith in
-    let s : total ≡ length (joined (storedOf key n)) = A .sum ∙ ap (λ (p : ℕ). length (joined (storedOf key p))) e in (
+    let s : total ≡ length (textsJoined (storedOf key n)) = A .sum ∙ ap (λ (p : ℕ). length (textsJoined (storedOf key p))) e in (
       rw (← s, lt-ltb total (2 ^ 32) (A .fits)),
       λ m p l. A .done p (omega arith) ∙ ap (λ (q : ℕ). offsetOf (storedOf key q) (key p)) e,
     )

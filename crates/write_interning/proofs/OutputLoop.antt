@@ -13,15 +13,15 @@ use Rattle.texts.specs.Text.{holds}
 use Rattle.draft_image.specs.Strings.{distinct, offsetOf}
 use Rattle.write_sorting.proofs.Laws.{cases}
 use Rattle.write_sorting.proofs.MergeInPlace.{lent, back, lent-part, lent-back}
-use Rattle.write_interning.specs.Uses.{storedOf, joined}
+use Rattle.write_interning.specs.Uses.{storedOf, textsJoined}
 use Rattle.write_interning.proofs.StoredTexts.{joined-snoc, stored-old, stored-new, stored-holds, offset-end, offset-first, offset-before, length-new}
 
 -- the texts of the first k uses are written, up to `end`; o is the output where the pass began
 pub record Emitting (key : ℕ → List ℕ) (n : ℕ) (o x : List ℕ) (k end : ℕ) : Type 0 where
   pub bound : k ≤ n
-  pub sum : end ≡ length (joined (storedOf key k))
+  pub sum : end ≡ length (textsJoined (storedOf key k))
   pub room : length x ≡ length o
-  pub written : x ≡ joined (storedOf key k) ++ drop end o
+  pub written : x ≡ textsJoined (storedOf key k) ++ drop end o
 
 -- what fits from `end` on fits the part that is lent
 pub fits-lent : (x : List ℕ) (end l : ℕ) → end + l ≤ length x → l ≤ length (lent end x)
@@ -31,7 +31,7 @@ pub emit-none : (key : ℕ → List ℕ) (n : ℕ) (o : List ℕ) → Emitting k
 unfolding storedOf joinOf distinct flatMap
 emit-none key n o = record { bound = omega arith; sum = refl; room = refl; written = refl }
 
-module _ (key : ℕ → List ℕ) (n : ℕ) (o : List ℕ) (ho : length (joined (storedOf key n)) ≤ length o) where
+module _ (key : ℕ → List ℕ) (n : ℕ) (o : List ℕ) (ho : length (textsJoined (storedOf key n)) ≤ length o) where
   -- what is about to be written fits
   pub emit-fits : (x : List ℕ) (k end : ℕ) → Emitting key n o x k end → k < n → offsetOf (storedOf key n) (key k) ≡ end → end + length (key k) ≤ length o
   emit-fits x k end E h e = omega (arith, offset-end (storedOf key n) (key k) (stored-holds key n k h))
@@ -51,7 +51,7 @@ module _ (key : ℕ → List ℕ) (n : ℕ) (o : List ℕ) (ho : length (joined 
       → y ≡ key k ++ drop (length (key k)) (lent end x) → Emitting key n o (back end x y) (k + 1) (end + length (key k))
   emit-text x k end y E h e q =
       let fit = emit-fits x k end E h e in
-      let J : List ℕ = joined (storedOf key k) in
+      let J : List ℕ = textsJoined (storedOf key k) in
       let t1 : take end x ≡ J = ap (take end) (E .written) ∙ take-at J (drop end o) end (sym (E .sum)) in
       let d1 : drop end x ≡ drop end o = ap (drop end) (E .written) ∙ drop-at J (drop end o) end (sym (E .sum)) in
       let y1 : y ≡ key k ++ drop (end + length (key k)) o = q
@@ -83,5 +83,5 @@ module _ (key : ℕ → List ℕ) (n : ℕ) (o : List ℕ) (ho : length (joined 
       empty a [] h = append-nil a
       empty a (c ∷ b) h = absurd (omega arith)
 
-  pub emit-done : (x : List ℕ) (k end : ℕ) → Emitting key n o x k end → n ≤ k → x ≡ joined (storedOf key n) ++ drop (length (joined (storedOf key n))) o
+  pub emit-done : (x : List ℕ) (k end : ℕ) → Emitting key n o x k end → n ≤ k → x ≡ textsJoined (storedOf key n) ++ drop (length (textsJoined (storedOf key n))) o
   emit-done x k end E h = let q : n ≡ k = omega arith in E .written ∙ rw (q, E .sum)

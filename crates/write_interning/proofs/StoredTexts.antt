@@ -14,7 +14,7 @@ use Rattle.texts.specs.Text.{same, holds}
 use Rattle.texts.proofs.Text.{same-self, same-equal}
 use Rattle.draft_image.specs.Strings.{distinct, offsetOf}
 use Rattle.write_sorting.proofs.Laws.{cases, differ}
-use Rattle.write_interning.specs.Uses.{textsOf, storedOf, joined, First}
+use Rattle.write_interning.specs.Uses.{textsOf, storedOf, textsJoined, First}
 
 -- ---- what is held
 
@@ -41,24 +41,24 @@ unfolding holds offsetOf
 offset-old [] rs t e = differ (sym e)
 offset-old (s ∷ ss) rs t e = cases (same t s) (λ f. rw f) (λ f. rw (f, offset-old ss rs t (rw f at e)))
 
-pub offset-new : (ss : List (List ℕ)) (t : List ℕ) → holds ss t ≡ false → offsetOf (ss ++ (t ∷ [])) t ≡ length (joined ss)
+pub offset-new : (ss : List (List ℕ)) (t : List ℕ) → holds ss t ≡ false → offsetOf (ss ++ (t ∷ [])) t ≡ length (textsJoined ss)
 unfolding holds offsetOf flatMap
 offset-new [] t e = rw same-self
-offset-new (s ∷ ss) t e = cases (same t s) (λ f. differ (rw f at e)) (λ f. rw (f, offset-new ss t (rw f at e)) (sym (length-append s (joined ss))))
+offset-new (s ∷ ss) t e = cases (same t s) (λ f. differ (rw f at e)) (λ f. rw (f, offset-new ss t (rw f at e)) (sym (length-append s (textsJoined ss))))
 
-pub joined-snoc : (ss : List (List ℕ)) (t : List ℕ) → joined (ss ++ (t ∷ [])) ≡ joined ss ++ t
+pub joined-snoc : (ss : List (List ℕ)) (t : List ℕ) → textsJoined (ss ++ (t ∷ [])) ≡ textsJoined ss ++ t
 unfolding flatMap
 joined-snoc [] t = append-nil t
-joined-snoc (s ∷ ss) t = ap (λ (l : List ℕ). s ++ l) (joined-snoc ss t) ∙ sym (append-assoc s (joined ss) t)
+joined-snoc (s ∷ ss) t = ap (λ (l : List ℕ). s ++ l) (joined-snoc ss t) ∙ sym (append-assoc s (textsJoined ss) t)
 
 -- a text that is held ends within what is stored
-pub offset-end : (ss : List (List ℕ)) (t : List ℕ) → holds ss t ≡ true → offsetOf ss t + length t ≤ length (joined ss)
+pub offset-end : (ss : List (List ℕ)) (t : List ℕ) → holds ss t ≡ true → offsetOf ss t + length t ≤ length (textsJoined ss)
 unfolding holds offsetOf flatMap
 offset-end [] t e = differ (sym e)
 offset-end (s ∷ ss) t e =
     cases (same t s)
-    (λ f. let q : t ≡ s = same-equal t s f in rw f (omega (arith, length-append s (joined ss), ap length q)))
-    (λ f. rw f (omega (arith, offset-end ss t (rw f at e), length-append s (joined ss))))
+    (λ f. let q : t ≡ s = same-equal t s f in rw f (omega (arith, length-append s (textsJoined ss), ap length q)))
+    (λ f. rw f (omega (arith, offset-end ss t (rw f at e), length-append s (textsJoined ss))))
 
 -- ---- one use more
 
@@ -124,13 +124,13 @@ module _ (key : ℕ → List ℕ) where
 
   -- ---- how long the stored texts are
 
-  pub length-new : (k : ℕ) → holds (storedOf key k) (key k) ≡ false → length (joined (storedOf key (suc k))) ≡ length (joined (storedOf key k)) + length (key k)
-  length-new k e = rw (stored-new k e, joined-snoc) (length-append (joined (storedOf key k)) (key k))
+  pub length-new : (k : ℕ) → holds (storedOf key k) (key k) ≡ false → length (textsJoined (storedOf key (suc k))) ≡ length (textsJoined (storedOf key k)) + length (key k)
+  length-new k e = rw (stored-new k e, joined-snoc) (length-append (textsJoined (storedOf key k)) (key k))
 
-  length-more : (k : ℕ) → length (joined (storedOf key k)) ≤ length (joined (storedOf key (suc k)))
+  length-more : (k : ℕ) → length (textsJoined (storedOf key k)) ≤ length (textsJoined (storedOf key (suc k)))
   length-more k = cases (holds (storedOf key k) (key k)) (λ e. rw (stored-old k e) (omega arith)) (λ e. omega (arith, length-new k e))
 
-  pub length-grows : (k d : ℕ) → length (joined (storedOf key k)) ≤ length (joined (storedOf key (k + d)))
+  pub length-grows : (k d : ℕ) → length (textsJoined (storedOf key k)) ≤ length (textsJoined (storedOf key (k + d)))
   length-grows k zero = rw add-zero (omega arith)
   length-grows k (suc d) = rw add-suc (omega (arith, length-grows k d, length-more (k + d)))
 
@@ -150,7 +150,7 @@ module _ (key : ℕ → List ℕ) where
       )))
 
   -- a use whose text is new is stored at the end
-  pub offset-first : (n k : ℕ) → k < n → holds (storedOf key k) (key k) ≡ false → offsetOf (storedOf key n) (key k) ≡ length (joined (storedOf key k))
+  pub offset-first : (n k : ℕ) → k < n → holds (storedOf key k) (key k) ≡ false → offsetOf (storedOf key n) (key k) ≡ length (textsJoined (storedOf key k))
   offset-first n k h f =
       let q : suc k + (n - suc k) ≡ n = omega arith in
       let g : holds (storedOf key (suc k)) (key k) ≡ true = stored-holds (suc k) k (omega arith) in
@@ -158,7 +158,7 @@ module _ (key : ℕ → List ℕ) where
       m ∙ rw (stored-new k f) (offset-new (storedOf key k) (key k) f)
 
   -- one whose text is held ends before it, or is empty
-  pub offset-before : (n k : ℕ) → k < n → holds (storedOf key k) (key k) ≡ true → offsetOf (storedOf key n) (key k) + length (key k) ≤ length (joined (storedOf key k))
+  pub offset-before : (n k : ℕ) → k < n → holds (storedOf key k) (key k) ≡ true → offsetOf (storedOf key n) (key k) + length (key k) ≤ length (textsJoined (storedOf key k))
   offset-before n k h f =
       let q : k + (n - k) ≡ n = omega arith in
       let m : offsetOf (storedOf key n) (key k) ≡ offsetOf (storedOf key k) (key k) = rw q at (later k (n - k) (key k) f .1) in

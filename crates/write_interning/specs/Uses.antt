@@ -19,8 +19,8 @@ unfoldable pub storedOf : (ℕ → List ℕ) → ℕ → List (List ℕ)
 storedOf key n = distinct [] (textsOf key n)
 
 -- the stored texts one after the other
-abbrev pub joined : List (List ℕ) → List ℕ
-joined kept = flatMap (λ t. t) kept
+abbrev pub textsJoined : List (List ℕ) → List ℕ
+textsJoined kept = flatMap (λ t. t) kept
 
 -- the answer by the length of the stored texts: a word can say where each begins, or not
 unfoldable pub storedAnswer : ℕ → Stored

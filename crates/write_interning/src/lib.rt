@@ -8,7 +8,7 @@ ghost use Rattle.laws.specs.Sorted.{isort};
 ghost use Rattle.texts.specs.Text.{byKey};
 ghost use Rattle.write_text_keys.specs.Keys.{keyIn, Placed};
 ghost use Rattle.write_sorting.specs.Sorted.{upFrom};
-ghost use Rattle.write_interning.specs.Uses.{storedOf, joined, storedAnswer, Offsets, RisesFrom, Firsts, headOf};
+ghost use Rattle.write_interning.specs.Uses.{storedOf, textsJoined, storedAnswer, Offsets, RisesFrom, Firsts, headOf};
 use draft::layout::Layout;
 use draft::source;
 use draft::source::Source;
@@ -89,9 +89,9 @@ fn assign(
     requires { ⌜ (n + n ≤ layout .at) × Placed layout (length (now w)) × (n < 2 ^ 32) ⌝ }
     requires { ⌜ Firsts (keyIn (source .version) (now nodes) (now strings) layout (now w)) n (now w) ⌝ }
     ensures { λ r. ⌜ (let key = keyIn (source .version) (now (nodes .entry)) (now (strings .entry)) layout (now (w .entry)) in
-        r ≡ storedAnswer (length (joined (storedOf key n)))) ⌝ }
+        r ≡ storedAnswer (length (textsJoined (storedOf key n)))) ⌝ }
     ensures { λ _. ⌜ (let key = keyIn (source .version) (now (nodes .entry)) (now (strings .entry)) layout (now (w .entry)) in
-        length (joined (storedOf key n)) < 2 ^ 32 → Offsets key n (now (w .exit))) ⌝ }
+        length (textsJoined (storedOf key n)) < 2 ^ 32 → Offsets key n (now (w .exit))) ⌝ }
     ensures { λ _. ⌜ drop (layout .at) (now (w .exit)) ≡ drop (layout .at) (now (w .entry)) ⌝ }
 {
     let mut total = 0usize;
@@ -125,9 +125,9 @@ pub fn intern(
     requires { ⌜ (layout .texts ≤ n) × (n + n ≤ layout .at) × Placed layout (length (now w)) × (n < 2 ^ 32) ⌝ }
     requires { ⌜ RisesFrom (byKey (keyIn (source .version) (now nodes) (now strings) layout (now w))) (layout .texts) n ⌝ }
     ensures { λ r. ⌜ (let key = keyIn (source .version) (now (nodes .entry)) (now (strings .entry)) layout (now (w .entry)) in
-        r ≡ storedAnswer (length (joined (storedOf key n)))) ⌝ }
+        r ≡ storedAnswer (length (textsJoined (storedOf key n)))) ⌝ }
     ensures { λ _. ⌜ (let key = keyIn (source .version) (now (nodes .entry)) (now (strings .entry)) layout (now (w .entry)) in
-        length (joined (storedOf key n)) < 2 ^ 32 → Offsets key n (now (w .exit))) ⌝ }
+        length (textsJoined (storedOf key n)) < 2 ^ 32 → Offsets key n (now (w .exit))) ⌝ }
     ensures { λ _. ⌜ drop (layout .at) (now (w .exit)) ≡ drop (layout .at) (now (w .entry)) ⌝ }
 {
     arrange(nodes, strings, w, layout, n, source);
@@ -147,9 +147,9 @@ pub fn emit(
 )
     requires { ⌜ (n + n ≤ layout .at) × Placed layout (length (now w)) × (n < 2 ^ 32) ⌝ }
     requires { ⌜ Offsets (keyIn (source .version) (now nodes) (now strings) layout (now w)) n (now w) ⌝ }
-    requires { ⌜ length (joined (storedOf (keyIn (source .version) (now nodes) (now strings) layout (now w)) n)) ≤ length (now out) ⌝ }
+    requires { ⌜ length (textsJoined (storedOf (keyIn (source .version) (now nodes) (now strings) layout (now w)) n)) ≤ length (now out) ⌝ }
     ensures { λ _. ⌜ (let key = keyIn (source .version) (now (nodes .entry)) (now (strings .entry)) layout (now (w .entry)) in
-        now (out .exit) ≡ joined (storedOf key n) ++ drop (length (joined (storedOf key n))) (now (out .entry))) ⌝ }
+        now (out .exit) ≡ textsJoined (storedOf key n) ++ drop (length (textsJoined (storedOf key n))) (now (out .entry))) ⌝ }
 {
     let mut end = 0usize;
     let mut k = 0;

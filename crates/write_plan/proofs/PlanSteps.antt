@@ -33,7 +33,7 @@ use Rattle.write_text_uses.proofs.Fits.{uses-length, readable}
 use Rattle.write_text_uses.proofs.Bounds.{uses-bound, olds-below}
 use Rattle.write_text_uses.proofs.AllUses.{uses-are}
 use Rattle.write_text_keys.specs.Keys.{keyOf, longOf}
-use Rattle.write_interning.specs.Uses.{storedOf, joined, Offsets, RisesFrom}
+use Rattle.write_interning.specs.Uses.{storedOf, textsJoined, Offsets, RisesFrom}
 use Rattle.write_paths.specs.declared.Indexed.{Indexed}
 use Rattle.write_paths.specs.declared.Indexed.the-variants as indexed
 use Rattle.write_paths.specs.Arranged.{indexedOf, Indexes}
@@ -255,8 +255,8 @@ module _ (version : ℕ) (ns cs ms ds is ps ss : List ℕ) (p : tablesRule (draf
           many : length (uses s (numbering s)) ≡ texts + found
           many = uses-long s ∙ omega (arith, texts-all, found-all)
 
-          bytes-same : length (joined (storedOf key (texts + found))) ≡ length (storedBytes s)
-          bytes-same = ap (λ (l : List (List ℕ)). length (joined l)) stored-same
+          bytes-same : length (textsJoined (storedOf key (texts + found))) ≡ length (storedBytes s)
+          bytes-same = ap (λ (l : List (List ℕ)). length (textsJoined l)) stored-same
 
           -- words of the numbers, in the end
           last : (i : ℕ) → layoutOf s .order ≤ i → getD w₄ i 0 ≡ getD w₁ i 0
@@ -274,12 +274,12 @@ module _ (version : ℕ) (ns cs ms ds is ps ss : List ℕ) (p : tablesRule (draf
           behind : layoutOf s .paths ≤ layoutOf s .lengths
           behind = omega (arith, laid .lists)
 
-          prepared : (u : Uses) → u ≡ record { texts = texts; paths = found; strings = length (joined (storedOf key (texts + found))) }
+          prepared : (u : Uses) → u ≡ record { texts = texts; paths = found; strings = length (textsJoined (storedOf key (texts + found))) }
               → Offsets key (texts + found) w₄ → Prepared s w₄ u
           prepared u e o =
               let ut : u .texts ≡ texts = ap (λ (v : Uses). v .texts) e in
               let up : u .paths ≡ found = ap (λ (v : Uses). v .paths) e in
-              let us : u .strings ≡ length (joined (storedOf key (texts + found))) = ap (λ (v : Uses). v .strings) e in
+              let us : u .strings ≡ length (textsJoined (storedOf key (texts + found))) = ap (λ (v : Uses). v .strings) e in
               record {
                 texts = ut ∙ texts-all;
                 paths = up ∙ found-all;

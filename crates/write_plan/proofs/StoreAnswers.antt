@@ -10,7 +10,7 @@ use lib.Dec.{ltb}
 use borrow.Author.Tests.{ltb-true, ltb-false}
 use Rattle.write_interning.specs.declared.Stored.{Stored}
 use Rattle.write_interning.specs.declared.Stored.the-variants.{Whole, TooLong}
-use Rattle.write_interning.specs.Uses.{storedOf, joined, storedAnswer, Offsets}
+use Rattle.write_interning.specs.Uses.{storedOf, textsJoined, storedAnswer, Offsets}
 use Rattle.write_plan.specs.declared.Plan.the-variants.{Ready, Refused}
 use Rattle.write_plan.specs.Planned.{StoredPlan}
 
@@ -34,7 +34,7 @@ long-by total false e q = ltb-false total (2 ^ 32) e
 
 module _ (key : ℕ → List ℕ) (texts paths : ℕ) (a : Stored) where
   abbrev total : ℕ
-  total = length (joined (storedOf key (texts + paths)))
+  total = length (textsJoined (storedOf key (texts + paths)))
 
   pub stored-whole : (m : ℕ) (w : List ℕ) → texts + paths ≤ 4294967295 → a ≡ storedAnswer total → (total < 2 ^ 32 → Offsets key (texts + paths) w) → a ≡ Whole m
       → StoredPlan key texts paths w (Ready (record { texts = texts; paths = paths; strings = m }))

@@ -20,7 +20,7 @@ use Rattle.draft_image.specs.Strings.{uses, byPath, pathOf, storedTexts}
 use Rattle.draft_image.specs.Ready.{OldsAt, NewsAt, OffsetsAt, textUses}
 use Rattle.write_numbering.specs.Work.{treeOf, Numbered}
 use Rattle.write_text_keys.specs.Keys.{keyOf, longOf}
-use Rattle.write_interning.specs.Uses.{storedOf, joined, Offsets}
+use Rattle.write_interning.specs.Uses.{storedOf, textsJoined, Offsets}
 use Rattle.write_plan.specs.declared.Uses.{Uses}
 use Rattle.write_plan.specs.declared.Plan.{Plan}
 use Rattle.write_plan.specs.declared.Plan.the-variants.{Ready, Refused}
@@ -89,9 +89,9 @@ PlanOf s w (Refused k) = (planRule s ≡ k) × (k ≡ 0 → ⊥)
 -- of texts and paths that are stored by their keys: how many bytes that takes and the offsets, or that one is too many
 abbrev pub StoredPlan : (ℕ → List ℕ) → ℕ → ℕ → List ℕ → Plan → Type 0
 StoredPlan key texts paths w (Ready u) =
-    (u ≡ record { texts = texts; paths = paths; strings = length (joined (storedOf key (texts + paths))) })
+    (u ≡ record { texts = texts; paths = paths; strings = length (textsJoined (storedOf key (texts + paths))) })
     × (texts + paths ≤ NONE)
-    × (length (joined (storedOf key (texts + paths))) ≤ NONE)
+    × (length (textsJoined (storedOf key (texts + paths))) ≤ NONE)
     × Offsets key (texts + paths) w
 StoredPlan key texts paths w (Refused k) =
-    (k ≡ noRoom) × ((NONE < texts + paths) ⊎ ((texts + paths ≤ NONE) × (NONE < length (joined (storedOf key (texts + paths))))))
+    (k ≡ noRoom) × ((NONE < texts + paths) ⊎ ((texts + paths ≤ NONE) × (NONE < length (textsJoined (storedOf key (texts + paths))))))

@@ -15,7 +15,7 @@ use Rattle.texts.specs.Decimal.{decimal}
 use Rattle.texts.specs.Dots.{dot}
 use Rattle.image.specs.Sections.{Sections, nodeWords, nodeCount, nodeWord, parentOf, f, partAt, absent, present, goodIn, optionalIn, goodOptional, isContainer}
 use Rattle.tree.specs.Reach.{climb, Climbs}
-use Rattle.index.specs.Paths.{noName, pieceOf, piece, joined, pathFrom, canonicalPath}
+use Rattle.index.specs.Paths.{noName, pieceOf, piece, joinedByDot, pathFrom, canonicalPath}
 use Rattle.index.proofs.Paths.{path-step, path-top, path-below}
 use Rattle.draft.specs.Source.{wordOf}
 use Rattle.write_text_keys.specs.Keys.{pieceLength, atEnd, pieceByte, readBack, nodeOf, longOf, keyOf, joinedLength, lengthFrom}
@@ -62,7 +62,7 @@ module _ (strings : List ℕ) (place at len : ℕ) (good : optionalIn strings at
           let g : i < len = omega arith in
           sym (getD-take len (drop at strings) i 0 g ∙ getD-drop at strings i 0)
 
-joined-length : (parent : ℕ) (front last : List ℕ) → length (joined parent front last) ≡ joinedLength parent (length front) (length last)
+joined-length : (parent : ℕ) (front last : List ℕ) → length (joinedByDot parent front last) ≡ joinedLength parent (length front) (length last)
 joined-length zero front last = refl
 joined-length (suc parent) front last = length-append front (dot ∷ last) ∙ omega arith
 

@@ -18,7 +18,7 @@ use Rattle.records.specs.Fields.{Kind, Container, Choice, Command, Divert, Glue
 use Rattle.records.proofs.ByKind.{past-kinds}
 use Rattle.write_numbering.specs.Numbers.{newIn}
 use Rattle.write_tree_sections.specs.declared.kinds.Starts.{Starts}
-use Rattle.write_tree_sections.specs.Encoded.{fielded, blankOf, encodedBy}
+use Rattle.write_tree_sections.specs.Encoded.{fielded, blankOf, recordByKind}
 
 -- kinds without fields
 unfoldable isBlank : Kind → Bool
@@ -86,55 +86,55 @@ blank-kind t o h = side (decLt t 19)
     side (no l) = unfold isBlank in ap isBlank (past-kinds t (omega arith))
 
 module _ (w : List ℕ) (new at : ℕ) (st : Starts) (r : NodeRecord) where
-  pub by-tag : (t : ℕ) → r .tag ≡ t → encodedBy w new at st r (kindOf t) ≡ encodedBy w new at st r (kindOf (r .tag))
-  by-tag t e = ap (λ (x : ℕ). encodedBy w new at st r (kindOf x)) (sym e)
+  pub by-tag : (t : ℕ) → r .tag ≡ t → recordByKind w new at st r (kindOf t) ≡ recordByKind w new at st r (kindOf (r .tag))
+  by-tag t e = ap (λ (x : ℕ). recordByKind w new at st r (kindOf x)) (sym e)
 
-  pub at-container : r .tag ≡ 1 → encodedBy w new at st r Container ≡ encodedBy w new at st r (kindOf (r .tag))
+  pub at-container : r .tag ≡ 1 → recordByKind w new at st r Container ≡ recordByKind w new at st r (kindOf (r .tag))
   unfolding kinds
   at-container e = by-tag 1 e
 
-  pub at-choice : r .tag ≡ 2 → encodedBy w new at st r Choice ≡ encodedBy w new at st r (kindOf (r .tag))
+  pub at-choice : r .tag ≡ 2 → recordByKind w new at st r Choice ≡ recordByKind w new at st r (kindOf (r .tag))
   unfolding kinds
   at-choice e = by-tag 2 e
 
-  pub at-divert : r .tag ≡ 4 → encodedBy w new at st r Divert ≡ encodedBy w new at st r (kindOf (r .tag))
+  pub at-divert : r .tag ≡ 4 → recordByKind w new at st r Divert ≡ recordByKind w new at st r (kindOf (r .tag))
   unfolding kinds
   at-divert e = by-tag 4 e
 
-  pub at-reference : r .tag ≡ 17 → encodedBy w new at st r Reference ≡ encodedBy w new at st r (kindOf (r .tag))
+  pub at-reference : r .tag ≡ 17 → recordByKind w new at st r Reference ≡ recordByKind w new at st r (kindOf (r .tag))
   unfolding kinds
   at-reference e = by-tag 17 e
 
-  pub at-text : (r .tag ≡ 3) ⊎ (r .tag ≡ 11) → fielded w new r (getD w at 0) (r .f1) NONE NONE NONE NONE NONE ≡ encodedBy w new at st r (kindOf (r .tag))
-  unfolding kinds encodedBy
+  pub at-text : (r .tag ≡ 3) ⊎ (r .tag ≡ 11) → fielded w new r (getD w at 0) (r .f1) NONE NONE NONE NONE NONE ≡ recordByKind w new at st r (kindOf (r .tag))
+  unfolding kinds recordByKind
   at-text (inl e) = by-tag 3 e
   at-text (inr e) = by-tag 11 e
 
-  pub at-text-range : 6 ≤ r .tag → r .tag < 8 → fielded w new r (getD w at 0) (r .f1) NONE NONE NONE NONE NONE ≡ encodedBy w new at st r (kindOf (r .tag))
-  unfolding kinds encodedBy
+  pub at-text-range : 6 ≤ r .tag → r .tag < 8 → fielded w new r (getD w at 0) (r .f1) NONE NONE NONE NONE NONE ≡ recordByKind w new at st r (kindOf (r .tag))
+  unfolding kinds recordByKind
   at-text-range l m = ⊎-elim (λ e. by-tag 6 (sym e)) (λ k. by-tag 7 (omega arith)) (eq-or-lt-of-le l)
 
-  pub at-number : 8 ≤ r .tag → r .tag < 11 → fielded w new r (r .f0) NONE NONE NONE NONE NONE NONE ≡ encodedBy w new at st r (kindOf (r .tag))
-  unfolding kinds encodedBy
+  pub at-number : 8 ≤ r .tag → r .tag < 11 → fielded w new r (r .f0) NONE NONE NONE NONE NONE NONE ≡ recordByKind w new at st r (kindOf (r .tag))
+  unfolding kinds recordByKind
   at-number l m = ⊎-elim (λ e. by-tag 8 (sym e)) (λ k. ⊎-elim (λ e. by-tag 9 (sym e)) (λ q. by-tag 10 (omega arith)) (eq-or-lt-of-le k)) (eq-or-lt-of-le l)
 
-  pub at-list : r .tag ≡ 12 → fielded w new r (st .payload) (r .f1) NONE NONE NONE NONE NONE ≡ encodedBy w new at st r (kindOf (r .tag))
-  unfolding kinds encodedBy
+  pub at-list : r .tag ≡ 12 → fielded w new r (st .payload) (r .f1) NONE NONE NONE NONE NONE ≡ recordByKind w new at st r (kindOf (r .tag))
+  unfolding kinds recordByKind
   at-list e = by-tag 12 e
 
   pub at-target : r .tag ≡ 13 → (x : ℕ) → x ≡ newIn w new (r .f2)
-      → fielded w new r (getD w at 0) (r .f1) x NONE NONE NONE NONE ≡ encodedBy w new at st r (kindOf (r .tag))
-  unfolding kinds encodedBy
+      → fielded w new r (getD w at 0) (r .f1) x NONE NONE NONE NONE ≡ recordByKind w new at st r (kindOf (r .tag))
+  unfolding kinds recordByKind
   at-target e x q = ap (λ (y : ℕ). fielded w new r (getD w at 0) (r .f1) y NONE NONE NONE NONE) q ∙ by-tag 13 e
 
   pub at-word : (r .tag ≡ 14) ⊎ (r .tag ≡ 16)
-      → fielded w new r (getD w at 0) (r .f1) (r .f2) NONE NONE NONE NONE ≡ encodedBy w new at st r (kindOf (r .tag))
-  unfolding kinds encodedBy
+      → fielded w new r (getD w at 0) (r .f1) (r .f2) NONE NONE NONE NONE ≡ recordByKind w new at st r (kindOf (r .tag))
+  unfolding kinds recordByKind
   at-word (inl e) = by-tag 14 e
   at-word (inr e) = by-tag 16 e
 
-  blank-by : (k : Kind) → isBlank k ≡ true → blankOf w new r ≡ encodedBy w new at st r k
-  unfolding encodedBy isBlank
+  blank-by : (k : Kind) → isBlank k ≡ true → blankOf w new r ≡ recordByKind w new at st r k
+  unfolding recordByKind isBlank
   blank-by Glue e = refl
   blank-by Void e = refl
   blank-by Unknown e = refl
@@ -154,5 +154,5 @@ module _ (w : List ℕ) (new at : ℕ) (st : Starts) (r : NodeRecord) where
   blank-by Assignment e = absurd (false≢true e)
   blank-by Reference e = absurd (false≢true e)
 
-  pub at-blank : Rest (r .tag) → (r .tag < 6) ⊎ (11 ≤ r .tag) → blankOf w new r ≡ encodedBy w new at st r (kindOf (r .tag))
+  pub at-blank : Rest (r .tag) → (r .tag < 6) ⊎ (11 ≤ r .tag) → blankOf w new r ≡ recordByKind w new at st r (kindOf (r .tag))
   at-blank o h = blank-by (kindOf (r .tag)) (blank-kind (r .tag) o h)

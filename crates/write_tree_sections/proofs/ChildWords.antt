@@ -22,7 +22,7 @@ use Rattle.draft_image.specs.Ready.{OldsAt, NewsAt}
 use Rattle.draft_image.proofs.Joins.{join-len, ones-len, join-same}
 use Rattle.words.specs.Output.{putAt, over}
 use Rattle.words.proofs.EntryLoop.{Running, run-start, run-room, run-next, run-front}
-use Rattle.write_tree_sections.specs.Held.{childWords, childWordsOf, childrenBy}
+use Rattle.write_tree_sections.specs.Held.{childWords, childWordsOf, childrenInOrder}
 use Rattle.write_numbering.specs.Numbers.{newIn}
 use Rattle.write_numbering.proofs.DraftWords.{retold, told, new-is}
 
@@ -37,7 +37,7 @@ words-of-length version nodes children w new i = child-words-length children w n
 abbrev pub entry : ℕ → List ℕ → List ℕ → List ℕ → ℕ → ℕ → ℕ → List ℕ
 entry version nodes children w order new j = childWordsOf version nodes children w new (getD w (order + j) 0)
 
-pub section-length : (version : ℕ) (nodes children w : List ℕ) (order new : ℕ) → length (joinOf (length nodes / nodeWords version) (entry version nodes children w order new)) ≡ childrenBy version nodes w order (length nodes / nodeWords version)
+pub section-length : (version : ℕ) (nodes children w : List ℕ) (order new : ℕ) → length (joinOf (length nodes / nodeWords version) (entry version nodes children w order new)) ≡ childrenInOrder version nodes w order (length nodes / nodeWords version)
 section-length version nodes children w order new =
     join-len (length nodes / nodeWords version) (entry version nodes children w order new) (λ j. numberOfChildren (nodesOnly version nodes []) (getD w (order + j) 0))
     (λ j h. words-of-length version nodes children w new (getD w (order + j) 0))
@@ -51,7 +51,7 @@ entry-of version nodes children w new i r count e q =
 
 -- ---- the loop over the image's nodes
 
-pub begin : (version : ℕ) (nodes children w : List ℕ) (order new : ℕ) (out : List ℕ) → 4 * childrenBy version nodes w order (length nodes / nodeWords version) ≤ length out
+pub begin : (version : ℕ) (nodes children w : List ℕ) (order new : ℕ) (out : List ℕ) → 4 * childrenInOrder version nodes w order (length nodes / nodeWords version) ≤ length out
     → Running 0 (length nodes / nodeWords version) (entry version nodes children w order new) out out 0 0
 begin version nodes children w order new out h =
     run-start 0 (length nodes / nodeWords version) (entry version nodes children w order new) out (omega (arith, section-length version nodes children w order new)) 0 refl

@@ -29,7 +29,7 @@ use Rattle.draft_image.proofs.Offsets.{offset-first, offsets-left, offsets-righ
 use Rattle.write_numbering.specs.Numbers.{newIn}
 use Rattle.write_numbering.proofs.DraftWords.{new-is, new-none, text-length}
 use Rattle.write_tree_sections.specs.declared.kinds.Starts.{Starts}
-use Rattle.write_tree_sections.specs.Encoded.{textCount, optionalOffset, recordWords, encodedBy, listTextsIn, textsBy}
+use Rattle.write_tree_sections.specs.Encoded.{textCount, optionalOffset, recordWords, recordByKind, listTextsIn, textsBy}
 
 -- ---- texts
 
@@ -84,7 +84,7 @@ module _ (s : Sections) (order w : List ℕ) (new : ℕ) (news : NewsAt order w 
     abbrev Fielded : Kind → Type 0
     Fielded k =
         firstField s i (fields k) ≡ 0 → OffsetsAt kept (flatMap (fieldTexts s i) (fields k)) w at
-        → recordWords (s .version) (encodedBy w new at st (nodeIn s i) k)
+        → recordWords (s .version) (recordByKind w new at st (nodeIn s i) k)
         ≡ newOf order (parentOf s i) ∷ placeOf s i ∷ tagOf s i ∷ putFields s order kept i (replicate 7 NONE) (fields k)
 
     -- a text alone
@@ -93,7 +93,7 @@ module _ (s : Sections) (order w : List ℕ) (new : ℕ) (news : NewsAt order w 
     text-words g o = (offset-first kept w at _ [] o, text-length s _ _ g)
 
     pub fielded : (k : Kind) → Fielded k
-    unfolding fields fieldWords putFields encodedBy fieldTexts firstField flatMap
+    unfolding fields fieldWords putFields recordByKind fieldTexts firstField flatMap
     fielded Container p o =
         let v = optional-of s (f s i 0) (f s i 1) (optional-passed s i 0 (both _ _ p .0)) in
         let a = optional-offset s (f s i 0) (f s i 1) kept w at v (offsets-left kept w at (textIf s (f s i 0) (f s i 1)) [] o) in

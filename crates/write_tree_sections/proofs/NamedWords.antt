@@ -27,7 +27,7 @@ use Rattle.draft_image.proofs.Joins.{join-len, join-length, even-len, sum-const
 use Rattle.draft_image.proofs.Offsets.{offsets-part, offsets-each}
 use Rattle.words.specs.Output.{over, putAt}
 use Rattle.words.proofs.EntryLoop.{Running, run-start, run-room, run-next, run-front}
-use Rattle.write_tree_sections.specs.Held.{namedWords, namedWordsOf, namedBy, NamedFit}
+use Rattle.write_tree_sections.specs.Held.{namedWords, namedWordsOf, namedInOrder, NamedFit}
 use Rattle.write_numbering.specs.Numbers.{newIn}
 use Rattle.draft.specs.declared.layout.Layout.{Layout}
 use Rattle.write_numbering.proofs.DraftWords.{retold, told, new-is, text-length}
@@ -46,13 +46,13 @@ words-of-length version nodes named w new text i = named-words-length named w ne
 
 -- the section over plain lists
 abbrev pub entry : ℕ → List ℕ → List ℕ → List ℕ → ℕ → ℕ → ℕ → ℕ → List ℕ
-entry version nodes named w order new offsets j = namedWordsOf version nodes named w new (offsets + namedBy version nodes w order j) (getD w (order + j) 0)
+entry version nodes named w order new offsets j = namedWordsOf version nodes named w new (offsets + namedInOrder version nodes w order j) (getD w (order + j) 0)
 
 section-length : (version : ℕ) (nodes named w : List ℕ) (order new offsets : ℕ)
-    → length (joinOf (length nodes / nodeWords version) (entry version nodes named w order new offsets)) ≡ namedBy version nodes w order (length nodes / nodeWords version) * textEntryWords
+    → length (joinOf (length nodes / nodeWords version) (entry version nodes named w order new offsets)) ≡ namedInOrder version nodes w order (length nodes / nodeWords version) * textEntryWords
 section-length version nodes named w order new offsets =
     join-len (length nodes / nodeWords version) (entry version nodes named w order new offsets) (λ j. numberOfNamed (nodesOnly version nodes []) (getD w (order + j) 0) * textEntryWords)
-    (λ j h. words-of-length version nodes named w new (offsets + namedBy version nodes w order j) (getD w (order + j) 0))
+    (λ j h. words-of-length version nodes named w new (offsets + namedInOrder version nodes w order j) (getD w (order + j) 0))
     ∙ sum-scale (length nodes / nodeWords version) textEntryWords (λ j. numberOfNamed (nodesOnly version nodes []) (getD w (order + j) 0))
 
 entry-of : (version : ℕ) (nodes named w : List ℕ) (new text i : ℕ) (r : NodeRecord) (count : ℕ) → r ≡ recordOf version nodes i → count ≡ cond (eqb (r .tag) 1) (r .f6) 0
@@ -65,10 +65,10 @@ entry-of version nodes named w new text i r count e q =
 
 pub record Naming (version : ℕ) (nodes named w : List ℕ) (l : Layout) (offsets : ℕ) (out₀ out : List ℕ) (text at j : ℕ) : Type 0 where
   pub running : Running 0 (length nodes / nodeWords version) (entry version nodes named w (l .order) (l .new) offsets) out₀ out j at
-  pub texts : text ≡ offsets + namedBy version nodes w (l .order) j
+  pub texts : text ≡ offsets + namedInOrder version nodes w (l .order) j
 
 module _ (version : ℕ) (nodes named w : List ℕ) (l : Layout) (offsets : ℕ) (fit : NamedFit version nodes w l offsets) (out₀ : List ℕ) where
-  pub begin : textEntrySize * namedBy version nodes w (l .order) (length nodes / nodeWords version) ≤ length out₀ → Naming version nodes named w l offsets out₀ out₀ offsets 0 0
+  pub begin : textEntrySize * namedInOrder version nodes w (l .order) (length nodes / nodeWords version) ≤ length out₀ → Naming version nodes named w l offsets out₀ out₀ offsets 0 0
   unfolding sumOf
   begin h =
       record {
@@ -140,15 +140,15 @@ module _ (s : Sections) (version : ℕ) (nodes named : List ℕ) (order w : List
   unfolding numberOfNamed nodeWord
   all m offsets p b o q u = join-same (nodeCount r) _ _ each
     where
-      before : (j : ℕ) → j ≤ nodeCount r → sumOf j (λ k. length (namedTexts r (oldOf order k))) ≡ namedBy version nodes w m j
+      before : (j : ℕ) → j ≤ nodeCount r → sumOf j (λ k. length (namedTexts r (oldOf order k))) ≡ namedInOrder version nodes w m j
       before j h =
           sum-ext j (λ k. length (namedTexts r (oldOf order k))) (λ k. numberOfNamed (nodesOnly version nodes []) (getD w (m + k) 0))
           (λ k l. texts-length (oldOf order k) ∙ ap (numberOfNamed r) (sym (o k (omega arith))))
 
       each : (j : ℕ) → j < nodeCount r → entry version nodes named w m (l .new) offsets j ≡ namedOut r order kept (oldOf order j)
       each j h =
-          one (getD w (m + j) 0) (offsets + namedBy version nodes w m j) p (b j h) q
-          (subst (λ (i : ℕ). OffsetsAt kept (namedTexts r i) w (offsets + namedBy version nodes w m j)) (sym (o j h))
+          one (getD w (m + j) 0) (offsets + namedInOrder version nodes w m j) p (b j h) q
+          (subst (λ (i : ℕ). OffsetsAt kept (namedTexts r i) w (offsets + namedInOrder version nodes w m j)) (sym (o j h))
           (subst (λ (k : ℕ). OffsetsAt kept (namedTexts r (oldOf order j)) w (offsets + k)) (before j (omega arith))
           (offsets-part kept w offsets (nodeCount r) (λ k. namedTexts r (oldOf order k)) u j h)))
           ∙ ap (namedOut r order kept) (o j h)

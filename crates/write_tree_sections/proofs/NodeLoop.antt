@@ -37,8 +37,8 @@ use Rattle.draft.specs.declared.layout.Layout.{Layout}
 use Rattle.write_numbering.specs.Numbers.{newIn}
 use Rattle.write_numbering.proofs.DraftWords.{retold, told, new-is, new-none}
 use Rattle.write_tree_sections.specs.declared.kinds.Starts.{Starts}
-use Rattle.write_tree_sections.specs.Encoded.{recordWords, encodedBy, textsBy}
-use Rattle.write_tree_sections.specs.Summed.{childrenIn, namedIn, payloadIn, StartsFit, startsAfter, textsAt, startsBy, usedBy, NodesFit}
+use Rattle.write_tree_sections.specs.Encoded.{recordWords, recordByKind, textsBy}
+use Rattle.write_tree_sections.specs.Summed.{childCountIn, namedCountIn, payloadLengthIn, StartsFit, startsAfter, textsAt, startsBy, usedBy, NodesFit}
 use Rattle.write_tree_sections.proofs.RecordWidth.{record-length, more-none}
 use Rattle.write_tree_sections.proofs.FieldWords.{fielded, texts-count}
 
@@ -71,7 +71,7 @@ module _ (st : Starts) (r : NodeRecord) where
 -- the record that is written for the image's node j
 abbrev recordAt : ℕ → List ℕ → List ℕ → List ℕ → Layout → ℕ → NodeRecord
 recordAt version nodes payload w l j =
-    encodedBy w (l .new) (l .offsets + usedBy version nodes w (l .order) payload j) (startsBy version nodes w (l .order) j)
+    recordByKind w (l .new) (l .offsets + usedBy version nodes w (l .order) payload j) (startsBy version nodes w (l .order) j)
     (recordOf version nodes (getD w (l .order + j) 0)) (kindOf (recordOf version nodes (getD w (l .order + j) 0) .tag))
 
 -- its words
@@ -122,17 +122,17 @@ module _ (version : ℕ) (nodes payload w : List ℕ) (l : Layout) (fit : NodesF
       unfolding textsAt
       more count q = q ∙ ap (λ (x : NodeRecord). textsBy payload x (kindOf (x .tag))) here
 
-      children-is : childrenIn r ≡ numberOfChildren (nodesOnly version nodes []) (getD w (l .order + j) 0)
+      children-is : childCountIn r ≡ numberOfChildren (nodesOnly version nodes []) (getD w (l .order + j) 0)
       unfolding numberOfChildren nodeWord recordOf
-      children-is = λ t. childrenIn (here t)
+      children-is = λ t. childCountIn (here t)
 
-      named-is : namedIn r ≡ numberOfNamed (nodesOnly version nodes []) (getD w (l .order + j) 0)
+      named-is : namedCountIn r ≡ numberOfNamed (nodesOnly version nodes []) (getD w (l .order + j) 0)
       unfolding numberOfNamed nodeWord recordOf
-      named-is = λ t. namedIn (here t)
+      named-is = λ t. namedCountIn (here t)
 
-      payload-is : payloadIn r ≡ payloadLengthOf (nodesOnly version nodes []) (getD w (l .order + j) 0)
+      payload-is : payloadLengthIn r ≡ payloadLengthOf (nodesOnly version nodes []) (getD w (l .order + j) 0)
       unfolding payloadLengthOf nodeWord recordOf
-      payload-is = λ t. payloadIn (here t)
+      payload-is = λ t. payloadLengthIn (here t)
 
       pub step-texts : (count : ℕ) → count ≡ textsBy payload r (kindOf (r .tag)) → text + count ≤ length w
       step-texts count q =
@@ -168,7 +168,7 @@ module _ (version : ℕ) (nodes payload w : List ℕ) (l : Layout) (fit : NodesF
           }
 
       -- the next node
-      pub step-next : (d : NodeRecord) → d ≡ encodedBy w (l .new) text st r (kindOf (r .tag)) → (out′ : List ℕ) → out′ ≡ putAt out at (recordWords version d)
+      pub step-next : (d : NodeRecord) → d ≡ recordByKind w (l .new) text st r (kindOf (r .tag)) → (out′ : List ℕ) → out′ ≡ putAt out at (recordWords version d)
           → (count : ℕ) → count ≡ textsBy payload r (kindOf (r .tag)) → (st′ : Starts) → st′ ≡ startsAfter st r
           → (at′ : ℕ) → at′ ≡ at + nodeSize version → Going version nodes payload w l out₀ out′ (text + count) st′ at′ (j + 1)
       unfolding sumOf
@@ -177,7 +177,7 @@ module _ (version : ℕ) (nodes payload w : List ℕ) (l : Layout) (fit : NodesF
             running =
                 run-next 0 (length nodes / nodeWords version) (entry version nodes payload w l) out₀ out j at (g .running) (recordWords version d) out′ at′ h
                 (ap (recordWords version)
-                (made ∙ (λ t. encodedBy w (l .new) (g .texts t) (g .starts t) (here t) (kindOf (here t .tag)))))
+                (made ∙ (λ t. recordByKind w (l .new) (g .texts t) (g .starts t) (here t) (kindOf (here t .tag)))))
                 z (b ∙ ap (λ (k : ℕ). at + 4 * k) (sym (record-length version d)));
             texts = rw add-one (omega (arith, g .texts, more count q));
             starts =
@@ -235,7 +235,7 @@ module _ (s : Sections) (version : ℕ) (nodes payload w : List ℕ) (l : Layout
           let own : OffsetsAt kept (nodeTexts r i) w text =
           subst (λ (m : ℕ). OffsetsAt kept (nodeTexts r i) w (l .offsets + m)) (sym (used-is j (omega arith)))
           (offsets-part kept w (l .offsets) (nodeCount r) (λ m. nodeTexts r (oldOf order m)) offs j h) in
-          (λ t. recordWords version (encodedBy w (l .new) text st (same t) (kindOf (same t .tag))))
+          (λ t. recordWords version (recordByKind w (l .new) text st (same t) (kindOf (same t .tag))))
           ∙ fielded r order w (l .new) news kept text st i (parent-is i (old-below j h)) (start-is (numberOfChildren (nodesOnly version nodes [])) (numberOfChildren r) (λ x. refl) j h)
           (start-is (numberOfNamed (nodesOnly version nodes [])) (numberOfNamed r) (λ x. refl) j h) (start-is (payloadLengthOf (nodesOnly version nodes [])) (payloadLengthOf r) (λ x. refl) j h) (kindOf (tagOf r i))
           (tables r p .fields i (old-below j h)) own

@@ -35,27 +35,27 @@ module _ (w : List ℕ) (new : ℕ) where
   blankOf r = fielded r NONE NONE NONE NONE NONE NONE NONE
 
   -- the record that is written, where the offset of the node's first text is the word at `at`
-  unfoldable pub encodedBy : ℕ → Starts → NodeRecord → Kind → NodeRecord
-  encodedBy at st r Container = fielded r (optionalOffset w at (r .f0)) (r .f1) (r .f2) (st .children) (r .f4) (st .named) (r .f6)
-  encodedBy at st r Choice = fielded r (optionalOffset w at (r .f0)) (r .f1) (newIn w new (r .f2)) (r .f3) NONE NONE NONE
-  encodedBy at st r Command = fielded r (getD w at 0) (r .f1) NONE NONE NONE NONE NONE
-  encodedBy at st r Divert =
+  unfoldable pub recordByKind : ℕ → Starts → NodeRecord → Kind → NodeRecord
+  recordByKind at st r Container = fielded r (optionalOffset w at (r .f0)) (r .f1) (r .f2) (st .children) (r .f4) (st .named) (r .f6)
+  recordByKind at st r Choice = fielded r (optionalOffset w at (r .f0)) (r .f1) (newIn w new (r .f2)) (r .f3) NONE NONE NONE
+  recordByKind at st r Command = fielded r (getD w at 0) (r .f1) NONE NONE NONE NONE NONE
+  recordByKind at st r Divert =
       fielded r (optionalOffset w at (r .f0)) (r .f1) (newIn w new (r .f2)) (optionalOffset w (at + textCount (r .f0)) (r .f3)) (r .f4) (r .f5) (r .f6)
-  encodedBy at st r Glue = blankOf r
-  encodedBy at st r Operator = fielded r (getD w at 0) (r .f1) NONE NONE NONE NONE NONE
-  encodedBy at st r Tag = fielded r (getD w at 0) (r .f1) NONE NONE NONE NONE NONE
-  encodedBy at st r BoolValue = fielded r (r .f0) NONE NONE NONE NONE NONE NONE
-  encodedBy at st r IntValue = fielded r (r .f0) NONE NONE NONE NONE NONE NONE
-  encodedBy at st r FloatValue = fielded r (r .f0) NONE NONE NONE NONE NONE NONE
-  encodedBy at st r StringValue = fielded r (getD w at 0) (r .f1) NONE NONE NONE NONE NONE
-  encodedBy at st r ListValue = fielded r (st .payload) (r .f1) NONE NONE NONE NONE NONE
-  encodedBy at st r TargetValue = fielded r (getD w at 0) (r .f1) (newIn w new (r .f2)) NONE NONE NONE NONE
-  encodedBy at st r PointerValue = fielded r (getD w at 0) (r .f1) (r .f2) NONE NONE NONE NONE
-  encodedBy at st r Assignment = fielded r (getD w at 0) (r .f1) (r .f2) NONE NONE NONE NONE
-  encodedBy at st r Reference =
+  recordByKind at st r Glue = blankOf r
+  recordByKind at st r Operator = fielded r (getD w at 0) (r .f1) NONE NONE NONE NONE NONE
+  recordByKind at st r Tag = fielded r (getD w at 0) (r .f1) NONE NONE NONE NONE NONE
+  recordByKind at st r BoolValue = fielded r (r .f0) NONE NONE NONE NONE NONE NONE
+  recordByKind at st r IntValue = fielded r (r .f0) NONE NONE NONE NONE NONE NONE
+  recordByKind at st r FloatValue = fielded r (r .f0) NONE NONE NONE NONE NONE NONE
+  recordByKind at st r StringValue = fielded r (getD w at 0) (r .f1) NONE NONE NONE NONE NONE
+  recordByKind at st r ListValue = fielded r (st .payload) (r .f1) NONE NONE NONE NONE NONE
+  recordByKind at st r TargetValue = fielded r (getD w at 0) (r .f1) (newIn w new (r .f2)) NONE NONE NONE NONE
+  recordByKind at st r PointerValue = fielded r (getD w at 0) (r .f1) (r .f2) NONE NONE NONE NONE
+  recordByKind at st r Assignment = fielded r (getD w at 0) (r .f1) (r .f2) NONE NONE NONE NONE
+  recordByKind at st r Reference =
       fielded r (getD w at 0) (r .f1) (optionalOffset w (at + 1) (r .f2)) (r .f3) (newIn w new (r .f4)) NONE NONE
-  encodedBy at st r Void = blankOf r
-  encodedBy at st r Unknown = blankOf r
+  recordByKind at st r Void = blankOf r
+  recordByKind at st r Unknown = blankOf r
 
 -- ---- texts that a node uses
 

@@ -41,16 +41,16 @@ namedWordsOf version nodes named w new text i = namedWords named w new text (f (
 
 module _ (version : ℕ) (nodes w : List ℕ) (order : ℕ) where
   -- their ordered children, their named children, their bytes of payload
-  abbrev pub childrenBy : ℕ → ℕ
-  childrenBy j = sumOf j (λ m. numberOfChildren (nodesOnly version nodes []) (getD w (order + m) 0))
+  abbrev pub childrenInOrder : ℕ → ℕ
+  childrenInOrder j = sumOf j (λ m. numberOfChildren (nodesOnly version nodes []) (getD w (order + m) 0))
 
-  abbrev pub namedBy : ℕ → ℕ
-  namedBy j = sumOf j (λ m. numberOfNamed (nodesOnly version nodes []) (getD w (order + m) 0))
+  abbrev pub namedInOrder : ℕ → ℕ
+  namedInOrder j = sumOf j (λ m. numberOfNamed (nodesOnly version nodes []) (getD w (order + m) 0))
 
-  abbrev pub payloadBy : ℕ → ℕ
-  payloadBy j = sumOf j (λ m. payloadLengthOf (nodesOnly version nodes []) (getD w (order + m) 0))
+  abbrev pub payloadInOrder : ℕ → ℕ
+  payloadInOrder j = sumOf j (λ m. payloadLengthOf (nodesOnly version nodes []) (getD w (order + m) 0))
 
 -- what a section of named children needs of the words: numbers of nodes, and from `offsets` on an offset for each text
 pub record NamedFit (version : ℕ) (nodes w : List ℕ) (l : Layout) (offsets : ℕ) : Type 0 where
   pub order : OrderFits version nodes w l
-  pub texts : offsets + namedBy version nodes w (l .order) (length nodes / nodeWords version) ≤ length w
+  pub texts : offsets + namedInOrder version nodes w (l .order) (length nodes / nodeWords version) ≤ length w

@@ -5,7 +5,7 @@ ghost use Prim.Native.Nat.{_+_, _*_, _/_, _≤_};
 ghost use lib.ListN.{length};
 ghost use lib.Dec.{eqb};
 ghost use Rattle.words.specs.Output.{putAt};
-ghost use Rattle.write_tree_sections.specs.Held.{childWords, OrderFits, childrenBy};
+ghost use Rattle.write_tree_sections.specs.Held.{childWords, OrderFits, childrenInOrder};
 ghost use Rattle.image.specs.Sections.{nodeWords, childSize};
 ghost use Rattle.image.specs.Tags.{containerTag};
 ghost use Rattle.write_tree_sections.specs.Put.{ChildrenPut};
@@ -68,7 +68,7 @@ pub fn put_children(
 )
     requires { ⌜ OrderFits (source .version) (now nodes) (now work) layout ⌝ }
     requires { ⌜ (let count = length (now nodes) / nodeWords (source .version) in
-        childSize * childrenBy (source .version) (now nodes) (now work) (layout .order) count ≤ length (now out)) ⌝ }
+        childSize * childrenInOrder (source .version) (now nodes) (now work) (layout .order) count ≤ length (now out)) ⌝ }
     ensures { λ r. ⌜ (ChildrenPut (source .version) (now (nodes .entry)) (now (children .entry)) (now (work .entry)) layout
         (now (out .entry)) (now (out .exit))) ⌝ }
 {

@@ -5,7 +5,7 @@ ghost use Prim.Native.Nat.{_≤_};
 ghost use lib.ListN.{length, getD};
 ghost use Rattle.records.specs.Fields.{kindOf, Container, Choice, Divert, Reference};
 ghost use Rattle.words.specs.Words.{NONE};
-ghost use Rattle.write_tree_sections.specs.Encoded.{fielded, blankOf, optionalOffset, textCount, encodedBy};
+ghost use Rattle.write_tree_sections.specs.Encoded.{fielded, blankOf, optionalOffset, textCount, recordByKind};
 use draft::source::word;
 use image::NONE;
 use image::NodeRecord;
@@ -58,7 +58,7 @@ pub fn optional_offset(work: &[u32], at: usize, offset: u32) -> u32
 // A container: name, flags, where its ordered and its named children start, and their counts.
 fn container(node: NodeRecord, work: &[u32], new: usize, at: usize, starts: Starts) -> NodeRecord
     requires { ⌜ new ≤ length (now work) ⌝ }
-    ensures { λ r. ⌜ r ≡ encodedBy (now (work .entry)) new at starts node Container ⌝ }
+    ensures { λ r. ⌜ r ≡ recordByKind (now (work .entry)) new at starts node Container ⌝ }
 {
     let mut r = blank(node, work, new);
     r.f0 = optional_offset(work, at, node.f0);
@@ -74,7 +74,7 @@ fn container(node: NodeRecord, work: &[u32], new: usize, at: usize, starts: Star
 // A choice: path, target, flags.
 fn choice(node: NodeRecord, work: &[u32], new: usize, at: usize, starts: Starts) -> NodeRecord
     requires { ⌜ new ≤ length (now work) ⌝ }
-    ensures { λ r. ⌜ r ≡ encodedBy (now (work .entry)) new at starts node Choice ⌝ }
+    ensures { λ r. ⌜ r ≡ recordByKind (now (work .entry)) new at starts node Choice ⌝ }
 {
     let mut r = blank(node, work, new);
     r.f0 = optional_offset(work, at, node.f0);
@@ -87,7 +87,7 @@ fn choice(node: NodeRecord, work: &[u32], new: usize, at: usize, starts: Starts)
 // A divert: path, target, variable, arguments, flags.
 fn divert(node: NodeRecord, work: &[u32], new: usize, at: usize, starts: Starts) -> NodeRecord
     requires { ⌜ (new ≤ length (now work)) × (at ≤ length (now work)) ⌝ }
-    ensures { λ r. ⌜ r ≡ encodedBy (now (work .entry)) new at starts node Divert ⌝ }
+    ensures { λ r. ⌜ r ≡ recordByKind (now (work .entry)) new at starts node Divert ⌝ }
 {
     let mut r = blank(node, work, new);
     r.f0 = optional_offset(work, at, node.f0);
@@ -103,7 +103,7 @@ fn divert(node: NodeRecord, work: &[u32], new: usize, at: usize, starts: Starts)
 // A reference: name, path of its read count, and that count's container.
 fn reference(node: NodeRecord, work: &[u32], new: usize, at: usize, starts: Starts) -> NodeRecord
     requires { ⌜ (new ≤ length (now work)) × (at ≤ length (now work)) ⌝ }
-    ensures { λ r. ⌜ r ≡ encodedBy (now (work .entry)) new at starts node Reference ⌝ }
+    ensures { λ r. ⌜ r ≡ recordByKind (now (work .entry)) new at starts node Reference ⌝ }
 {
     let mut r = blank(node, work, new);
     r.f0 = word(work, at);
@@ -146,7 +146,7 @@ pub fn encode_kind(
     starts: Starts,
 ) -> NodeRecord
     requires { ⌜ (new ≤ length (now work)) × (at ≤ length (now work)) ⌝ }
-    ensures { λ r. ⌜ r ≡ encodedBy (now (work .entry)) new at starts node (kindOf (node .tag)) ⌝ }
+    ensures { λ r. ⌜ r ≡ recordByKind (now (work .entry)) new at starts node (kindOf (node .tag)) ⌝ }
 {
     let kind = node.tag;
     match kind {

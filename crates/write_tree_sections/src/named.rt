@@ -5,7 +5,7 @@ ghost use Prim.Native.Nat.{_+_, _*_, _/_, _≤_};
 ghost use lib.ListN.{length};
 ghost use lib.Dec.{eqb};
 ghost use Rattle.words.specs.Output.{putAt};
-ghost use Rattle.write_tree_sections.specs.Held.{namedWords, NamedFit, namedBy};
+ghost use Rattle.write_tree_sections.specs.Held.{namedWords, NamedFit, namedInOrder};
 ghost use Rattle.image.specs.Sections.{nodeWords, textEntrySize};
 ghost use Rattle.image.specs.Tags.{containerTag};
 ghost use Rattle.write_tree_sections.specs.Put.{NamedPut};
@@ -72,7 +72,7 @@ pub fn put_named(
 )
     requires { ⌜ NamedFit (source .version) (now nodes) (now work) layout offsets ⌝ }
     requires { ⌜ (let count = length (now nodes) / nodeWords (source .version) in
-        textEntrySize * namedBy (source .version) (now nodes) (now work) (layout .order) count ≤ length (now out)) ⌝ }
+        textEntrySize * namedInOrder (source .version) (now nodes) (now work) (layout .order) count ≤ length (now out)) ⌝ }
     ensures { λ r. ⌜ (NamedPut (source .version) (now (nodes .entry)) (now (named .entry)) (now (work .entry)) layout offsets
         (now (out .entry)) (now (out .exit))) ⌝ }
 {

@@ -20,7 +20,7 @@ use Rattle.image.specs.Encoding.{sectionOut, bodyOf, headerWith, imageOf}
 use Rattle.records.specs.Fields.{Field, text, optional, command, operator, node, optionalNode, container, optionalContainer, plain, atMost, children, named, payload, wrong}
 use Rattle.records.specs.Records.{fieldsAt, numberOfNamed, listItems, listOrigins, listItemWord, listOriginWord}
 use Rattle.tree.specs.Tree.{namedText}
-use Rattle.index.specs.Paths.{nameless, pieceOf, piece, joined, pathFrom}
+use Rattle.index.specs.Paths.{nameless, pieceOf, piece, joinedByDot, pathFrom}
 use Rattle.index.specs.Definitions.{numberOfItems, itemTextOf}
 use Rattle.draft.specs.Numbering.{numbering, oldOf}
 use Rattle.draft_image.specs.Strings.{pathOf, byPath, textIf, listTexts, fieldTexts, nodeTexts, namedTexts, definitionTexts, uses, distinct, storedTexts}
@@ -142,7 +142,7 @@ module _ (s : Sections) (b : DraftWords s) where
   path-bytes zero i = tt
   path-bytes (suc n) i = go (eqb i 0) (parentOf s i) (path-bytes n (parentOf s i))
     where
-      go : (c : Bool) (p : ℕ) → All Byte (pathFrom n s (parentOf s i)) → All Byte (cond c [] (joined p (pathFrom n s (parentOf s i)) (piece s i)))
+      go : (c : Bool) (p : ℕ) → All Byte (pathFrom n s (parentOf s i)) → All Byte (cond c [] (joinedByDot p (pathFrom n s (parentOf s i)) (piece s i)))
       go true p a = tt
       go false zero a = piece-bytes i
       go false (suc p) a = all-append Byte (pathFrom n s (parentOf s i)) (dot ∷ piece s i) a (omega arith, piece-bytes i)

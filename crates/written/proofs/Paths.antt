@@ -20,7 +20,7 @@ use Rattle.image.proofs.GoodBytes.{good-empty, good-append, good-ascii}
 use Rattle.image.specs.Sections.{Sections, nodeCount, parentOf, placeOf, tagOf, f, textAt, goodText, absent, inside, isContainer, goodBytes}
 use Rattle.records.specs.Fields.{kinds, kindOf, fields}
 use Rattle.records.specs.Records.{fieldRule, firstField}
-use Rattle.index.specs.Paths.{nameless, pieceOf, piece, joined, pathFrom, canonicalPath}
+use Rattle.index.specs.Paths.{nameless, pieceOf, piece, joinedByDot, pathFrom, canonicalPath}
 use Rattle.draft.specs.Numbering.{oldOf}
 use Rattle.draft_image.specs.Strings.{textIf, fieldTexts, offsetOf}
 use Rattle.draft_image.specs.Written.{fieldWords}
@@ -34,12 +34,12 @@ use Rattle.written.proofs.Rules.{text-at, parent-draft, parent-lt, pare
 decimal-good : (n : ℕ) → goodBytes (decimal n) ≡ true
 decimal-good n = good-ascii (decimal n) (λ x m. omega (arith, decimal-digits n x m .1))
 
-joined-good : (p : ℕ) (a b : List ℕ) → goodBytes a ≡ true → goodBytes b ≡ true → goodBytes (joined p a b) ≡ true
+joined-good : (p : ℕ) (a b : List ℕ) → goodBytes a ≡ true → goodBytes b ≡ true → goodBytes (joinedByDot p a b) ≡ true
 joined-good zero a b x y = y
 joined-good (suc p) a b x y =
     good-append a (dot ∷ b) x (good-append (dot ∷ []) b (good-ascii (dot ∷ []) (below-cons 128 dot [] (omega arith) (below-none 128))) y)
 
-joined-same : (p q : ℕ) (a b : List ℕ) → (p ≡ 0 → q ≡ 0) → (q ≡ 0 → p ≡ 0) → joined p a b ≡ joined q a b
+joined-same : (p q : ℕ) (a b : List ℕ) → (p ≡ 0 → q ≡ 0) → (q ≡ 0 → p ≡ 0) → joinedByDot p a b ≡ joinedByDot q a b
 joined-same zero zero a b x y = refl
 joined-same zero (suc q) a b x y = absurd (omega (arith, x refl))
 joined-same (suc p) zero a b x y = absurd (omega (arith, y refl))
@@ -110,7 +110,7 @@ module _ {s : Sections} {order : List ℕ} {kept : List (List ℕ)} (g : Given s
   path-good-from (suc n) i h c = go (eqb i 0) refl (path-good-from n (parentOf s i))
     where
       go : (b : Bool) → eqb i 0 ≡ b → (parentOf s i < nodeCount s → isContainer s (parentOf s i) ≡ true → goodBytes (pathFrom n s (parentOf s i)) ≡ true)
-          → goodBytes (cond b [] (joined (parentOf s i) (pathFrom n s (parentOf s i)) (piece s i))) ≡ true
+          → goodBytes (cond b [] (joinedByDot (parentOf s i) (pathFrom n s (parentOf s i)) (piece s i))) ≡ true
       go true e r = good-empty
       go false e r =
           let d = eqb-false i 0 e in
@@ -133,7 +133,7 @@ module _ {s : Sections} {order : List ℕ} {kept : List (List ℕ)} (g : Given s
 
       go : (a : Bool) → eqb j 0 ≡ a → (b : Bool) → eqb i 0 ≡ b
           → (parentOf v j < nodeCount s → isContainer s (oldOf order (parentOf v j)) ≡ true → pathFrom n v (parentOf v j) ≡ pathFrom n s (oldOf order (parentOf v j)))
-          → cond a [] (joined (parentOf v j) (pathFrom n v (parentOf v j)) (piece v j)) ≡ cond b [] (joined (parentOf s i) (pathFrom n s (parentOf s i)) (piece s i))
+          → cond a [] (joinedByDot (parentOf v j) (pathFrom n v (parentOf v j)) (piece v j)) ≡ cond b [] (joinedByDot (parentOf s i) (pathFrom n s (parentOf s i)) (piece s i))
       go true x true y r = refl
       go true x false y r = absurd (eqb-false i 0 y (ap (oldOf order) (eqb-true j 0 x) ∙ old-zero g))
       go false x true y r = absurd (eqb-false j 0 x (zero-old g j h (eqb-true i 0 y)))
@@ -145,8 +145,8 @@ module _ {s : Sections} {order : List ℕ} {kept : List (List ℕ)} (g : Given s
           let back : oldOf order (parentOf v j) ≡ q = ap (oldOf order) up ∙ old-new g q low in
           let box = both-true (inside s q) (isContainer s q) (parent-draft g i k d .0) .1 in
           let front = r (subst (λ (m : ℕ). m < nodeCount s) (sym up) (new-in g q low)) (ap (isContainer s) back ∙ box) ∙ ap (pathFrom n s) back in
-          ap (λ (l : List ℕ). joined (parentOf v j) l (piece v j)) front
-          ∙ ap (joined (parentOf v j) (pathFrom n s q)) (piece-same j h c)
+          ap (λ (l : List ℕ). joinedByDot (parentOf v j) l (piece v j)) front
+          ∙ ap (joinedByDot (parentOf v j) (pathFrom n s q)) (piece-same j h c)
           ∙ joined-same (parentOf v j) q (pathFrom n s q) (piece s i)
           (λ z. sym back ∙ ap (oldOf order) z ∙ old-zero g)
           (λ z. up ∙ ap (placeIn order) z ∙ new-zero g)

@@ -3,7 +3,7 @@ use mathlib.Core.Path.{sym, ap, _∙_}
 use denote.Ref.{now}
 use lib.Bits.{bitXor}
 use Rattle.checksum.specs.Crc.{shifts}
-use Rattle.checksum.specs.Lanes.{numberOf}
+use Rattle.checksum.specs.Lanes.{littleEndian}
 use Rattle.checksum.proofs.Lanes.{four-of}
 use borrow.Author.Needs.{needs}
 use Rattle.checksum.proofs.lane.Statement.{statement}
@@ -41,7 +41,7 @@ returns c =
     let start = c .before .before .before .before .before .before .before in
     let a = start .args in
     c .shift-block .ensures
-    ∙ ap (λ x. shifts 128 (bitXor (a .crc) x)) (c .before .word .ensures ∙ ap numberOf (sym (four-of (now (a .s)) (a .i) (start .pre .1))))
+    ∙ ap (λ x. shifts 128 (bitXor (a .crc) x)) (c .before .word .ensures ∙ ap littleEndian (sym (four-of (now (a .s)) (a .i) (start .pre .1))))
 
 pub lane-spec : {M : Type 1} → statement M
 lane-spec =

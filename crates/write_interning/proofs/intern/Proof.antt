@@ -7,7 +7,7 @@ use Rattle.laws.specs.Sorted.{isort}
 use Rattle.texts.specs.Text.{byKey}
 use Rattle.write_text_keys.specs.Keys.{keyOf}
 use Rattle.write_sorting.specs.Sorted.{upFrom}
-use Rattle.write_interning.specs.Uses.{storedOf, joined, storedAnswer, Offsets, Firsts}
+use Rattle.write_interning.specs.Uses.{storedOf, textsJoined, storedAnswer, Offsets, Firsts}
 use borrow.Author.Needs.{needs}
 use Rattle.write_interning.proofs.intern.Statement.{statement}
 use Rattle.write_interning.proofs.intern.Tie as tie
@@ -49,9 +49,9 @@ returns c =
     let n = to .args .n in
     let a = c .before .before .assign in
     let behind = c .before .before .before .before .before .before .mark .ensures .1 ∙ first .arrange .ensures .1 in (
-      a .ensures .0 ∙ ap (λ (d : List ℕ). storedAnswer (length (joined (storedOf (by first d) n)))) behind,
+      a .ensures .0 ∙ ap (λ (d : List ℕ). storedAnswer (length (textsJoined (storedOf (by first d) n)))) behind,
       (
-        subst (λ (d : List ℕ). length (joined (storedOf (by first d) n)) < 2 ^ 32 → Offsets (by first d) n (a .last .1 .1 .0)) behind (a .ensures .1 .0),
+        subst (λ (d : List ℕ). length (textsJoined (storedOf (by first d) n)) < 2 ^ 32 → Offsets (by first d) n (a .last .1 .1 .0)) behind (a .ensures .1 .0),
         a .ensures .1 .1 ∙ behind,
       ),
     )

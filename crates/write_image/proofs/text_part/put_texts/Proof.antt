@@ -7,7 +7,7 @@ use Rattle.image.specs.Encoding.{sectionOut}
 use Rattle.draft.specs.Source.{draftOf}
 use Rattle.draft_image.specs.Written.{written}
 use Rattle.write_image.proofs.Premises.{texts-room, texts-fit, payload-fits, payload-room, uses-small, stored-are, key-offsets, measured, payload-put, strings-put}
-use Rattle.write_interning.specs.Uses.{joined}
+use Rattle.write_interning.specs.Uses.{textsJoined}
 use Rattle.write_image.proofs.SectionLayers.{two-parts}
 use borrow.Author.Needs.{needs}
 use Rattle.write_image.proofs.text_part.put_texts.Statement.{statement}
@@ -31,7 +31,7 @@ emit-requires c κs =
     let r = c .before .before .before .before .before .before .before .before .before .before .pre in
     let kept = stored-are _ _ _ _ _ _ _ _ _ _ (r .told) (r .keyed) in (
       (r .keyed .behind, r .keyed .placed, omega (arith, uses-small _ _ _ _ _ _ _ _ _ _ (r .told), r .keyed .all)),
-      (key-offsets _ _ _ _ _ _ _ _ _ _ (r .told) (r .keyed), omega (arith, texts-room _ _ _ _ _ _ _ r, ap (λ k. length (joined k)) kept)),
+      (key-offsets _ _ _ _ _ _ _ _ _ _ (r .told) (r .keyed), omega (arith, texts-room _ _ _ _ _ _ _ r, ap (λ k. length (textsJoined k)) kept)),
     )
 
 same-length : tie.Need-same-length
