@@ -54,7 +54,8 @@ fn called(words: &[String]) -> Result<bool, String> {
     let words: Vec<&str> = words.iter().map(String::as_str).collect();
     match words[..] {
         ["self-check", ref rest @ ..] => Ok(run::self_check(numbers(rest, [2000])?[0])),
-        ["bench", ref rest @ ..] => Ok(bench::run(numbers(rest, [4])?[0])),
+        ["bench", seconds, words] => Ok(bench::run(numbers(&[seconds], [4])?[0], words)),
+        ["bench", ref rest @ ..] => Ok(bench::run(numbers(rest, [4])?[0], "")),
         ["explain", ref rest @ ..] => {
             let [cases, seed] = numbers(rest, [100_000, 1])?;
             explained(cases, seed)

@@ -23,7 +23,7 @@ impl Input {
 }
 
 /// Each input is made when its turn comes.
-pub const ALL: [fn(&mut Random) -> Input; 16] = [
+pub const ALL: [fn(&mut Random) -> Input; 18] = [
     |random| asked("20,000 mixed nodes", mixed(20_000, random), random),
     |random| asked("200,000 mixed nodes", mixed(200_000, random), random),
     |random| asked("chain of 5,000 containers", chain(5_000), random),
@@ -36,6 +36,8 @@ pub const ALL: [fn(&mut Random) -> Input; 16] = [
     |_| written("20,000 definitions with a common front", defined(&numbered(&front(1_000), 20_000))),
     |_| written("20,000 named entries with a common front", named(&numbered(&front(1_000), 20_000))),
     |_| written("one list of 100,000 items and origins", one_list(100_000)),
+    |_| overlaid("5,000 definitions lapped in one string", lapped(defined(&fronts(5_000)))),
+    |_| overlaid("5,000 named entries lapped in one string", lapped(named(&fronts(5_000)))),
     |_| loaded("20,000 definitions lapped in one string", lapped(defined(&fronts(20_000)))),
     |_| loaded("20,000 named entries lapped in one string", lapped(named(&fronts(20_000)))),
     |_| loaded("lapped chain of 5,000 containers", lapped_chain(5_000)),
@@ -65,6 +67,11 @@ fn written(name: &'static str, parts: Parts) -> Input {
     let draft = parts.draft();
     let image = image_of(name, &draft);
     Input { name, image, draft: Some(draft), asked: false, walks: vec![], items: vec![] }
+}
+
+/// An image that no writer gives, loaded; its sections as a draft, written.
+fn overlaid(name: &'static str, parts: Parts) -> Input {
+    Input { draft: Some(parts.draft()), ..loaded(name, parts) }
 }
 
 /// An image that no writer gives; only loaded.
