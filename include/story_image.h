@@ -5,7 +5,8 @@
  * the call; its pointer is not null, also where the length is 0, and is aligned for its type. Slices that are written
  * (work, view, answer, output, written) overlap nothing else. That is all that is asked of a caller: every function
  * takes any bytes, any words and any numbers, and ends. No function allocates, keeps what it was lent, has state, or
- * changes a byte of an image; calls from several threads at once are fine.
+ * changes a byte of an image; calls from several threads at once are fine. The tables of the checksum take about 5 KB
+ * of stack in a load and in a write.
  *
  * In short:
  *
