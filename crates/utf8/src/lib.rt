@@ -368,31 +368,44 @@ fn ascii_last(s: &[u8], at: usize) -> usize
     at + 32
 }
 
-// Whether the 64 bytes from `at` on are ASCII. It has one caller, so that it becomes part of its loop.
-fn block_ascii(s: &[u8], at: usize) -> bool
-    requires { ⌜ at + 64 ≤ length (now s) ⌝ }
-    ensures { λ r. ⌜ r ≡ allOf 64 (λ j. ltb (getD (now (s .entry)) (at + j) 0) 0x80) ⌝ }
+// Whether the n bytes from `at` on are ASCII. It has one caller, so that it becomes part of its loop.
+fn block_ascii(s: &[u8], at: usize, n: usize) -> bool
+    requires { ⌜ at + n ≤ length (now s) ⌝ }
+    ensures { λ r. ⌜ r ≡ allOf n (λ j. ltb (getD (now (s .entry)) (at + j) 0) 0x80) ⌝ }
 {
     let mut bits: u8 = 0;
     let mut j = 0;
-    while j < 64 {
+    while j < n {
         bits = bits | s[at + j];
         j += 1;
     }
     bits < 0x80
 }
 
-// Where the ASCII ends that s begins with, or before: by blocks of 64.
+// Goes from `at`, before which s is ASCII, past blocks of `size` bytes that are.
+fn ascii_blocks(s: &[u8], at: usize, size: usize) -> usize
+    requires { ⌜ (0 < size) × AsciiTo (now s) at ⌝ }
+    ensures { λ r. ⌜ AsciiTo (now (s .entry)) r ⌝ }
+{
+    let mut i = at;
+    while size <= s.len() - i {
+        if !block_ascii(s, i, size) {
+            return i;
+        }
+        i += size;
+    }
+    i
+}
+
+// Where the ASCII ends that s begins with, or before: by wide blocks, then by smaller ones.
 fn ascii_end(s: &[u8]) -> usize
     requires { ⌜ 32 ≤ length (now s) ⌝ }
     ensures { λ r. ⌜ AsciiTo (now (s .entry)) r ⌝ }
 {
-    let mut i = 0;
-    while 64 <= s.len() - i {
-        if !block_ascii(s, i) {
-            return i;
-        }
-        i += 64;
+    let wide = ascii_blocks(s, 0, 256);
+    let i = ascii_blocks(s, wide, 64);
+    if 64 <= s.len() - i {
+        return i;
     }
     ascii_last(s, i)
 }

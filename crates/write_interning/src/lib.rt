@@ -29,7 +29,7 @@ fn arrange(nodes: &[u32], strings: &[u8], w: &mut [u32], layout: Layout, n: usiz
 {
     let m = layout.texts;
     write_sorting::number(w, 0, m);
-    write_sorting::sort(nodes, strings, w, layout, m, source);
+    write_sorting::ensure_sorted(nodes, strings, w, layout, m, source);
     write_sorting::number(w, m, n);
     write_sorting::merge(nodes, strings, w, layout, m, n, source);
 }

@@ -1,11 +1,12 @@
 -- Lists in order: a sort gives one, and leaves one as it is.
-use Prim.Native.Nat.{ℕ, suc, _+_, _-_, _<_}
-use mathlib.Core.Path.{_≡_, refl, sym, ap, _∙_}
+use Prim.Native.Nat.{ℕ, suc, _+_, _-_, _≤_, _<_}
+use mathlib.Core.Path.{_≡_, refl, sym, ap, ap₂, _∙_}
 use mathlib.Core.List.{List, [], _∷_, _++_, append-nil}
 use mathlib.Core.Bool.{Bool, true, false}
 use native.Mathlib.Omega.{arith}
-use native.Mathlib.Decide.{ℕ-discrete}
-use lib.ListN.{length, getD}
+use native.Mathlib.Decide.{ℕ-discrete, decLt}
+use lib.ListN.{length, getD, take}
+use lib.Seq.{getD-take, length-take-le}
 use Rattle.laws.specs.Sorted.{insert, isort}
 use Rattle.laws.proofs.Members.{All}
 use Rattle.laws.proofs.Sorted.{all-insert}
@@ -83,3 +84,32 @@ module _ (lt : ℕ → ℕ → Bool) (S : Strict lt) where
             | yes q ↦ rw q h
             | no d ↦ low-trans (getD (x ∷ xs) i 0) (getD (x ∷ xs) m 0) y (o i m (omega arith) (omega arith)) h
           ]
+
+-- ---- a list looked through
+
+-- of the first i elements none is above the next
+pub record Level (lt : ℕ → ℕ → Bool) (l : List ℕ) (i : ℕ) : Type 0 where
+  pub each : (k : ℕ) → suc k < i → lt (getD l (suc k) 0) (getD l k 0) ≡ false
+
+pub level-one : (lt : ℕ → ℕ → Bool) (l : List ℕ) → Level lt l 1
+level-one lt l = record { each = λ k h. absurd (omega arith) }
+
+pub level-next : (lt : ℕ → ℕ → Bool) (l : List ℕ) (i : ℕ) → 0 < i → Level lt l i → lt (getD l i 0) (getD l (i - 1) 0) ≡ false → Level lt l (i + 1)
+level-next lt l i p a e = record { each = step }
+  where
+    step : (k : ℕ) → suc k < i + 1 → lt (getD l (suc k) 0) (getD l k 0) ≡ false
+    step k h =
+        elim (decLt (suc k) i) [
+          | yes q ↦ a .each k q
+          | no q ↦
+              let f : suc k ≡ i = omega arith in
+              let g : k ≡ i - 1 = omega arith in
+              ap₂ (λ (x y : ℕ). lt (getD l x 0) (getD l y 0)) f g ∙ e
+        ]
+
+pub level-ordered : (lt : ℕ → ℕ → Bool) → Strict lt → (l : List ℕ) (i n : ℕ) → n ≤ length l → Level lt l i → n ≤ i → Ordered lt (take n l)
+level-ordered lt S l i n m a h =
+    let long = length-take-le n l m in
+    pairs-at (Low lt S) (take n l)
+    (chain (Low lt S) (low-trans lt S) (take n l)
+    (λ k q. ap₂ lt (getD-take n l (suc k) 0 (omega (arith, long))) (getD-take n l k 0 (omega (arith, long))) ∙ a .each k (omega (arith, long))))

@@ -1,6 +1,7 @@
 // A stable merge sort of uses by their texts, in one lent slice: the first words are sorted, those after them are worked in, and the tables
 // by which texts are compared lie behind both.
 ghost use mathlib.Core.Path.{_≡_};
+ghost use mathlib.Core.Bool.{true};
 ghost use Prim.Native.Nat.{_≤_, _<_, _+_, _-_, _^_};
 ghost use lib.ListN.{length, take, drop};
 ghost use lib.Seq.{paste};
@@ -146,6 +147,49 @@ pub fn sort(nodes: &[u32], strings: &[u8], w: &mut [u32], layout: Layout, n: usi
     first.at = layout.at - n;
     sort(nodes, strings, &mut w[n..], first, m, source);
     join_parts(nodes, strings, w, layout, m, n, source);
+}
+
+// Whether the first n words stand in the order of their texts. False is always allowed: it only costs a sort.
+fn in_order(
+    nodes: &[u32],
+    strings: &[u8],
+    w: &[u32],
+    layout: Layout,
+    n: usize,
+    source: Source,
+) -> bool
+    requires { ⌜ (n ≤ length (now w)) × Placed layout (length (now w)) ⌝ }
+    ensures { λ r. ⌜ (let lt = byKey (keyIn (source .version) (now (nodes .entry)) (now (strings .entry)) layout (now (w .entry))) in
+        r ≡ true → Ordered lt (take n (now (w .entry)))) ⌝ }
+{
+    let mut i = 1;
+    while i < n {
+        if write_text_keys::below(nodes, strings, w, layout, w[i], w[i - 1], source) {
+            return false;
+        }
+        i += 1;
+    }
+    true
+}
+
+// Sorts the first n words by their texts, unless they stand in order already; the n words after them are worked in.
+pub fn ensure_sorted(
+    nodes: &[u32],
+    strings: &[u8],
+    w: &mut [u32],
+    layout: Layout,
+    n: usize,
+    source: Source,
+)
+    requires { ⌜ (n + n ≤ layout .at) × Placed layout (length (now w)) ⌝ }
+    ensures { λ _. ⌜ (let lt = byKey (keyIn (source .version) (now (nodes .entry)) (now (strings .entry)) layout (now (w .entry))) in
+        take n (now (w .exit)) ≡ isort lt (take n (now (w .entry)))) ⌝ }
+    ensures { λ _. ⌜ drop (layout .at) (now (w .exit)) ≡ drop (layout .at) (now (w .entry)) ⌝ }
+{
+    if in_order(nodes, strings, w, layout, n, source) {
+        return;
+    }
+    sort(nodes, strings, w, layout, n, source);
 }
 
 // Merges the first m words and those from m up to n, each part in order, into the first n words; the m words after them are worked in.

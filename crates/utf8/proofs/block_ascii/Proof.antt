@@ -9,10 +9,10 @@ use Rattle.utf8.proofs.block_ascii.Statement.{statement}
 use Rattle.utf8.proofs.block_ascii.Tie as tie
 
 abbrev Inv-loop : tie.InvT-loop
-Inv-loop s at bits₀ j₀ bits j = (j ≤ 64) × (ltb bits 0x80 ≡ allOf j (asciiAt s at))
+Inv-loop s at n bits₀ j₀ bits j = (j ≤ n) × (ltb bits 0x80 ≡ allOf j (asciiAt s at))
 
 abbrev μ-loop : tie.MeasureT-loop
-μ-loop s at bits₀ j₀ bits j = 64 - j
+μ-loop s at n bits₀ j₀ bits j = n - j
 
 loop-holds : tie.Need-loop-holds Inv-loop μ-loop
 unfolding allOf
@@ -40,7 +40,7 @@ returns : tie.Need-returns Inv-loop μ-loop
 returns c =
     let a = c .before .before .args in
     let l = c .before .loop in
-    bits-all (a .s .now) (a .at) (l .j) 64 (l .bits) (l .inv .1) (l .inv .0) (c .loop-test .left)
+    bits-all (a .s .now) (a .at) (l .j) (a .n) (l .bits) (l .inv .1) (l .inv .0) (c .loop-test .left)
 
 pub block-ascii-spec : {M : Type 1} → statement M
 block-ascii-spec =

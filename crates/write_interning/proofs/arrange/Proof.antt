@@ -19,15 +19,15 @@ two : (c : tie.After-number2) → let to = c .before .before .before .before .be
 two c =
     let to = c .before .before .before .before .before .before .before .before .before .before .before .before .before in
     let one = c .before .before .before .before .before .before .before .before .number in
-    let s = c .before .before .before .before .sort in
+    let s = c .before .before .before .before .ensure-sorted in
     parts (by c) (to .args .w .now) (c .number2 .last .0) (to .args .layout .texts) (to .args .n) (to .args .layout .at) (one .last .0) (s .last .1 .1 .0) (omega arith) (omega arith)
     (one .ensures .1) (one .ensures .2) (s .ensures .0) (s .ensures .1) (c .number2 .ensures .0) (c .number2 .ensures .1) (c .number2 .ensures .2)
 
 number-requires : tie.Need-number-requires
 number-requires c κs = search needs
 
-sort-requires : tie.Need-sort-requires
-sort-requires c κs = search needs
+ensure-sorted-requires : tie.Need-ensure-sorted-requires
+ensure-sorted-requires c κs = search needs
 
 number-requires-2 : tie.Need-number-requires-2
 number-requires-2 c κs = search needs
@@ -54,4 +54,4 @@ returns c =
 pub arrange-spec : {M : Type 1} → statement M
 arrange-spec =
     tie.close
-    (tie.spec number-requires sort-requires number-requires-2 merge-requires same-length returns)
+    (tie.spec number-requires ensure-sorted-requires number-requires-2 merge-requires same-length returns)

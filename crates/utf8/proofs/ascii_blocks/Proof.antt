@@ -6,18 +6,18 @@ use borrow.Author.Needs.{needs}
 use borrow.Author.Tests.{not-false}
 use lib.ListN.{length}
 use Rattle.utf8.specs.Places.{AsciiTo}
-use Rattle.utf8.proofs.Blocks.{ascii-none, ascii-next}
-use Rattle.utf8.proofs.ascii_end.Statement.{statement}
-use Rattle.utf8.proofs.ascii_end.Tie as tie
+use Rattle.utf8.proofs.Blocks.{ascii-next}
+use Rattle.utf8.proofs.ascii_blocks.Statement.{statement}
+use Rattle.utf8.proofs.ascii_blocks.Tie as tie
 
 abbrev Inv-loop : tie.InvT-loop
-Inv-loop s i₀ i = AsciiTo s i
+Inv-loop s at size i₀ i = AsciiTo s i
 
 abbrev μ-loop : tie.MeasureT-loop
-μ-loop s i₀ i = length s - i
+μ-loop s at size i₀ i = length s - i
 
 loop-holds : tie.Need-loop-holds Inv-loop μ-loop
-loop-holds c = ascii-none _
+loop-holds c = search needs
 
 sub-loop : tie.Need-sub-loop Inv-loop μ-loop
 sub-loop c = search needs
@@ -37,16 +37,13 @@ loop-less c = search needs
 loop-again : tie.Need-loop-again Inv-loop μ-loop
 loop-again c =
     let f = c .before .block-ascii in
-    ascii-next 64 (c .before .before .before .loop .inv) (omega arith) (sym (f .ensures) ∙ not-false (f .result) (c .if1 .left))
-
-ascii-last-requires : tie.Need-ascii-last-requires Inv-loop μ-loop
-ascii-last-requires c κs = search needs
+    ascii-next _ (c .before .before .before .loop .inv) (omega arith) (sym (f .ensures) ∙ not-false (f .result) (c .if1 .left))
 
 returns-2 : tie.Need-returns-2 Inv-loop μ-loop
-returns-2 c = search needs
+returns-2 c = c .before .loop .inv
 
-pub ascii-end-spec : {M : Type 1} → statement M
-ascii-end-spec =
+pub ascii-blocks-spec : {M : Type 1} → statement M
+ascii-blocks-spec =
     tie.close
     (tie.spec
     Inv-loop
@@ -58,5 +55,4 @@ ascii-end-spec =
     add-i
     loop-less
     loop-again
-    ascii-last-requires
     returns-2)
