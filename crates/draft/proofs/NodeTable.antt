@@ -1,32 +1,36 @@
 -- The loop over a draft's nodes: what it is told of each node, and what it has shown when it has passed some.
-use Prim.Native.Nat.{ℕ, zero, suc, _+_, _/_, _≤_, _<_}
+use Prim.Native.Nat.{ℕ, zero, suc, _+_, _≤_, _<_}
 use mathlib.Core.Path.{_≡_, refl, sym, ap, _∙_}
 use mathlib.Core.List.{List, []}
 use mathlib.Core.Bool.{Bool, true, false, _||_}
 use native.Mathlib.Omega.{arith}
 use native.Mathlib.Numerals.{add-one}
-use lib.ListN.{length}
 use lib.Dec.{eqb}
 use borrow.Author.Tests.{eq-eqb, ne-eqb}
 use Rattle.laws.specs.Refusal.{unless, countsAs, _▸_, firstOf}
 use Rattle.laws.proofs.First.{both, second, pass, fail, as-zero, zero-as, first-next, first-all}
 use Rattle.laws.proofs.Chains.{refused, first-broken, first-done}
+use Rattle.image.specs.declared.EntryCounts.{EntryCounts}
 use Rattle.image.specs.declared.NodeRecord.{NodeRecord}
-use Rattle.image.specs.Sections.{Sections, nodeWords, textEntryWords, nodeCount, nodeWord, parentOf, inside, insideAmong}
+use Rattle.image.specs.Sections.{Sections, nodeCount, nodeWord, parentOf, inside, insideAmong}
 use Rattle.image.specs.Entries.{nodeIn, recordOf}
 use Rattle.image.proofs.Entries.{node-record}
-use Rattle.records.specs.declared.Counts.{Counts}
 use Rattle.records.specs.declared.Sums.{Sums}
 use Rattle.records.specs.Fields.{kindOf}
 use Rattle.records.specs.Records.{targetIn, fieldsRule, containersBefore, usedUp}
-use Rattle.records.specs.Shown.{Shows, countsOf, tagIn, sumsBefore}
+use Rattle.records.specs.Shown.{Shows, tagIn, sumsBefore}
+use Rattle.records.proofs.ByKind.{counts-kept}
 use Rattle.records.proofs.PassedRules.{first-sums, within}
+use Rattle.draft.specs.Needs.{draftCounts}
 use Rattle.draft.specs.Source.{NodesFrom, draftOf}
 use Rattle.draft.specs.Draft.{draftNodeRule}
 
 -- ---- what is told of node i
 
-module _ {v : ℕ} (s : Sections) (ns ps ts : List ℕ) (counts : Counts) (g : NodesFrom s v ns ps ts counts) where
+module _ {v : ℕ} (s : Sections) (ns ps ts : List ℕ) (counts : EntryCounts) (g : NodesFrom s v ns ps ts counts) where
+  pub count-is : counts .nodes ≡ nodeCount s
+  count-is = ap (λ (c : EntryCounts). c .nodes) (g .counts)
+
   tag-told : (n tag : ℕ) → tag ≡ tagIn (draftOf v ns [] [] [] [] [] []) n → tag ≡ tagIn s n
   unfolding tagIn nodeWord
   tag-told n tag e = rw (g .version-is, g .nodes-are) e
@@ -37,7 +41,7 @@ module _ {v : ℕ} (s : Sections) (ns ps ts : List ℕ) (counts : Counts) (g : N
     fields-told sums target tag u t e =
         record {
           node = node;
-          counts = g .counts;
+          counts = counts-kept s counts 0 0 (g .counts);
           sums = u;
           target = tag-told target tag e ∙ ap (tagIn s) (t ∙ ap (λ (x : NodeRecord). targetIn x (kindOf (x .tag))) node);
           payload = sym (g .payload-is);
@@ -46,7 +50,7 @@ module _ {v : ℕ} (s : Sections) (ns ps ts : List ℕ) (counts : Counts) (g : N
 
     parent-told : (b : Bool) → b ≡ insideAmong (counts .nodes) (r .parent) → b ≡ inside s (parentOf s i)
     parent-told b e =
-        e ∙ ap (λ (c : Counts). insideAmong (c .nodes) (r .parent)) (g .counts) ∙ ap (λ (x : NodeRecord). insideAmong (nodeCount s) (x .parent)) node
+        e ∙ ap (λ (n : ℕ). insideAmong n (r .parent)) count-is ∙ ap (λ (x : NodeRecord). insideAmong (nodeCount s) (x .parent)) node
 
     -- ---- the rules of node i by the answers of their tests
 
@@ -81,16 +85,10 @@ module _ {v : ℕ} (s : Sections) (ns ps ts : List ℕ) (counts : Counts) (g : N
 
 -- ---- the loop
 
--- the counts of a draft, as the code makes them
-abbrev pub countsIn : ℕ → List ℕ → List ℕ → Counts
-countsIn count cs ms = record { nodes = count; children = length cs; named = length ms / textEntryWords }
-
-module _ (v : ℕ) (ns cs ms ds is ps ts : List ℕ) (count : ℕ) (e : count ≡ length ns / nodeWords v) where
-  pub counts-are : countsIn count cs ms ≡ countsOf (draftOf v ns cs ms ds is ps ts)
-  counts-are = ap (λ (n : ℕ). countsIn n cs ms) e
-
-  pub given : NodesFrom (draftOf v ns cs ms ds is ps ts) v ns ps ts (countsIn count cs ms)
-  given = record { version-is = refl; nodes-are = refl; payload-is = refl; strings-are = refl; counts = counts-are }
+-- by the counts of a draft
+pub given : (v : ℕ) (ns cs ms ds is ps ts : List ℕ) (c : EntryCounts) → c ≡ draftCounts (draftOf v ns cs ms ds is ps ts)
+    → NodesFrom (draftOf v ns cs ms ds is ps ts) v ns ps ts c
+given v ns cs ms ds is ps ts c e = record { version-is = refl; nodes-are = refl; payload-is = refl; strings-are = refl; counts = e }
 
 -- the nodes before i pass, and the sums are theirs
 pub record Passing (s : Sections) (i : ℕ) (sums : Sums) : Type 0 where

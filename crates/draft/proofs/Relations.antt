@@ -27,7 +27,6 @@ use Rattle.index.specs.Definitions.{definitionText, itemText, itemTextOf, first
 use Rattle.draft.specs.Source.{draftOf, wordOf}
 use Rattle.draft.specs.Draft.{relationRule, orderRule}
 use Rattle.draft.specs.Shown.{rightContainer, namedRight, TreePassed, ListsPassed}
-use Rattle.draft.proofs.NodeTable.{countsIn, counts-are}
 use Rattle.draft.proofs.Runs.{as-passes, passes-unless, passes-both, passes-all, unless-both, unless-all, rising-upto, all-like}
 
 -- ---- a node by its words
@@ -104,10 +103,10 @@ module _ {v : ℕ} (ns cs ms ts : List ℕ) (g : TreePassed (draftOf v ns cs ms 
   node-words = is-node s i r node
 
   pub parent-told : (count tag : ℕ) → count ≡ length ns / nodeWords v → tag ≡ tagIn (alone v ns) (r .parent)
-      → ShowsParent s i r (countsIn count cs ms) tag
+      → ShowsParent s i r count tag
   unfolding tagIn nodeWord
   parent-told count tag k e =
-      record { node = node; counts = counts-are v ns cs ms [] [] [] ts count k; parent = e ∙ ap (λ (x : NodeRecord). tagIn (alone v ns) (x .parent)) node }
+      record { node = node; count = k; parent = e ∙ ap (λ (x : NodeRecord). tagIn (alone v ns) (x .parent)) node }
 
   by-passing : relationRule s i ≡ unless (passes (parentRule s i) && passes (entriesRule s i)) 21
   unfolding relationRule

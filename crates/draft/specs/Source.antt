@@ -4,9 +4,9 @@ use mathlib.Core.Path.{_≡_}
 use mathlib.Core.List.{List, []}
 use lib.ListN.{getD}
 use Rattle.image.specs.Sections.{Sections, nodeWords}
-use Rattle.records.specs.declared.Counts.{Counts}
+use Rattle.image.specs.declared.EntryCounts.{EntryCounts}
 use Rattle.draft.specs.declared.source.PathNode.{PathNode}
-use Rattle.records.specs.Shown.{countsOf}
+use Rattle.draft.specs.Needs.{draftCounts}
 
 abbrev pub draftOf : ℕ → List ℕ → List ℕ → List ℕ → List ℕ → List ℕ → List ℕ → List ℕ → Sections
 draftOf version nodes children named definitions items payload strings =
@@ -41,9 +41,9 @@ pathNode version nodes n =
     }
 
 -- sections whose nodes, payload and strings are these, with their counts
-pub record NodesFrom (s : Sections) (version : ℕ) (nodes payload strings : List ℕ) (c : Counts) : Type 0 where
+pub record NodesFrom (s : Sections) (version : ℕ) (nodes payload strings : List ℕ) (c : EntryCounts) : Type 0 where
   pub version-is : s .version ≡ version
   pub nodes-are : s .nodes ≡ nodes
   pub payload-is : s .payload ≡ payload
   pub strings-are : s .strings ≡ strings
-  pub counts : c ≡ countsOf s
+  pub counts : c ≡ draftCounts s

@@ -18,7 +18,6 @@ use image::ImageView;
 use image::order::comes_before;
 use image::refusal::DRAFT_SHAPE;
 use image::tag::CONTAINER;
-use records::Counts;
 
 // Whether the text of an entry, the `place`-th from entry `first` on, comes after that of the entry before it.
 fn entry_rises(entries: &[u32], strings: &[u8], first: usize, place: usize) -> bool
@@ -174,14 +173,10 @@ fn relation_rule(
     ensures { λ r. ⌜ (let s = draftOf (source .version) (now (nodes .entry)) (now (children .entry)) (now (named .entry)) [] [] [] (now (strings .entry)) in
         r ≡ relationRule s i) ⌝ }
 {
-    let counts = Counts {
-        nodes: source::node_count(nodes, source),
-        children: children.len(),
-        named: named.len() / ImageView::TEXT_ENTRY_WORDS,
-    };
+    let count = source::node_count(nodes, source);
     let node = source::node_at(nodes, i, source);
     let parent_tag = source::tag_at(nodes, node.parent, source);
-    if records::parent_rule(node, i, counts, parent_tag) != 0 {
+    if records::parent_rule(node, i, count, parent_tag) != 0 {
         return DRAFT_SHAPE;
     }
     if node.tag != CONTAINER {

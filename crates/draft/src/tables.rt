@@ -1,7 +1,6 @@
 // Row 19: a draft's tables. Every record rule holds, every text is good, and every number that should be a node's is one.
 ghost use mathlib.Core.Path.{_≡_};
-ghost use mathlib.Core.List.{List, []};
-ghost use Prim.Native.Nat.{ℕ};
+ghost use mathlib.Core.List.{[]};
 ghost use Rattle.laws.specs.Refusal.{unless, _▸_, firstOf};
 ghost use Rattle.image.specs.Sections.{Sections, insideAmong, nodeCount, childCount, namedCount, definitionCount, itemCount, goodIn};
 ghost use Rattle.image.specs.Entries.{nodeIn};
@@ -11,14 +10,15 @@ ghost use Rattle.records.specs.Shown.{sumsBefore, startsNext};
 ghost use Rattle.index.specs.Definitions.{itemsUsedUp};
 ghost use Rattle.draft.specs.Source.{NodesFrom, draftOf};
 ghost use Rattle.draft.specs.Draft.{wholeEntries, draftNodeRule, draftChildRule, draftNamedRule, draftDefinitionRule, draftItemRule, tablesRule};
+use crate::entry_counts;
 use crate::source;
 use crate::source::Source;
 use image::Definition;
+use image::EntryCounts;
 use image::ImageView;
 use image::NodeRecord;
 use image::TextEntry;
 use image::refusal::BAD_DRAFT;
-use records::Counts;
 use records::Sums;
 
 // Whether each section is whole entries, and there is a node.
@@ -52,7 +52,7 @@ fn node_rule(
     nodes: &[u32],
     payload: &[u8],
     strings: &[u8],
-    counts: Counts,
+    counts: EntryCounts,
     sums: Sums,
     i: usize,
     node: NodeRecord,
@@ -80,20 +80,17 @@ fn nodes_rule(
     nodes: &[u32],
     children: &[u32],
     named: &[u32],
+    definitions: &[u32],
+    items: &[u32],
     payload: &[u8],
     strings: &[u8],
     source: Source,
 ) -> u32
-    ensures { λ r. ⌜ ((ds is : List ℕ)
-        → (let s = draftOf (source .version) (now (nodes .entry)) (now (children .entry)) (now (named .entry)) ds is
-        (now (payload .entry)) (now (strings .entry)) in
-        r ≡ (firstOf (nodeCount s) (draftNodeRule s) ▸ unless (usedUp s) badDraft))) ⌝ }
+    ensures { λ r. ⌜ (let s = draftOf (source .version) (now (nodes .entry)) (now (children .entry)) (now (named .entry)) (now (definitions .entry))
+        (now (items .entry)) (now (payload .entry)) (now (strings .entry)) in
+        r ≡ (firstOf (nodeCount s) (draftNodeRule s) ▸ unless (usedUp s) badDraft)) ⌝ }
 {
-    let counts = Counts {
-        nodes: source::node_count(nodes, source),
-        children: children.len(),
-        named: named.len() / ImageView::TEXT_ENTRY_WORDS,
-    };
+    let counts = entry_counts(nodes, children, named, definitions, items, payload, source);
     let mut sums = Sums {
         children: 0,
         named: 0,
@@ -109,7 +106,7 @@ fn nodes_rule(
         sums = records::add(sums, node);
         i += 1;
     }
-    if records::used_up(sums, counts, payload.len()) {
+    if records::used_up(sums, counts) {
         0
     } else {
         BAD_DRAFT
@@ -234,7 +231,16 @@ pub fn tables_rule(
     if !whole_entries(nodes, named, definitions, items, source) {
         return BAD_DRAFT;
     }
-    let refused = nodes_rule(nodes, children, named, payload, strings, source);
+    let refused = nodes_rule(
+        nodes,
+        children,
+        named,
+        definitions,
+        items,
+        payload,
+        strings,
+        source,
+    );
     if refused != 0 {
         return refused;
     }

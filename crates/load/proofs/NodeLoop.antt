@@ -10,6 +10,7 @@ use Rattle.laws.specs.Refusal.{firstOf, _▸_}
 use Rattle.laws.specs.Counted.{sumOf}
 use Rattle.laws.proofs.First.{first-next, both, second}
 use Rattle.words.specs.Words.{wordsOf}
+use Rattle.image.specs.declared.EntryCounts.{EntryCounts}
 use Rattle.image.specs.declared.ImageView.{ImageView}
 use Rattle.image.specs.declared.NodeRecord.{NodeRecord}
 use Rattle.image.specs.Sections.{Sections, nodeWords, nodeSize, nodeCount, nodeWord, isContainer}
@@ -17,7 +18,6 @@ use Rattle.image.specs.Entries.{nodeIn, recordOf}
 use Rattle.image.specs.Header.{sectionBytes, sectionsBy}
 use Rattle.image.proofs.Entries.{node-record}
 use Rattle.image.proofs.Views.{version-by, nodes-by, payload-by, strings-by}
-use Rattle.records.specs.declared.Counts.{Counts}
 use Rattle.records.specs.declared.Sums.{Sums}
 use Rattle.records.specs.Fields.{kindOf}
 use Rattle.records.specs.Records.{targetIn, nodeRule, parentRule, fieldsRule, containerOf, containersBefore}
@@ -27,12 +27,12 @@ use Rattle.records.proofs.PassedRules.{first-sums}
 use Rattle.load.specs.declared.nodes.Nodes.{Nodes}
 use Rattle.load.specs.declared.nodes.Nodes.the-variants.{Passed, Refused}
 use Rattle.tree.specs.Parts.{partsOf}
-use Rattle.records.proofs.ByKind.{shown-parent, shown-fields}
+use Rattle.records.proofs.ByKind.{counts-kept, shown-parent, shown-fields}
 use Rattle.load.specs.Nodes.{ReadFrom, nodeBy, nodesBy, nodesOf}
 use Rattle.load.proofs.SectionReads.{node-total}
 
 -- the rules of a node, by what the code finds of its parent and of its target
-module _ (version : ℕ) (ns ps ts : List ℕ) (c : Counts) (u : Sums) (i : ℕ) (r : NodeRecord) (parent q : ℕ)
+module _ (version : ℕ) (ns ps ts : List ℕ) (c : EntryCounts) (u : Sums) (i : ℕ) (r : NodeRecord) (parent q : ℕ)
     (e : parent ≡ tagIn (partsOf version ns [] [] []) (r .parent)) (h : q ≡ parentBy i r (c .nodes) parent) where
   first-rule : q ≡ parentBy i r (c .nodes) (tagIn (partsOf version ns [] [] []) (r .parent))
   first-rule = h ∙ ap (parentBy i r (c .nodes)) e
@@ -49,16 +49,16 @@ module _ (version : ℕ) (ns ps ts : List ℕ) (c : Counts) (u : Sums) (i : ℕ)
       ∙ ap (λ (y : ℕ). fieldsBy (kindOf (r .tag)) r c u y ps ts) (k ∙ ap (tagIn (partsOf version ns [] [] [])) t)
       ∙ sym (second (parentBy i r (c .nodes) (tagIn (partsOf version ns [] [] []) (r .parent))) _ (sym first-rule ∙ z))
 
-module _ (s : Sections) (i : ℕ) (version : ℕ) (ns ps ts : List ℕ) (counts : Counts) (r : NodeRecord) (g : ReadFrom s version ns ps ts counts) (node : r ≡ nodeIn s i) where
-  pub parent-told : (tag : ℕ) → tag ≡ tagIn s (r .parent) → ShowsParent s i r counts tag
-  parent-told tag e = record { node = node; counts = g .counts; parent = e ∙ ap (λ (x : NodeRecord). tagIn s (x .parent)) node }
+module _ (s : Sections) (i : ℕ) (version : ℕ) (ns ps ts : List ℕ) (counts : EntryCounts) (r : NodeRecord) (g : ReadFrom s version ns ps ts counts) (node : r ≡ nodeIn s i) where
+  pub parent-told : (tag : ℕ) → tag ≡ tagIn s (r .parent) → ShowsParent s i r (counts .nodes) tag
+  parent-told tag e = record { node = node; count = ap (λ (c : EntryCounts). c .nodes) (g .counts); parent = e ∙ ap (λ (x : NodeRecord). tagIn s (x .parent)) node }
 
   pub fields-told : (sums : Sums) (target tag : ℕ) → sums ≡ sumsBefore s i → target ≡ targetIn r (kindOf (r .tag)) → tag ≡ tagIn s target
       → Shows s i r counts sums tag ps ts
   fields-told sums target tag u t e =
       record {
         node = node;
-        counts = g .counts;
+        counts = counts-kept s counts _ _ (g .counts);
         sums = u;
         target = e ∙ ap (tagIn s) (t ∙ ap (λ (x : NodeRecord). targetIn x (kindOf (x .tag))) node);
         payload = sym (g .payload-is);
@@ -75,12 +75,12 @@ module _ (s : Sections) (i : ℕ) (version : ℕ) (ns ps ts : List ℕ) (counts 
   unfolding nodeBy nodeRule
   shown-node sums u =
       let kind = kindOf (r .tag) in
-      let parent = shown-parent s i r counts _ (parent-told _ (tag-read (r .parent))) in
+      let parent = shown-parent s i r (counts .nodes) _ (parent-told _ (tag-read (r .parent))) in
       let fields = shown-fields s i r counts sums _ ps ts (fields-told sums (targetIn r kind) _ u refl (tag-read (targetIn r kind))) in
       λ j. parent j ▸ fields j
 
 -- the sections of a view are read from its parts
-pub read-from : (bs : List ℕ) (v : ImageView) (ns ps ts : List ℕ) (counts : Counts) → ns ≡ sectionBytes bs (v .nodes) (nodeSize (v .version))
+pub read-from : (bs : List ℕ) (v : ImageView) (ns ps ts : List ℕ) (counts : EntryCounts) → ns ≡ sectionBytes bs (v .nodes) (nodeSize (v .version))
     → ps ≡ sectionBytes bs (v .payload) 1 → ts ≡ sectionBytes bs (v .strings) 1 → counts ≡ countsOf (sectionsBy bs v)
     → ReadFrom (sectionsBy bs v) (v .version) ns ps ts counts
 read-from bs v ns ps ts counts n p t c =
@@ -143,9 +143,9 @@ pub fields-pass : (s : Sections) (i : ℕ) → nodeRule s i ≡ 0 → fieldsRule
 unfolding nodeRule
 fields-pass s i e = both (parentRule s i) (fieldsRule s i) e .1
 
-module _ (s : Sections) (version : ℕ) (ns ps ts : List ℕ) (counts : Counts) (g : ReadFrom s version ns ps ts counts) where
+module _ (s : Sections) (version : ℕ) (ns ps ts : List ℕ) (counts : EntryCounts) (g : ReadFrom s version ns ps ts counts) where
   pub total : counts .nodes ≡ nodeCount s
-  total = ap (λ (c : Counts). c .nodes) (g .counts)
+  total = ap (λ (c : EntryCounts). c .nodes) (g .counts)
 
   pub node-below : (i : ℕ) → i < counts .nodes → i < nodeCount s
   node-below i h = rw total at h

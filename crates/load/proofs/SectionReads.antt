@@ -8,32 +8,42 @@ use lib.ListN.{length, getD}
 use borrow.Author.Tests.{le-ltb, lt-ltb}
 use Rattle.words.specs.Words.{NONE, wordsOf}
 use Rattle.words.proofs.Words.{length-words}
+use Rattle.image.specs.declared.EntryCounts.{EntryCounts}
 use Rattle.image.specs.declared.ImageView.{ImageView}
-use Rattle.image.specs.Sections.{Sections, nodeWords, textEntryWords, nodeSize, childSize, textEntrySize, nodeCount, indexCount, nodeWord, tagOf, inside, insideAmong}
+use Rattle.image.specs.declared.Section.{Section}
+use Rattle.image.specs.Sections.{Sections, nodeWords, textEntryWords, nodeSize, childSize, textEntrySize, definitionSize, nodeCount, nodeWord, tagOf, inside, insideAmong}
 use Rattle.image.specs.Header.{sectionBytes, sectionsBy}
-use Rattle.records.specs.declared.Counts.{Counts}
 use Rattle.records.specs.Shown.{tagIn, countsOf}
 use Rattle.image.proofs.Tests.{inside-true}
-use Rattle.image.proofs.Parts.{text-entry-count}
+use Rattle.image.proofs.Parts.{text-entry-count, definition-count}
 
 -- ---- counts
 
 module _ (bs : List ℕ) (v : ImageView) where
-  pub counts-read : (ns cs ms : List ℕ) (count : ℕ) → ns ≡ sectionBytes bs (v .nodes) (nodeSize (v .version)) → cs ≡ sectionBytes bs (v .children) childSize
-      → ms ≡ sectionBytes bs (v .named) textEntrySize → count ≡ length (wordsOf ns) / nodeWords (v .version)
-      → _≡_ {A = Counts} (record { nodes = count; children = length cs / childSize; named = length ms / textEntrySize }) (countsOf (sectionsBy bs v))
+  texts-read : (xs : List ℕ) (section : Section) → xs ≡ sectionBytes bs section textEntrySize
+      → length xs / textEntrySize ≡ length (wordsOf (sectionBytes bs section textEntrySize)) / textEntryWords
+  texts-read xs section e =
+      ap (λ (x : List ℕ). length x / textEntrySize) e ∙ sym (text-entry-count (sectionBytes bs section textEntrySize))
+
+  pub counts-read : (ns cs ms ds is xs ps ts : List ℕ) (count : ℕ) → ns ≡ sectionBytes bs (v .nodes) (nodeSize (v .version))
+      → cs ≡ sectionBytes bs (v .children) childSize → ms ≡ sectionBytes bs (v .named) textEntrySize → ds ≡ sectionBytes bs (v .definitions) definitionSize
+      → is ≡ sectionBytes bs (v .items) textEntrySize → xs ≡ sectionBytes bs (v .index) textEntrySize → ps ≡ sectionBytes bs (v .payload) 1
+      → ts ≡ sectionBytes bs (v .strings) 1 → count ≡ length (wordsOf ns) / nodeWords (v .version)
+      → _≡_ {A = EntryCounts} (record { nodes = count; children = length cs / childSize; named = length ms / textEntrySize; definitions = length ds / definitionSize; items = length is / textEntrySize; index = length xs / textEntrySize; payload = length ps; strings = length ts }) (countsOf (sectionsBy bs v))
   unfolding sectionsBy
-  counts-read ns cs ms count n c m e =
+  counts-read ns cs ms ds is xs ps ts count n c m d i x p t e =
       λ k.
       record {
-        nodes = (e ∙ ap (λ (x : List ℕ). length (wordsOf x) / nodeWords (v .version)) n) k;
-        children = (ap (λ (x : List ℕ). length x / childSize) c ∙ sym (length-words (sectionBytes bs (v .children) childSize))) k;
-        named = (ap (λ (x : List ℕ). length x / textEntrySize) m ∙ sym (text-entry-count (sectionBytes bs (v .named) textEntrySize))) k;
+        nodes = (e ∙ ap (λ (y : List ℕ). length (wordsOf y) / nodeWords (v .version)) n) k;
+        children = (ap (λ (y : List ℕ). length y / childSize) c ∙ sym (length-words (sectionBytes bs (v .children) childSize))) k;
+        named = texts-read ms (v .named) m k;
+        definitions =
+            (ap (λ (y : List ℕ). length y / definitionSize) d ∙ sym (definition-count (sectionBytes bs (v .definitions) definitionSize))) k;
+        items = texts-read is (v .items) i k;
+        index = texts-read xs (v .index) x k;
+        payload = length (p k);
+        strings = length (t k);
       }
-
-  pub index-read : (is : List ℕ) → is ≡ sectionBytes bs (v .index) textEntrySize → length is / textEntrySize ≡ indexCount (sectionsBy bs v)
-  unfolding sectionsBy
-  index-read is e = ap (λ (x : List ℕ). length x / textEntrySize) e ∙ sym (text-entry-count (sectionBytes bs (v .index) textEntrySize))
 
 -- ---- the tag of node n
 

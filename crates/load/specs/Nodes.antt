@@ -5,8 +5,8 @@ use mathlib.Core.List.{List, []}
 use Rattle.laws.specs.Refusal.{firstOf, _▸_, refusals}
 use Rattle.words.specs.Words.{wordsOf}
 use Rattle.image.specs.Sections.{Sections, nodeCount}
+use Rattle.image.specs.declared.EntryCounts.{EntryCounts}
 use Rattle.image.specs.declared.NodeRecord.{NodeRecord}
-use Rattle.records.specs.declared.Counts.{Counts}
 use Rattle.records.specs.declared.Sums.{Sums}
 use Rattle.records.specs.Fields.{kindOf}
 use Rattle.records.specs.Records.{targetIn, nodeRule}
@@ -16,7 +16,7 @@ use Rattle.load.specs.declared.nodes.Nodes.{Nodes}
 use Rattle.load.specs.declared.nodes.Nodes.the-variants.{Passed, Refused}
 
 -- the sections of a version whose nodes, payload and strings have these bytes
-pub record ReadFrom (s : Sections) (version : ℕ) (nodes payload strings : List ℕ) (c : Counts) : Type 0 where
+pub record ReadFrom (s : Sections) (version : ℕ) (nodes payload strings : List ℕ) (c : EntryCounts) : Type 0 where
   pub versioned : s .version ≡ version
   pub nodes-are : s .nodes ≡ wordsOf nodes
   pub payload-is : s .payload ≡ payload
@@ -24,7 +24,7 @@ pub record ReadFrom (s : Sections) (version : ℕ) (nodes payload strings : List
   pub counts : c ≡ countsOf s
 
 -- the rules of node i by its record, the bytes of nodes, payload and strings, the counts, and the sums before it: its parent's, its fields'
-unfoldable pub nodeBy : ℕ → List ℕ → List ℕ → List ℕ → Counts → Sums → ℕ → NodeRecord → ℕ
+unfoldable pub nodeBy : ℕ → List ℕ → List ℕ → List ℕ → EntryCounts → Sums → ℕ → NodeRecord → ℕ
 nodeBy version nodes payload strings c u i r =
     let tag = tagIn (partsOf version nodes [] [] []) in
     parentBy i r (c .nodes) (tag (r .parent))

@@ -1,13 +1,13 @@
 // The record rules, node by node, with the sums of the counts before each; what is left over.
+use image::EntryCounts;
 use image::ImageView;
 use image::NodeRecord;
 use image::refusal::BAD_ROOT;
 use image::refusal::LEFT_OVER;
-use records::Counts;
 use records::Sums;
 ghost use mathlib.Core.Path.{_≡_};
 ghost use mathlib.Core.List.{[]};
-ghost use Rattle.image.specs.Sections.{nodeCount};
+ghost use Rattle.image.specs.Sections.{Sections, nodeCount};
 ghost use Rattle.image.specs.Header.{sectionsBy};
 ghost use Rattle.records.specs.Shown.{tagIn, countsOf, sumsBefore};
 ghost use Rattle.load.specs.Load.{leftoverRule, recordsRule};
@@ -36,7 +36,7 @@ fn node_rule(
     nodes: &[u8],
     payload: &[u8],
     strings: &[u8],
-    counts: Counts,
+    counts: EntryCounts,
     sums: Sums,
     i: usize,
     node: NodeRecord,
@@ -44,7 +44,7 @@ fn node_rule(
 ) -> u32
     ensures { λ r. ⌜ r ≡ nodeBy version (now (nodes .entry)) (now (payload .entry)) (now (strings .entry)) counts sums i node ⌝ }
 {
-    let wrong = records::parent_rule(node, i, counts, tag_at(nodes, node.parent, version));
+    let wrong = records::parent_rule(node, i, counts.nodes, tag_at(nodes, node.parent, version));
     if wrong != 0 {
         return wrong;
     }
@@ -59,21 +59,31 @@ fn node_rule(
 }
 
 // The entries of the sections.
-fn counts_of(bytes: &[u8], view: ImageView) -> Counts
+fn counts_of(bytes: &[u8], view: ImageView) -> EntryCounts
     ensures { λ r. ⌜ r ≡ countsOf (sectionsBy (now (bytes .entry)) view) ⌝ }
 {
     let nodes = image::nodes_part(bytes, view);
     let children = image::section_part(bytes, view.children, ImageView::CHILD_SIZE);
     let named = image::section_part(bytes, view.named, ImageView::NAMED_SIZE);
-    Counts {
+    let definitions = image::section_part(bytes, view.definitions, ImageView::DEFINITION_SIZE);
+    let items = image::section_part(bytes, view.items, ImageView::ITEM_SIZE);
+    let index = image::section_part(bytes, view.index, ImageView::INDEX_SIZE);
+    let payload = image::section_part(bytes, view.payload, ImageView::PAYLOAD_SIZE);
+    let strings = image::section_part(bytes, view.strings, ImageView::STRINGS_SIZE);
+    EntryCounts {
         nodes: image::node_count(nodes, view.version),
         children: children.len() / ImageView::WORD_BYTES,
         named: named.len() / ImageView::TEXT_ENTRY_BYTES,
+        definitions: definitions.len() / ImageView::DEFINITION_BYTES,
+        items: items.len() / ImageView::TEXT_ENTRY_BYTES,
+        index: index.len() / ImageView::TEXT_ENTRY_BYTES,
+        payload: payload.len(),
+        strings: strings.len(),
     }
 }
 
 // The rules of every node, in order.
-fn nodes_rule(bytes: &[u8], view: ImageView, counts: Counts) -> Nodes
+fn nodes_rule(bytes: &[u8], view: ImageView, counts: EntryCounts) -> Nodes
     requires { ⌜ counts ≡ countsOf (sectionsBy (now bytes) view) ⌝ }
     ensures { λ r. ⌜ r ≡ nodesOf (sectionsBy (now (bytes .entry)) view) ⌝ }
 {
@@ -99,18 +109,14 @@ fn nodes_rule(bytes: &[u8], view: ImageView, counts: Counts) -> Nodes
     Nodes::Passed(sums)
 }
 
-// Row 13.
-fn left_over(bytes: &[u8], view: ImageView, counts: Counts, sums: Sums) -> u32
-    requires { ⌜ counts ≡ countsOf (sectionsBy (now bytes) view) ⌝ }
-    requires { ⌜ (let s = sectionsBy (now bytes) view in sums ≡ sumsBefore s (nodeCount s)) ⌝ }
-    ensures { λ r. ⌜ r ≡ leftoverRule (sectionsBy (now (bytes .entry)) view) ⌝ }
+// Row 13, of sections that have these counts and whose nodes have these sums.
+fn left_over(counts: EntryCounts, sums: Sums) -> u32
+    ensures { λ r. ⌜ ((s : Sections) → counts ≡ countsOf s → sums ≡ sumsBefore s (nodeCount s) → r ≡ leftoverRule s) ⌝ }
 {
-    let payload = image::section_part(bytes, view.payload, ImageView::PAYLOAD_SIZE);
-    let index = image::section_part(bytes, view.index, ImageView::INDEX_SIZE);
-    if !records::used_up(sums, counts, payload.len()) {
+    if !records::used_up(sums, counts) {
         return LEFT_OVER;
     }
-    if sums.containers == index.len() / ImageView::TEXT_ENTRY_BYTES {
+    if sums.containers == counts.index {
         0
     } else {
         LEFT_OVER
@@ -131,6 +137,6 @@ pub fn records_rule(bytes: &[u8], view: ImageView) -> u32
     let counts = counts_of(bytes, view);
     match nodes_rule(bytes, view, counts) {
         Nodes::Refused(wrong) => wrong,
-        Nodes::Passed(sums) => left_over(bytes, view, counts, sums),
+        Nodes::Passed(sums) => left_over(counts, sums),
     }
 }

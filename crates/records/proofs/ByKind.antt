@@ -7,7 +7,6 @@ use mathlib.Core.List.{List, [], _∷_}
 use native.Mathlib.Omega.{arith}
 use native.Mathlib.Decide.{decLt}
 use native.Mathlib.Nat.{eq-or-lt-of-le}
-use lib.ListN.{length}
 use lib.Dec.{leb, ltb, eqb}
 use borrow.Author.Tests.{eq-eqb, ne-eqb, eqb-true, ltb-true, not-true, not-false}
 use Rattle.laws.proofs.Flags.{up, both-true}
@@ -15,15 +14,16 @@ use Rattle.laws.specs.Refusal.{unless, _▸_, firstOf}
 use Rattle.laws.proofs.First.{first-all, passed}
 use Rattle.laws.proofs.Chains.{skip, last}
 use Rattle.words.specs.Words.{NONE, isNone}
+use Rattle.image.specs.declared.EntryCounts.{EntryCounts}
 use Rattle.image.specs.declared.NodeRecord.{NodeRecord}
+use Rattle.image.specs.Counted.{countsWith}
 use Rattle.image.specs.Entries.{nodeIn}
 use Rattle.image.specs.Sections.{Sections, nodeCount, tagOf, parentOf, f, inside, isContainer}
 use Rattle.image.specs.Tags.{containerTag}
-use Rattle.records.specs.declared.Counts.{Counts}
 use Rattle.records.specs.declared.Sums.{Sums}
 use Rattle.records.specs.Fields.{Kind, Container, Choice, Command, Divert, Glue, Operator, Tag, BoolValue, IntValue, FloatValue, StringValue, ListValue, TargetValue, PointerValue, Assignment, Reference, Void, Unknown, kindTable, kindIn, kinds, kindOf, fields, targetAmong}
 use Rattle.records.specs.Records.{fieldWord, targetIn, targetOf, fieldRule, firstField, fieldsRule, parentRule, rootRight, usedUp, payloadRule, listItemRule, listOriginRule, listWord}
-use Rattle.records.specs.Shown.{countsOf, sumsBefore, tagIn, Shows, ShowsParent, containerAmong, containerRule, choiceRule, divertRule, textRule, targetRule, assignmentRule, referenceRule, listRule, fieldsBy, parentBy, rootBy, sumsAfter, usedUpBy}
+use Rattle.records.specs.Shown.{sumsBefore, tagIn, Shows, ShowsParent, containerAmong, containerRule, choiceRule, divertRule, textRule, targetRule, assignmentRule, referenceRule, listRule, fieldsBy, parentBy, rootBy, sumsAfter, usedUpBy}
 
 -- ---- kinds and targets
 
@@ -87,12 +87,17 @@ tag-told s n = go (inside s n)
     go true = refl
     go false = refl
 
+-- ---- counts, whatever they say of index and strings, which no rule of a record asks for
+
+pub counts-kept : (s : Sections) (c : EntryCounts) (index strings : ℕ) → c ≡ countsWith s index strings → c ≡ countsWith s (c .index) (c .strings)
+counts-kept s c index strings e = e ∙ (λ j. countsWith s (sym e j .index) (sym e j .strings))
+
 -- ---- the rules by kind, over the node's own words
 
 module _ (s : Sections) (i : ℕ) where
-  container-own : containerRule (nodeIn s i) (countsOf s) (sumsBefore s i) (s .strings) ≡ firstField s i (fields Container)
+  container-own : (index strings : ℕ) → containerRule (nodeIn s i) (countsWith s index strings) (sumsBefore s i) (s .strings) ≡ firstField s i (fields Container)
   unfolding containerRule firstField fieldRule fields
-  container-own = simp (skip, last)
+  container-own index strings = simp (skip, last)
 
   choice-own : choiceRule (nodeIn s i) (nodeCount s) (tagIn s (f s i 2)) (s .strings) ≡ firstField s i (fields Choice)
   unfolding choiceRule firstField fieldRule fields
@@ -149,36 +154,37 @@ module _ (s : Sections) (i : ℕ) where
   -- ---- over a record and numbers that are the node's
 
   -- the rules of each kind, of the node's own words
-  own : (k : Kind) → fieldsBy k (nodeIn s i) (countsOf s) (sumsBefore s i) (tagIn s (targetOf s i k)) (s .payload) (s .strings) ≡ firstField s i (fields k)
-  own Container = unfold fieldsBy in container-own
-  own Choice = unfold fieldsBy targetIn fieldWord targetAmong fields in choice-own
-  own Command = unfold fieldsBy kinds in command-own
-  own Divert = unfold fieldsBy in divert-own
-  own Glue = unfold fieldsBy firstField fields in refl
-  own Operator = unfold fieldsBy kinds in operator-own
-  own Tag = unfold fieldsBy kinds in tag-own
-  own BoolValue = unfold fieldsBy in bool-own
-  own IntValue = unfold fieldsBy firstField fieldRule fields _▸_ in refl
-  own FloatValue = unfold fieldsBy firstField fieldRule fields _▸_ in refl
-  own StringValue = unfold fieldsBy kinds in string-own
-  own ListValue = unfold fieldsBy in list-own
-  own TargetValue = unfold fieldsBy in target-own
-  own PointerValue = unfold fieldsBy kinds in pointer-own
-  own Assignment = unfold fieldsBy in assignment-own
-  own Reference = unfold fieldsBy targetIn fieldWord targetAmong fields in reference-own
-  own Void = unfold fieldsBy firstField fields in refl
-  own Unknown = unfold fieldsBy firstField fieldRule fields _▸_ in refl
+  own : (index strings : ℕ) (k : Kind)
+      → fieldsBy k (nodeIn s i) (countsWith s index strings) (sumsBefore s i) (tagIn s (targetOf s i k)) (s .payload) (s .strings) ≡ firstField s i (fields k)
+  own index strings Container = unfold fieldsBy in container-own index strings
+  own index strings Choice = unfold fieldsBy targetIn fieldWord targetAmong fields in choice-own
+  own index strings Command = unfold fieldsBy kinds in command-own
+  own index strings Divert = unfold fieldsBy in divert-own
+  own index strings Glue = unfold fieldsBy firstField fields in refl
+  own index strings Operator = unfold fieldsBy kinds in operator-own
+  own index strings Tag = unfold fieldsBy kinds in tag-own
+  own index strings BoolValue = unfold fieldsBy in bool-own
+  own index strings IntValue = unfold fieldsBy firstField fieldRule fields _▸_ in refl
+  own index strings FloatValue = unfold fieldsBy firstField fieldRule fields _▸_ in refl
+  own index strings StringValue = unfold fieldsBy kinds in string-own
+  own index strings ListValue = unfold fieldsBy in list-own
+  own index strings TargetValue = unfold fieldsBy in target-own
+  own index strings PointerValue = unfold fieldsBy kinds in pointer-own
+  own index strings Assignment = unfold fieldsBy in assignment-own
+  own index strings Reference = unfold fieldsBy targetIn fieldWord targetAmong fields in reference-own
+  own index strings Void = unfold fieldsBy firstField fields in refl
+  own index strings Unknown = unfold fieldsBy firstField fieldRule fields _▸_ in refl
 
   -- what is shown of a node decides its field rules
-  pub shown-fields : (r : NodeRecord) (c : Counts) (u : Sums) (tag : ℕ) (ps ts : List ℕ) → Shows s i r c u tag ps ts
+  pub shown-fields : (r : NodeRecord) (c : EntryCounts) (u : Sums) (tag : ℕ) (ps ts : List ℕ) → Shows s i r c u tag ps ts
       → fieldsBy (kindOf (r .tag)) r c u tag ps ts ≡ fieldsRule s i
   shown-fields r c u tag ps ts h =
       (λ j. fieldsBy (kindOf (h .node j .tag)) (h .node j) (h .counts j) (h .sums j) (h .target j) (h .payload j) (h .strings j))
-      ∙ own (kindOf (tagOf s i))
+      ∙ own (c .index) (c .strings) (kindOf (tagOf s i))
 
 -- ---- the rules by the tag that the code finds
 
-module _ (r : NodeRecord) (c : Counts) (u : Sums) (tag : ℕ) (ps ts : List ℕ) where
+module _ (r : NodeRecord) (c : EntryCounts) (u : Sums) (tag : ℕ) (ps ts : List ℕ) where
   abbrev told : ℕ
   told = fieldsBy (kindOf (r .tag)) r c u tag ps ts
 
@@ -275,19 +281,19 @@ no-kind t r h = ⊎-elim (λ e. inr (inl (sym e))) (λ l. inr (inr (past l))) (e
 
 -- ---- the parent, the root, what is left over: what is shown decides them
 
-pub shown-parent : (s : Sections) (i : ℕ) (r : NodeRecord) (c : Counts) (tag : ℕ) → ShowsParent s i r c tag → parentBy i r (c .nodes) tag ≡ parentRule s i
+pub shown-parent : (s : Sections) (i : ℕ) (r : NodeRecord) (nodes tag : ℕ) → ShowsParent s i r nodes tag → parentBy i r nodes tag ≡ parentRule s i
 unfolding parentBy parentRule
-shown-parent s i r c tag h =
-    (λ j. parentBy i (h .node j) (h .counts j .nodes) (h .parent j)) ∙ simp tag-told
+shown-parent s i r nodes tag h =
+    (λ j. parentBy i (h .node j) (h .count j) (h .parent j)) ∙ simp tag-told
 
 pub shown-root : (s : Sections) (r : NodeRecord) → r ≡ nodeIn s 0 → rootBy r ≡ rootRight s
 unfolding rootBy rootRight
 shown-root s r h = ap rootBy h
 
-pub shown-used : (s : Sections) (u : Sums) (c : Counts) (n : ℕ) → u ≡ sumsBefore s (nodeCount s) → c ≡ countsOf s → n ≡ length (s .payload)
-    → usedUpBy u c n ≡ usedUp s
+pub shown-used : (s : Sections) (u : Sums) (c : EntryCounts) (index strings : ℕ) → u ≡ sumsBefore s (nodeCount s) → c ≡ countsWith s index strings
+    → usedUpBy u c ≡ usedUp s
 unfolding usedUpBy usedUp
-shown-used s u c n p q l = λ j. usedUpBy (p j) (q j) (l j)
+shown-used s u c index strings p q = λ j. usedUpBy (p j) (q j)
 
 -- ---- the same by the tests that the code makes
 
@@ -323,16 +329,16 @@ module _ (r : NodeRecord) where
   unfolding rootBy
   root-tag e d = rw (eq-eqb (r .parent) NONE e, eq-eqb (r .place) NONE d)
 
-module _ (u : Sums) (c : Counts) (n : ℕ) where
-  pub used-children : (u .children ≡ c .children → ⊥) → false ≡ usedUpBy u c n
+module _ (u : Sums) (c : EntryCounts) where
+  pub used-children : (u .children ≡ c .children → ⊥) → false ≡ usedUpBy u c
   unfolding usedUpBy
   used-children d = rw (ne-eqb (u .children) (c .children) d)
 
-  pub used-named : u .children ≡ c .children → (u .named ≡ c .named → ⊥) → false ≡ usedUpBy u c n
+  pub used-named : u .children ≡ c .children → (u .named ≡ c .named → ⊥) → false ≡ usedUpBy u c
   unfolding usedUpBy
   used-named e d = rw (eq-eqb (u .children) (c .children) e, ne-eqb (u .named) (c .named) d)
 
-  pub used-payload : u .children ≡ c .children → u .named ≡ c .named → eqb (u .payload) n ≡ usedUpBy u c n
+  pub used-payload : u .children ≡ c .children → u .named ≡ c .named → eqb (u .payload) (c .payload) ≡ usedUpBy u c
   unfolding usedUpBy
   used-payload e d = rw (eq-eqb (u .children) (c .children) e, eq-eqb (u .named) (c .named) d)
 

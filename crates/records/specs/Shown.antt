@@ -4,24 +4,27 @@ use Prim.Native.Nat.{ℕ, _+_}
 use mathlib.Core.Path.{_≡_}
 use mathlib.Core.List.{List, []}
 use mathlib.Core.Bool.{Bool, cond, _&&_, _||_, not}
+use lib.ListN.{length}
 use lib.Dec.{leb, eqb}
 use Rattle.laws.specs.Refusal.{unless, _▸_, refusals}
 use Rattle.words.specs.Words.{isNone}
 use Rattle.texts.specs.Text.{holds}
 use Rattle.names.specs.Names.{commands, operators}
+use Rattle.image.specs.declared.EntryCounts.{EntryCounts}
 use Rattle.image.specs.declared.NodeRecord.{NodeRecord}
+use Rattle.image.specs.Counted.{countsWith}
 use Rattle.image.specs.Entries.{nodeIn}
 use Rattle.image.specs.Header.{version}
-use Rattle.image.specs.Sections.{Sections, nodeCount, childCount, namedCount, parentOf, tagOf, inside, insideAmong, partAt, goodIn, optionalIn}
+use Rattle.image.specs.Sections.{Sections, nodeCount, indexCount, parentOf, tagOf, inside, insideAmong, partAt, goodIn, optionalIn}
 use Rattle.image.specs.Refusals.{badNode, badText, badRange, badTag}
 use Rattle.image.specs.Tags.{containerTag, commandTag, operatorTag, tagTag, stringTag, listTag, pointerTag}
-use Rattle.records.specs.declared.Counts.{Counts}
 use Rattle.records.specs.declared.Sums.{Sums}
 use Rattle.records.specs.Fields.{Kind, Container, Choice, Command, Divert, Glue, Operator, Tag, BoolValue, IntValue, FloatValue, StringValue, ListValue, TargetValue, PointerValue, Assignment, Reference, Void, Unknown, kindOf}
 use Rattle.records.specs.Records.{targetOf, childrenBefore, namedBefore, payloadBefore, containersBefore, payloadRule, records}
 
-abbrev pub countsOf : Sections → Counts
-countsOf s = record { nodes = nodeCount s; children = childCount s; named = namedCount s }
+-- the counts of an image's sections
+abbrev pub countsOf : Sections → EntryCounts
+countsOf s = countsWith s (indexCount s) (length (s .strings))
 
 -- the sums over the nodes before node i
 abbrev pub sumsBefore : Sections → ℕ → Sums
@@ -32,19 +35,19 @@ sumsBefore s i =
 unfoldable pub tagIn : Sections → ℕ → ℕ
 tagIn s n = cond (inside s n) (tagOf s n) 0
 
--- record, counts, sums, the tag of the target, payload and strings are those of node i
-pub record Shows (s : Sections) (i : ℕ) (r : NodeRecord) (c : Counts) (u : Sums) (tag : ℕ) (ps ts : List ℕ) : Type 0 where
+-- record, counts, sums, the tag of the target, payload and strings are those of node i; what is counted of index and strings no rule asks
+pub record Shows (s : Sections) (i : ℕ) (r : NodeRecord) (c : EntryCounts) (u : Sums) (tag : ℕ) (ps ts : List ℕ) : Type 0 where
   pub node : r ≡ nodeIn s i
-  pub counts : c ≡ countsOf s
+  pub counts : c ≡ countsWith s (c .index) (c .strings)
   pub sums : u ≡ sumsBefore s i
   pub target : tag ≡ tagIn s (targetOf s i (kindOf (tagOf s i)))
   pub payload : ps ≡ s .payload
   pub strings : ts ≡ s .strings
 
--- record, counts and the tag of the parent are those of node i
-pub record ShowsParent (s : Sections) (i : ℕ) (r : NodeRecord) (c : Counts) (tag : ℕ) : Type 0 where
+-- the record and the tag of the parent are those of node i, and there are so many nodes
+pub record ShowsParent (s : Sections) (i : ℕ) (r : NodeRecord) (nodes tag : ℕ) : Type 0 where
   pub node : r ≡ nodeIn s i
-  pub counts : c ≡ countsOf s
+  pub count : nodes ≡ nodeCount s
   pub parent : tag ≡ tagIn s (parentOf s i)
 
 -- ---- tests of a field
@@ -64,7 +67,7 @@ bytesOnly payload strings =
 
 -- ---- the rules by kind
 
-unfoldable pub containerRule : NodeRecord → Counts → Sums → List ℕ → ℕ
+unfoldable pub containerRule : NodeRecord → EntryCounts → Sums → List ℕ → ℕ
 containerRule r c u strings =
     unless (optionalIn strings (r .f0) (r .f1)) badText
     ▸ unless (startsNext (r .f3) (r .f4) (u .children) (c .children)) badRange
@@ -102,7 +105,7 @@ unfoldable pub listRule : NodeRecord → Sums → List ℕ → List ℕ → ℕ
 listRule r u payload strings = unless (eqb (r .f0) (u .payload)) badRange ▸ payloadRule (bytesOnly payload strings) (r .f0) (r .f1)
 
 -- of a node of a kind: its record, the counts, the sums before it, the tag of its target, payload and strings
-unfoldable pub fieldsBy : Kind → NodeRecord → Counts → Sums → ℕ → List ℕ → List ℕ → ℕ
+unfoldable pub fieldsBy : Kind → NodeRecord → EntryCounts → Sums → ℕ → List ℕ → List ℕ → ℕ
 fieldsBy Container r c u tag payload strings = containerRule r c u strings
 fieldsBy Choice r c u tag payload strings = choiceRule r (c .nodes) tag strings
 fieldsBy Command r c u tag payload strings = textRule commandTag (r .f0) (r .f1) strings
@@ -141,9 +144,9 @@ sumsAfter u r =
     (record { children = u .children; named = u .named; payload = r .f0 + r .f1; containers = u .containers })
     u)
 
--- the sums are the counts, and the payload's length
-unfoldable pub usedUpBy : Sums → Counts → ℕ → Bool
-usedUpBy u c payload = eqb (u .children) (c .children) && eqb (u .named) (c .named) && eqb (u .payload) payload
+-- the sums are the counts
+unfoldable pub usedUpBy : Sums → EntryCounts → Bool
+usedUpBy u c = eqb (u .children) (c .children) && eqb (u .named) (c .named) && eqb (u .payload) (c .payload)
 
 -- names on an `unfolding` line what a computation with this module needs
 unfoldable pub shownRecords : Unit {0}

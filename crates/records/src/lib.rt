@@ -1,6 +1,7 @@
 // The record rules, over a record by value: load and writer use the same functions.
 mod list; // list.rt: a list's payload
 
+use image::EntryCounts;
 use image::NONE;
 use image::NodeRecord;
 use image::is_inside;
@@ -25,13 +26,6 @@ ghost use Rattle.records.specs.Records.{targetIn};
 ghost use Rattle.records.specs.Shown.{containerAmong, startsNext};
 ghost use Rattle.records.specs.Shown.{containerRule, choiceRule, divertRule, textRule, targetRule, assignmentRule, referenceRule, listRule};
 ghost use Rattle.records.specs.Shown.{fieldsBy, parentBy, rootBy, sumsAfter, usedUpBy};
-
-// The counts of sections that the rules of a record ask for: nodes, ordered children, named children.
-pub struct Counts {
-    pub nodes: usize,
-    pub children: usize,
-    pub named: usize,
-}
 
 // Sums over the nodes before a node: ordered children, named children, bytes of payload, containers.
 pub struct Sums {
@@ -103,7 +97,7 @@ fn at_most(word: u32, most: u32) -> u32
 }
 
 // A container: an optional name, then its ranges of ordered and of named children.
-fn container(node: NodeRecord, counts: Counts, sums: Sums, strings: &[u8]) -> u32
+fn container(node: NodeRecord, counts: EntryCounts, sums: Sums, strings: &[u8]) -> u32
     ensures { λ r. ⌜ r ≡ containerRule node counts sums (now (strings .entry)) ⌝ }
 {
     if !image::good_optional(strings, node.f0, node.f1) {
@@ -243,7 +237,7 @@ fn list_value(node: NodeRecord, sums: Sums, payload: &[u8], strings: &[u8]) -> u
 // The number of the first field rule that the node breaks, or 0. The tag is that of the node's target, 0 where there is none.
 pub fn fields_rule(
     node: NodeRecord,
-    counts: Counts,
+    counts: EntryCounts,
     sums: Sums,
     target_tag: u32,
     payload: &[u8],
@@ -284,14 +278,14 @@ pub fn root_right(root: NodeRecord) -> bool
     root.tag == tag::CONTAINER
 }
 
-// The number of the parent's rule, which node `i` breaks, or 0. The tag is that of the node in the parent word, 0 where there is none.
-pub fn parent_rule(node: NodeRecord, i: usize, counts: Counts, parent_tag: u32) -> u32
-    ensures { λ r. ⌜ r ≡ parentBy i node (counts .nodes) «parent_tag» ⌝ }
+// The number of the parent's rule, which node `i` of so many breaks, or 0. The tag is that of the node in the parent word, 0 where there is none.
+pub fn parent_rule(node: NodeRecord, i: usize, nodes: usize, parent_tag: u32) -> u32
+    ensures { λ r. ⌜ r ≡ parentBy i node nodes «parent_tag» ⌝ }
 {
     if i == 0 {
         return 0;
     }
-    if !is_container(counts.nodes, node.parent, parent_tag) {
+    if !is_container(nodes, node.parent, parent_tag) {
         return BAD_NODE;
     }
     if node.parent as usize == i {
@@ -324,8 +318,8 @@ pub fn add(sums: Sums, node: NodeRecord) -> Sums
 }
 
 // Nothing is left over in children, named children and payload.
-pub fn used_up(sums: Sums, counts: Counts, payload: usize) -> bool
-    ensures { λ r. ⌜ r ≡ usedUpBy sums counts payload ⌝ }
+pub fn used_up(sums: Sums, counts: EntryCounts) -> bool
+    ensures { λ r. ⌜ r ≡ usedUpBy sums counts ⌝ }
 {
     if sums.children != counts.children {
         return false;
@@ -333,5 +327,5 @@ pub fn used_up(sums: Sums, counts: Counts, payload: usize) -> bool
     if sums.named != counts.named {
         return false;
     }
-    sums.payload == payload
+    sums.payload == counts.payload
 }

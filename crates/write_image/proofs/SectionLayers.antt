@@ -11,7 +11,7 @@ use Rattle.draft_image.specs.Written.{written}
 use Rattle.image.specs.Counted.{CountsOf}
 use Rattle.words.specs.Output.{over}
 use Rattle.words.proofs.FilledOutput.{filled-front, more-part, front-is}
-use Rattle.write_image.specs.Length.{imageCounts}
+use Rattle.write_text_uses.specs.Uses.{imageCounts}
 use Rattle.write_image.proofs.SectionLengths.{Sized}
 
 -- a part that was lent from `a` to the end, as it comes back

@@ -21,7 +21,8 @@ use Rattle.draft.specs.declared.layout.Layout.{Layout}
 use Rattle.image.specs.declared.EntryCounts.{EntryCounts}
 use Rattle.image.specs.Counted.{lengthBy, CountsOf}
 use Rattle.write_image.specs.declared.Places.{Places}
-use Rattle.write_image.specs.Length.{placesBy, imageCounts}
+use Rattle.write_text_uses.specs.Uses.{imageCounts}
+use Rattle.write_image.specs.Length.{placesBy}
 use Rattle.write_image.specs.Given.{treeOut, TreeReady, definitionsAt, listsOut, ListsReady, textsOut, TextsReady, Ready, Sectioned}
 use Rattle.write_image.proofs.SectionLengths.{head-length, sized}
 use Rattle.write_image.proofs.Premises.{tree-length, lists-length, texts-length}

@@ -15,9 +15,10 @@ use Rattle.draft_image.specs.Strings.{uses, byPath, storedTexts}
 use Rattle.draft_image.specs.Written.{written}
 use Rattle.draft_image.specs.Ready.{OldsAt, NewsAt, OffsetsAt, nodeUses, namedUses, textUses}
 use Rattle.write_text_keys.specs.Keys.{keyIn, Placed}
+use Rattle.write_text_uses.specs.Uses.{imageCounts}
 use Rattle.write_paths.specs.PathIndex.{PathsAt, LengthsAt}
 use Rattle.write_image.specs.declared.Places.{Places}
-use Rattle.write_image.specs.Length.{imageCounts, placesBy, imageLength}
+use Rattle.write_image.specs.Length.{placesBy, imageLength}
 
 -- rules 19 to 21 are kept, a word can say how long the image is, and the work words hold the numbers of the nodes and the offsets of
 -- the texts in use, of which the paths come last

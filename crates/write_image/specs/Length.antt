@@ -1,16 +1,13 @@
--- How long an image is, by the counts of its sections, and which counts a draft's image has.
+-- How long an image is, by the counts of its sections.
 use Prim.Native.Nat.{ℕ, _+_, _*_}
 use mathlib.Core.Bool.{cond}
-use lib.ListN.{length}
 use lib.Dec.{leb}
 use Rattle.words.specs.Words.{NONE}
 use Rattle.image.specs.Header.{headerLength}
 use Rattle.image.specs.Sections.{Sections, nodeSize, childSize, textEntrySize, definitionSize}
 use Rattle.image.specs.declared.EntryCounts.{EntryCounts}
-use Rattle.image.specs.Counted.{countsWith, lengthBy}
-use Rattle.draft.specs.Numbering.{numbering}
-use Rattle.write_text_uses.specs.Uses.{storedBytes}
-use Rattle.draft_image.specs.Strings.{byPath}
+use Rattle.image.specs.Counted.{lengthBy}
+use Rattle.write_text_uses.specs.Uses.{imageCounts}
 use Rattle.write_image.specs.declared.Places.{Places}
 use Rattle.write_image.specs.declared.size.Size.{Size}
 use Rattle.write_image.specs.declared.size.Size.the-variants.{Bytes, TooLong}
@@ -34,11 +31,6 @@ capped n = cond (leb n NONE) n 4294967296
 unfoldable pub sizeOf : ℕ → Size
 sizeOf n = cond (leb n NONE) (Bytes n) TooLong
 
--- ---- of a draft
-
--- the counts of its image
-abbrev pub imageCounts : Sections → EntryCounts
-imageCounts s = countsWith s (length (byPath s (numbering s))) (length (storedBytes s))
-
+-- of a draft's image
 abbrev pub imageLength : Sections → ℕ
 imageLength s = lengthBy (s .version) (imageCounts s)

@@ -15,11 +15,14 @@ use Rattle.laws.specs.Counted.{sumOf}
 use Rattle.laws.proofs.First.{first, second, pass, fail}
 use Rattle.words.specs.Words.{NONE}
 use Rattle.image.specs.Sections.{Sections, nodeCount, nodeWord}
+use Rattle.image.specs.Counted.{countsWith}
 use Rattle.records.specs.Records.{listWord, containerOf}
 use Rattle.tree.specs.Tree.{readWalk, allSeen}
 use Rattle.tree.specs.Work.{treeWords}
 use Rattle.tree.specs.Parts.{Fit}
 use Rattle.tree.proofs.Numbers.{get-below}
+use Rattle.draft.specs.declared.layout.Layout.{Layout}
+use Rattle.draft.specs.Needs.{draftCounts}
 use Rattle.draft.specs.Draft.{tablesRule, writeWords, reachRule, shapeRule, pathsRule}
 use Rattle.draft.specs.Source.{draftOf, nodesOnly}
 use Rattle.draft.specs.Numbering.{numbering, oldOf}
@@ -28,20 +31,19 @@ use Rattle.draft_image.specs.Strings.{uses, byPath, storedTexts, distinct, offs
 use Rattle.draft_image.specs.Ready.{OldsAt, NewsAt, textUses}
 use Rattle.write_numbering.specs.Work.{treeOf, Leads, Numbered}
 use Rattle.write_numbering.proofs.WholeDraft.{whole-seen, fit-tree, leads-tree, numbered-whole}
-use Rattle.write_text_uses.specs.Uses.{useWords, usesMost, wordsFrom, withWords, Readable, Collectable, Collected, storedBytes}
+use Rattle.write_text_uses.specs.Uses.{useWords, usesMost, wordsFrom, withWords, Readable, Collectable, Collected, storedBytes, imageCounts}
 use Rattle.write_text_uses.proofs.Fits.{uses-length, readable}
 use Rattle.write_text_uses.proofs.Bounds.{uses-bound, olds-below}
 use Rattle.write_text_uses.proofs.AllUses.{uses-are}
-use Rattle.write_text_keys.specs.Keys.{keyOf, longOf}
+use Rattle.write_text_keys.specs.Keys.{keyOf, keyIn, longOf}
 use Rattle.write_interning.specs.Uses.{storedOf, textsJoined, Offsets, RisesFrom}
 use Rattle.write_paths.specs.declared.Indexed.{Indexed}
 use Rattle.write_paths.specs.declared.Indexed.the-variants as indexed
 use Rattle.write_paths.specs.Arranged.{indexedOf, Indexes}
-use Rattle.write_plan.specs.declared.Uses.{Uses}
 use Rattle.write_plan.specs.declared.Plan.{Plan}
 use Rattle.write_plan.specs.declared.Plan.the-variants.{Ready, Refused}
 use Rattle.write_plan.specs.Shared.{SameTexts}
-use Rattle.write_plan.specs.Planned.{layoutOf, planRule, Prepared, PlanOf, StoredPlan}
+use Rattle.write_plan.specs.Planned.{layoutOf, layoutWith, plannedLayout, planRule, Prepared, PlanOf, StoredPlan}
 use Rattle.write_plan.proofs.SharedTexts.{table-same, long-same, key-same}
 use Rattle.write_paths.proofs.NodeList.{same-later}
 use Rattle.write_plan.proofs.Premises.{once}
@@ -100,6 +102,11 @@ indexed-refused (suc r) n k e =
     (sym q, λ z. omega arith)
 
 -- ---- what each step asks
+
+-- a layout with so many texts
+abbrev pub withTexts : Layout → ℕ → Layout
+withTexts l texts =
+    record { at = l .at; texts = texts; paths = l .paths; lengths = l .lengths; order = l .order; new = l .new; offsets = l .offsets }
 
 nodes-readable : (version : ℕ) (ns cs ms ds is ps ss order : List ℕ) → Readable (draftOf version ns cs ms ds is ps ss) order → Readable (nodesOnly version ns ps) order
 unfolding nodeWord listWord
@@ -274,41 +281,41 @@ module _ (version : ℕ) (ns cs ms ds is ps ss : List ℕ) (p : tablesRule (draf
           behind : layoutOf s .paths ≤ layoutOf s .lengths
           behind = omega (arith, laid .lists)
 
-          prepared : (u : Uses) → u ≡ record { texts = texts; paths = found; strings = length (textsJoined (storedOf key (texts + found))) }
-              → Offsets key (texts + found) w₄ → Prepared s w₄ u
-          prepared u e o =
-              let ut : u .texts ≡ texts = ap (λ (v : Uses). v .texts) e in
-              let up : u .paths ≡ found = ap (λ (v : Uses). v .paths) e in
-              let us : u .strings ≡ length (textsJoined (storedOf key (texts + found))) = ap (λ (v : Uses). v .strings) e in
+          laid-out : layoutWith (layoutOf s) texts found ≡ plannedLayout s
+          laid-out = λ j. layoutWith (layoutOf s) (texts-all j) (found-all j)
+
+          counted : countsWith s found (length (textsJoined (storedOf key (texts + found)))) ≡ imageCounts s
+          counted = λ j. countsWith s (found-all j) (bytes-same j)
+
+          prepared : Offsets key (texts + found) w₄ → Prepared s w₄
+          prepared o =
               record {
-                texts = ut ∙ texts-all;
-                paths = up ∙ found-all;
-                strings = us ∙ bytes-same;
                 olds = λ j h. last (layoutOf s .order + j) (omega arith) ∙ olds-known j h;
                 news = λ i h. last (layoutOf s .new + i) (omega arith) ∙ news-known i h;
                 offsets =
                     λ k h.
                     let l : k < texts + found = omega (arith, many) in
-                    rw (ut, up) (o k l ∙ (λ j. offsetOf (stored-same j) (key-now k l j)));
+                    ap (λ (x : Layout). getD w₄ (x .offsets + k) 0) (sym laid-out) ∙ o k l ∙ (λ j. offsetOf (stored-same j) (key-now k l j));
                 keys =
                     λ a h.
-                    let l : a < texts + found = omega (arith, ut, up) in
-                    rw ut (key-same ss (layoutOf s .at) texts (layoutOf s .paths) (layoutOf s .lengths) w₃ w₄ front behind kept version ns a ∙ key-now a l);
+                    let l : a < texts + found = omega (arith, texts-all, found-all) in
+                    ap (λ (x : Layout). keyIn version ns ss x w₄ a) (sym laid-out)
+                    ∙ key-same ss (layoutOf s .at) texts (layoutOf s .paths) (layoutOf s .lengths) w₃ w₄ front behind kept version ns a ∙ key-now a l;
                 boxes =
                     λ k h.
                     table-same ss (layoutOf s .at) texts (layoutOf s .paths) (layoutOf s .lengths) w₃ w₄ front behind kept (layoutOf s .paths + k) (omega (arith, front))
                     ∙ ap (λ (tab : List ℕ). getD tab (layoutOf s .paths + k) 0) tables-now
                     ∙ boxes′ s p q r free (layoutOf s .paths) (layoutOf s .lengths) text-room (omega arith) (drop (layoutOf s .at) w₂) (sorted .boxes free)
-                    (sorted .lengths free) k (omega (arith, up, found-all));
+                    (sorted .lengths free) k h;
                 lengths =
                     λ k h.
                     long-same ss (layoutOf s .at) texts (layoutOf s .paths) (layoutOf s .lengths) w₃ w₄ front behind kept (oldOf (numbering s) (getD (byPath s (numbering s)) k 0))
                     ∙ ap (λ (tab : List ℕ). longOf (layoutOf s .lengths) tab (oldOf (numbering s) (getD (byPath s (numbering s)) k 0))) tables-now
                     ∙ longs′ s p q r free (layoutOf s .paths) (layoutOf s .lengths) text-room (omega arith) (drop (layoutOf s .at) w₂) (sorted .boxes free)
-                    (sorted .lengths free) k (omega (arith, up, found-all));
+                    (sorted .lengths free) k h;
               }
 
-          pub planned : (a : Plan) → StoredPlan key texts found w₄ a → PlanOf s w₄ a
+          pub planned : (a : Plan) → StoredPlan key (withTexts (layoutOf s) texts) (draftCounts s) found w₄ a → PlanOf s w₄ a
           planned (Refused k) (e, inl h) =
               (rest ∙ first _ _ 22 (fail _ 23 (lt-leb (length (uses s (numbering s))) NONE (omega (arith, many)))) ∙ sym e, λ z′. omega (arith, e))
           planned (Refused k) (e, inr h) = (
@@ -316,8 +323,10 @@ module _ (version : ℕ) (ns cs ms ds is ps ss : List ℕ) (p : tablesRule (draf
                 ∙ fail _ 23 (lt-leb (length (storedBytes s)) NONE (omega (arith, bytes-same, h .1))) ∙ sym e,
             λ z′. omega (arith, e),
           )
-          planned (Ready u) h = (
-            rest ∙ second _ _ (pass _ 23 (le-leb (length (uses s (numbering s))) NONE (omega (arith, many, h .1))))
-                ∙ pass _ 23 (le-leb (length (storedBytes s)) NONE (omega (arith, bytes-same, h .2))),
-            prepared u (h .0) (h .3),
+          planned (Ready l c) h = (
+            rest ∙ second _ _ (pass _ 23 (le-leb (length (uses s (numbering s))) NONE (omega (arith, many, h .2))))
+                ∙ pass _ 23 (le-leb (length (storedBytes s)) NONE (omega (arith, bytes-same, h .3))),
+            h .0 ∙ laid-out,
+            h .1 ∙ counted,
+            prepared (h .4),
           )

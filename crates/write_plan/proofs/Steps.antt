@@ -7,6 +7,7 @@ use native.Mathlib.Omega.{arith}
 use lib.ListN.{length, getD, drop}
 use Rattle.texts.specs.Text.{byKey}
 use Rattle.image.specs.Sections.{Sections, nodeWords, nodeCount}
+use Rattle.image.specs.declared.EntryCounts.{EntryCounts}
 use Rattle.tree.specs.Tree.{readWalk, allSeen}
 use Rattle.tree.specs.Work.{treeWords}
 use Rattle.tree.specs.Parts.{Fit}
@@ -14,6 +15,7 @@ use Rattle.draft.specs.Shown.{TablesPassed}
 use Rattle.draft.proofs.Rules.{tables}
 use Rattle.draft.proofs.Row21.{tables-passed}
 use Rattle.draft.specs.Draft.{tablesRule, writeWords, reachRule, shapeRule, pathsRule}
+use Rattle.draft.specs.Needs.{draftCounts}
 use Rattle.draft.specs.Source.{draftOf}
 use Rattle.draft.specs.Numbering.{numbering}
 use Rattle.draft_image.specs.Strings.{byPath}
@@ -32,17 +34,13 @@ use Rattle.write_plan.specs.declared.Plan.the-variants.{Refused}
 use Rattle.write_plan.specs.Shared.{SameTexts}
 use Rattle.write_plan.specs.Planned.{layoutOf, PlanOf, StoredPlan, Shaped, ShapedTables}
 use Rattle.write_plan.proofs.Premises.{rooted, parents-first}
-use Rattle.write_plan.proofs.PlanSteps.{number-fit, number-leads, number-low, number-room, seen-whole, laid, few-nodes, olds-known, olds-in, plan-unreached, reach-passes, plan-shape, plan-paths, indexed-refused, collect-asks, store-room, store-tables, store-placed, store-rises, planned}
-
--- with so many texts
-abbrev pub withTexts : Layout → ℕ → Layout
-withTexts l texts =
-    record { at = l .at; texts = texts; paths = l .paths; lengths = l .lengths; order = l .order; new = l .new; offsets = l .offsets }
+use Rattle.write_plan.proofs.PlanSteps.{withTexts, number-fit, number-leads, number-low, number-room, seen-whole, laid, few-nodes, olds-known, olds-in, plan-unreached, reach-passes, plan-shape, plan-paths, indexed-refused, collect-asks, store-room, store-tables, store-placed, store-rises, planned}
 
 -- ---- rules 20 and 21
 
 module _ (version : ℕ) (ns cs ms ds is ps ss : List ℕ) (p : tablesRule (draftOf version ns cs ms ds is ps ss) ≡ 0) (l : Layout)
-    (el : l ≡ layoutOf (draftOf version ns cs ms ds is ps ss)) (w₀ : List ℕ) (long₀ : length w₀ ≡ writeWords (draftOf version ns cs ms ds is ps ss)) where
+    (el : l ≡ layoutOf (draftOf version ns cs ms ds is ps ss)) (w₀ : List ℕ) (long₀ : length w₀ ≡ writeWords (draftOf version ns cs ms ds is ps ss))
+    (c : EntryCounts) (ec : c ≡ draftCounts (draftOf version ns cs ms ds is ps ss)) where
   abbrev s : Sections
   s = draftOf version ns cs ms ds is ps ss
 
@@ -70,16 +68,16 @@ module _ (version : ℕ) (ns cs ms ds is ps ss : List ℕ) (p : tablesRule (draf
       pub misshapen : (w : List ℕ) (k : ℕ) → k ≡ shapeRule s → (k ≡ 0 → ⊥) → PlanOf s w (Refused k)
       misshapen w k e d = plan-shape s reach w k e d
 
-      pub shaped : (k : ℕ) → k ≡ shapeRule s → k ≡ 0 → Shaped s w₁ l
+      pub shaped : (k : ℕ) → k ≡ shapeRule s → k ≡ 0 → Shaped s w₁ l c
       shaped k e none =
-          record { tables = p; reach = reach; shape = sym e ∙ none; layout = el; long = long₁ ∙ long₀; numbers = marks all }
+          record { tables = p; reach = reach; shape = sym e ∙ none; layout = el; counts = ec; long = long₁ ∙ long₀; numbers = marks all }
 
-      pub texts-ask : (k : ℕ) → k ≡ shapeRule s → k ≡ 0 → ShapedTables version ns ms ds is ps ss w₁ l
+      pub texts-ask : (k : ℕ) → k ≡ shapeRule s → k ≡ 0 → ShapedTables version ns ms ds is ps ss w₁ l c
       texts-ask k e none = record { children = cs; known = shaped k e none }
 
 -- ---- rule 22, and the texts
 
-module _ (version : ℕ) (ns cs ms ds is ps ss w₁ : List ℕ) (l : Layout) (known : Shaped (draftOf version ns cs ms ds is ps ss) w₁ l) where
+module _ (version : ℕ) (ns cs ms ds is ps ss w₁ : List ℕ) (l : Layout) (c : EntryCounts) (known : Shaped (draftOf version ns cs ms ds is ps ss) w₁ l c) where
   abbrev t : Sections
   t = draftOf version ns cs ms ds is ps ss
 
@@ -159,8 +157,9 @@ module _ (version : ℕ) (ns cs ms ds is ps ss w₁ : List ℕ) (l : Layout) (kn
               ),
             )
 
-        pub prepared : (w₄ : List ℕ) (m : Plan) → StoredPlan (keyIn version ns ss (withTexts l texts) w₃) texts found w₄ m → SameTexts ss (l .at) texts w₃ w₄ → PlanOf t w₄ m
+        pub prepared : (w₄ : List ℕ) (m : Plan) → StoredPlan (keyIn version ns ss (withTexts l texts) w₃) (withTexts l texts) c found w₄ m → SameTexts ss (l .at) texts w₃ w₄ → PlanOf t w₄ m
         prepared w₄ m stored kept =
             planned version ns cs ms ds is ps ss p q w₁ long numbers r w₂ found long₂ sorted w₃ texts long₃ collected w₄
             (subst (λ (x : Layout). SameTexts ss (x .at) texts w₃ w₄) el kept) m
-            (subst (λ (x : Layout). StoredPlan (keyIn version ns ss (withTexts x texts) w₃) texts found w₄ m) el stored)
+            (subst (λ (k : EntryCounts). StoredPlan (keyIn version ns ss (withTexts (layoutOf t) texts) w₃) (withTexts (layoutOf t) texts) k found w₄ m) (known .counts)
+            (subst (λ (x : Layout). StoredPlan (keyIn version ns ss (withTexts x texts) w₃) (withTexts x texts) c found w₄ m) el stored))

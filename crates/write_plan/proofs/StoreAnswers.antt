@@ -8,11 +8,13 @@ use native.Mathlib.Omega.{arith}
 use lib.ListN.{length}
 use lib.Dec.{ltb}
 use borrow.Author.Tests.{ltb-true, ltb-false}
+use Rattle.image.specs.declared.EntryCounts.{EntryCounts}
+use Rattle.draft.specs.declared.layout.Layout.{Layout}
 use Rattle.write_interning.specs.declared.Stored.{Stored}
 use Rattle.write_interning.specs.declared.Stored.the-variants.{Whole, TooLong}
 use Rattle.write_interning.specs.Uses.{storedOf, textsJoined, storedAnswer, Offsets}
 use Rattle.write_plan.specs.declared.Plan.the-variants.{Ready, Refused}
-use Rattle.write_plan.specs.Planned.{StoredPlan}
+use Rattle.write_plan.specs.Planned.{layoutWith, entriesWith, StoredPlan}
 
 tag : Stored → ℕ
 tag (Whole n) = 0
@@ -32,20 +34,20 @@ unfolding tag
 long-by total true e q = let z : _≡_ {A = ℕ} 1 0 = ap {B = ℕ} tag q in absurd (omega arith)
 long-by total false e q = ltb-false total (2 ^ 32) e
 
-module _ (key : ℕ → List ℕ) (texts paths : ℕ) (a : Stored) where
+module _ (key : ℕ → List ℕ) (l : Layout) (c : EntryCounts) (paths : ℕ) (a : Stored) where
   abbrev total : ℕ
-  total = length (textsJoined (storedOf key (texts + paths)))
+  total = length (textsJoined (storedOf key (l .texts + paths)))
 
-  pub stored-whole : (m : ℕ) (w : List ℕ) → texts + paths ≤ 4294967295 → a ≡ storedAnswer total → (total < 2 ^ 32 → Offsets key (texts + paths) w) → a ≡ Whole m
-      → StoredPlan key texts paths w (Ready (record { texts = texts; paths = paths; strings = m }))
+  pub stored-whole : (m : ℕ) (w : List ℕ) → l .texts + paths ≤ 4294967295 → a ≡ storedAnswer total → (total < 2 ^ 32 → Offsets key (l .texts + paths) w)
+      → a ≡ Whole m → StoredPlan key l c paths w (Ready (layoutWith l (l .texts) paths) (entriesWith c paths m))
   unfolding storedAnswer
   stored-whole m w h e o q =
       let x = whole-by total m (ltb total (2 ^ 32)) refl (sym q ∙ e) in
-      (ap (λ (n : ℕ). record { texts = texts; paths = paths; strings = n }) (x .0), h, omega (arith, x .1), o (x .1))
+      (refl, ap (entriesWith c paths) (x .0), h, omega (arith, x .1), o (x .1))
 
-  pub stored-long : (w : List ℕ) → texts + paths ≤ 4294967295 → a ≡ storedAnswer total → a ≡ TooLong → StoredPlan key texts paths w (Refused 23)
+  pub stored-long : (w : List ℕ) → l .texts + paths ≤ 4294967295 → a ≡ storedAnswer total → a ≡ TooLong → StoredPlan key l c paths w (Refused 23)
   unfolding storedAnswer
   stored-long w h e q = (refl, inr (h, omega (arith, long-by total (ltb total (2 ^ 32)) refl (sym q ∙ e))))
 
-pub stored-many : (key : ℕ → List ℕ) (texts paths : ℕ) (w : List ℕ) → 4294967295 < texts + paths → StoredPlan key texts paths w (Refused 23)
-stored-many key texts paths w h = (refl, inl h)
+pub stored-many : (key : ℕ → List ℕ) (l : Layout) (c : EntryCounts) (paths : ℕ) (w : List ℕ) → 4294967295 < l .texts + paths → StoredPlan key l c paths w (Refused 23)
+stored-many key l c paths w h = (refl, inl h)

@@ -11,6 +11,7 @@ ghost use Rattle.write_interning.specs.Uses.{RisesFrom};
 ghost use Rattle.write_text_keys.specs.Keys.{keyIn, Placed};
 ghost use Rattle.draft.specs.Source.{draftOf};
 ghost use Rattle.draft.specs.Draft.{tablesRule, writeWords};
+ghost use Rattle.draft.specs.Needs.{draftCounts};
 ghost use Rattle.write_plan.specs.Shared.{SameTexts};
 ghost use Rattle.write_plan.specs.Planned.{layoutOf, StoredPlan, Shaped, ShapedTables, PlanOf};
 use crate::sharing::share;
@@ -18,25 +19,20 @@ use draft::layout::Layout;
 use draft::shape;
 use draft::source::Source;
 use draft::source::node_count;
+use image::EntryCounts;
 use image::refusal::DRAFT_UNREACHED;
 use image::refusal::NO_ROOM;
 use write_interning::Stored;
 use write_paths::Indexed;
 
-// How many texts of the draft are used, how many paths, and how many bytes they take once each is stored once.
-pub struct Uses {
-    pub texts: usize,
-    pub paths: usize,
-    pub strings: usize,
-}
-
-// What a plan comes to: what is stored, or the number of the first rule that the draft breaks.
+// What a plan comes to: the whole layout and the counts of the image, or the number of the first rule that the draft breaks.
 pub enum Plan {
-    Ready(Uses),
+    Ready(Layout, EntryCounts),
     Refused(u32),
 }
 
-// Stores the texts and paths in use, each once. The table may take a text from another place than it did.
+// Stores the texts and so many paths in use, each once, and completes layout and counts by them. The table may take a text from another place
+// than it did.
 fn store(
     nodes: &[u32],
     strings: &[u8],
@@ -44,26 +40,29 @@ fn store(
     layout: Layout,
     paths: usize,
     source: Source,
+    counts: EntryCounts,
 ) -> Plan
     requires { ⌜ (layout .texts + paths + (layout .texts + paths) ≤ layout .at) × Placed layout (length (now w)) ⌝ }
     requires { ⌜ (layout .texts + layout .texts ≤ layout .paths) × (layout .paths ≤ layout .lengths) ⌝ }
     requires { ⌜ RisesFrom (byKey (keyIn (source .version) (now nodes) (now strings) layout (now w))) (layout .texts) (layout .texts + paths) ⌝ }
     ensures answer { λ r. ⌜ (let key = keyIn (source .version) (now (nodes .entry)) (now (strings .entry)) layout (now (w .entry)) in
-        StoredPlan key (layout .texts) paths (now (w .exit)) r) ⌝ }
+        StoredPlan key layout counts paths (now (w .exit)) r) ⌝ }
     ensures tables { λ r. ⌜ SameTexts (now (strings .entry)) (layout .at) (layout .texts) (now (w .entry)) (now (w .exit)) ⌝ }
 {
-    let texts = layout.texts;
-    let n = texts + paths;
+    let n = layout.texts + paths;
     if 4294967295 < n {
         return Plan::Refused(NO_ROOM);
     }
     share(strings, w, layout);
     match write_interning::intern(nodes, strings, w, layout, n, source) {
-        Stored::Whole(strings) => Plan::Ready(Uses {
-            texts,
-            paths,
-            strings,
-        }),
+        Stored::Whole(strings) => {
+            let mut planned = layout;
+            planned.offsets = n;
+            let mut entries = counts;
+            entries.index = paths;
+            entries.strings = strings;
+            Plan::Ready(planned, entries)
+        }
         Stored::TooLong => Plan::Refused(NO_ROOM),
     }
 }
@@ -79,13 +78,14 @@ pub fn plan_texts(
     w: &mut [u32],
     layout: Layout,
     source: Source,
+    counts: EntryCounts,
 ) -> Plan
     requires { ⌜ ShapedTables (source .version) (now nodes) (now named) (now definitions) (now items) (now payload) (now strings) (now w)
-        layout ⌝ }
+        layout counts ⌝ }
     ensures { λ r. ⌜ ((children : List ℕ) → let s =
         draftOf (source .version) (now (nodes .entry)) children (now (named .entry)) (now (definitions .entry)) (now (items .entry)) (now (payload .entry))
         (now (strings .entry)) in
-        Shaped s (now (w .entry)) layout → PlanOf s (now (w .exit)) r) ⌝ }
+        Shaped s (now (w .entry)) layout counts → PlanOf s (now (w .exit)) r) ⌝ }
 {
     let count = node_count(nodes, source);
     match write_paths::sort_paths(nodes, strings, w, layout, count, source) {
@@ -104,7 +104,7 @@ pub fn plan_texts(
             );
             let mut collected = layout;
             collected.texts = texts;
-            store(nodes, strings, w, collected, found, source)
+            store(nodes, strings, w, collected, found, source, counts)
         }
     }
 }
@@ -121,10 +121,11 @@ pub fn prepare(
     w: &mut [u32],
     layout: Layout,
     source: Source,
+    counts: EntryCounts,
 ) -> Plan
     requires { ⌜ (let s =
         draftOf (source .version) (now nodes) (now children) (now named) (now definitions) (now items) (now payload) (now strings) in
-        (tablesRule s ≡ 0) × (length (now w) ≡ writeWords s) × (layout ≡ layoutOf s)) ⌝ }
+        (tablesRule s ≡ 0) × (length (now w) ≡ writeWords s) × (layout ≡ layoutOf s) × (counts ≡ draftCounts s)) ⌝ }
     ensures { λ r. ⌜ (let s =
         draftOf (source .version) (now (nodes .entry)) (now (children .entry)) (now (named .entry)) (now (definitions .entry)) (now (items .entry))
         (now (payload .entry)) (now (strings .entry)) in
@@ -156,5 +157,6 @@ pub fn prepare(
         w,
         layout,
         source,
+        counts,
     )
 }

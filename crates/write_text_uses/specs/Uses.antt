@@ -9,13 +9,15 @@ use Rattle.laws.specs.Lists.{flatMap, lists}
 use Rattle.words.specs.Words.{wordAt}
 use Rattle.image.specs.Sections.{Sections, nodeWords, textEntryWords, nodeCount, namedCount, definitionCount, itemCount, tagOf, f, absent, definitionWord, itemWord, sections, listHeadSize, listItemSize, listOriginSize}
 use Rattle.image.specs.Tags.{listTag}
+use Rattle.image.specs.declared.EntryCounts.{EntryCounts}
+use Rattle.image.specs.Counted.{countsWith}
 use Rattle.records.specs.Fields.{Field, text, optional, command, operator, node, optionalNode, container, optionalContainer, plain, atMost, children, named, payload, wrong}
 use Rattle.records.specs.Records.{fieldsAt, numberOfNamed, listItems, listOrigins, listItemWord, listOriginWord, records}
 use Rattle.tree.specs.Tree.{namedAt}
 use Rattle.index.specs.Definitions.{firstItem, numberOfItems}
 use Rattle.draft.specs.Source.{draftOf, nodesOnly}
 use Rattle.draft.specs.Numbering.{numbering, oldOf}
-use Rattle.draft_image.specs.Strings.{storedTexts}
+use Rattle.draft_image.specs.Strings.{byPath, storedTexts}
 use Rattle.draft_image.specs.Ready.{textUses}
 
 -- a text that may be absent
@@ -88,6 +90,10 @@ usesMost s = 2 * nodeCount s + namedCount s + definitionCount s + itemCount s + 
 -- the texts in use and the paths, each stored once, one after the other
 abbrev pub storedBytes : Sections → List ℕ
 storedBytes s = flatMap (λ t. t) (storedTexts s (numbering s))
+
+-- the counts of a draft's image: a path for each container, and these bytes
+abbrev pub imageCounts : Sections → EntryCounts
+imageCounts s = countsWith s (length (byPath s (numbering s))) (length (storedBytes s))
 
 -- ---- the same of words and bytes, as the code reads them
 

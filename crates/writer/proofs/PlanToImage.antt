@@ -12,17 +12,15 @@ use Rattle.records.proofs.PassedRules.{within}
 use Rattle.draft.proofs.Rules.{tables}
 use Rattle.draft.specs.Draft.{tablesRule, writeWords, reachRule, shapeRule, pathsRule}
 use Rattle.draft.specs.Numbering.{numbering, oldOf}
-use Rattle.draft_image.specs.Strings.{uses, byPath, pathOf, storedTexts}
+use Rattle.draft_image.specs.Strings.{byPath, pathOf, storedTexts}
 use Rattle.written.proofs.Texts.{stored, offset-inside}
-use Rattle.write_text_uses.specs.Uses.{usesMost, storedBytes}
+use Rattle.write_text_uses.specs.Uses.{usesMost, storedBytes, imageCounts}
 use Rattle.write_text_uses.proofs.Bounds.{uses-bound}
-use Rattle.write_plan.specs.declared.Uses.{Uses}
-use Rattle.write_plan.specs.Planned.{layoutOf, planRule, Prepared}
+use Rattle.write_plan.specs.Planned.{layoutOf, plannedLayout, planRule, Prepared}
 use Rattle.write_plan.proofs.Premises.{once}
 use Rattle.write_plan.proofs.UseTexts.{boxes-long, uses-long}
-use Rattle.write_image.specs.Length.{imageCounts, imageLength}
+use Rattle.write_image.specs.Length.{imageLength}
 use Rattle.write_image.specs.Given.{Told, Ready}
-use Rattle.writer.specs.Planned.{plannedLayout, countsBy}
 
 module _ (s : Sections) (p : tablesRule s ≡ 0) (e : planRule s ≡ 0) where
   -- the rules that the plan tests, one by one
@@ -34,24 +32,15 @@ module _ (s : Sections) (p : tablesRule s ≡ 0) (e : planRule s ≡ 0) where
       let c = both _ _ (b .1) in
       (a .0, b .0, c .0)
 
-  module _ (w : List ℕ) (long : length w ≡ writeWords s) (u : Uses) (known : Prepared s w u) where
+  module _ (w : List ℕ) (long : length w ≡ writeWords s) (known : Prepared s w) where
     abbrev order : List ℕ
     order = numbering s
 
-    abbrev n : ℕ
-    n = u .texts + u .paths
+    most : plannedLayout s .offsets ≤ usesMost s
+    most = omega (arith, uses-bound s order p (once s p (rules .0)), boxes-long s p (rules .0) (rules .2))
 
-    all : n ≡ length (uses s order)
-    all = sym (uses-long s ∙ omega (arith, known .texts, known .paths))
-
-    pub most : u .texts + u .paths ≤ usesMost s
-    most = omega (arith, known .texts, known .paths, uses-bound s order p (once s p (rules .0)), boxes-long s p (rules .0) (rules .2))
-
-    few : u .paths ≤ nodeCount s
-    few = omega (arith, known .paths, boxes-long s p (rules .0) (rules .2), within s (nodeCount s) (tables s p .fields) .containers)
-
-    pub counts-known : countsBy s u ≡ imageCounts s
-    counts-known = rw (known .paths, known .strings) refl
+    few : length (byPath s order) ≤ nodeCount s
+    few = omega (arith, boxes-long s p (rules .0) (rules .2), within s (nodeCount s) (tables s p .fields) .containers)
 
     -- a stored path is no longer than all stored texts
     path-short : (k : ℕ) → k < length (byPath s order) → length (pathOf s order (getD (byPath s order) k 0)) ≤ length (storedBytes s)
@@ -62,7 +51,7 @@ module _ (s : Sections) (p : tablesRule s ≡ 0) (e : planRule s ≡ 0) where
         )
 
     module _ (fitsOutput : imageLength s ≤ NONE) where
-      told : Told s w (plannedLayout (layoutOf s) u)
+      told : Told s w (plannedLayout s)
       told =
           record {
             tables = p;
@@ -71,11 +60,11 @@ module _ (s : Sections) (p : tablesRule s ≡ 0) (e : planRule s ≡ 0) where
             long = fitsOutput;
             olds = known .olds;
             news = known .news;
-            texts = known .texts;
+            texts = refl;
             offsets = known .offsets;
             order-end = omega (arith, long);
             new-start = omega (arith, long);
-            offsets-end = omega (arith, long, all, most);
+            offsets-end = omega (arith, long, uses-long s, most);
           }
 
       word-low : (k : ℕ) → k < length (byPath s order)
@@ -84,31 +73,31 @@ module _ (s : Sections) (p : tablesRule s ≡ 0) (e : planRule s ≡ 0) where
       word-low k h =
           let x = oldOf order (getD (byPath s order) k 0) in
           let place : layoutOf s .at + (layoutOf s .lengths + x + x) ≡ layoutOf s .at + layoutOf s .lengths + x + x = omega arith in
-          let both-words = known .lengths k (omega (arith, known .paths)) in
+          let both-words = known .lengths k h in
           let low : getD (drop (layoutOf s .at) w) (layoutOf s .lengths + x + x) 0 ≡ length (pathOf s order (getD (byPath s order) k 0)) =
           omega (arith, both-words, path-short k h) in
           ap (λ (i : ℕ). getD w i 0) (sym place) ∙ sym (getD-drop (layoutOf s .at) w (layoutOf s .lengths + x + x) 0) ∙ low
 
-      pub ready : Ready s w (plannedLayout (layoutOf s) u) (countsBy s u)
+      pub ready : Ready s w (plannedLayout s) (imageCounts s)
       ready =
           record {
             told = told;
-            counts = counts-known;
+            counts = refl;
             indexed =
                 record {
-                  all = known .paths;
+                  all = refl;
                   boxes =
                       λ k h.
                       let place : layoutOf s .at + (layoutOf s .paths + k) ≡ layoutOf s .at + layoutOf s .paths + k = omega arith in
                       ap (λ (i : ℕ). getD w i 0) (sym place) ∙ sym (getD-drop (layoutOf s .at) w (layoutOf s .paths + k) 0)
-                      ∙ known .boxes k (omega (arith, known .paths));
+                      ∙ known .boxes k h;
                   lengths = word-low;
                   boxes-end = omega (arith, long, few);
                   lengths-start = omega (arith, long);
                 };
             keyed =
                 record {
-                  all = all;
+                  all = sym (uses-long s);
                   keys = known .keys;
                   behind = omega (arith, most);
                   placed = (omega (arith, long), omega (arith, long));

@@ -13,7 +13,6 @@ use Rattle.draft.specs.declared.layout.Layout.{Layout}
 use Rattle.draft.specs.Needs.{draftCounts, wordsFor}
 use Rattle.draft.specs.Source.{draftOf}
 use Rattle.draft.specs.Draft.{tablesRule, writeWords}
-use Rattle.write_plan.specs.declared.Uses.{Uses}
 use Rattle.write_plan.specs.declared.Plan.{Plan}
 use Rattle.write_plan.specs.declared.Plan.the-variants.{Ready, Refused}
 use Rattle.write_plan.specs.Planned.{layoutBy, layoutOf, PlanOf}
@@ -36,8 +35,8 @@ module _ (ink : ℕ) (version : ℕ) (ns cs ms ds is ps ss : List ℕ) (i : inkR
     layout : l ≡ layoutOf s
     layout = laid ∙ (λ t. layoutBy (e t) (long t))
 
-    pub prepare-asks : (tablesRule s ≡ 0) × (length w₀ ≡ writeWords s) × (l ≡ layoutOf s)
-    prepare-asks = (p, long, layout)
+    pub prepare-asks : (tablesRule s ≡ 0) × (length w₀ ≡ writeWords s) × (l ≡ layoutOf s) × (c ≡ draftCounts s)
+    prepare-asks = (p, long, layout, e)
 
     module _ (w : List ℕ) (kept : length w ≡ length w₀) (a : Plan) (told : PlanOf s w a) where
       pub write-refused : (k : ℕ) → a ≡ Refused k → WrittenWith ink s out₀ out₀ (encoded.Refused k)
@@ -45,12 +44,12 @@ module _ (ink : ℕ) (version : ℕ) (ns cs ms ds is ps ss : List ℕ) (i : inkR
           let x = subst (λ (y : Plan). PlanOf s w y) q told in
           plan-refused ink s p i out₀ k (x .0) (x .1)
 
-      module _ (u : Uses) (q : a ≡ Ready u) where
-        made : PlanOf s w (Ready u)
+      module _ (m : Layout) (k : EntryCounts) (q : a ≡ Ready m k) where
+        made : PlanOf s w (Ready m k)
         made = subst (λ (y : Plan). PlanOf s w y) q told
 
-        pub image-asks : Drawn s w l u
-        image-asks = record { tables = p; planned = made .0; long = kept ∙ long; layout = layout; prepared = made .1 }
+        pub image-asks : Drawn s w m k
+        image-asks = record { tables = p; planned = made .0; long = kept ∙ long; layout = made .1; counts = made .2; prepared = made .3 }
 
         pub write-made : (out : List ℕ) (r : Encoded) → EncodeAnswered ink s (unless (fitsOutput ink s (length out₀)) 23) out₀ out r → WrittenWith ink s out₀ out r
         write-made out r x = plan-made ink s p i out₀ (made .0) out r x

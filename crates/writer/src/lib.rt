@@ -26,7 +26,6 @@ use image::refusal::TOO_FEW_WORDS;
 use write_image::size;
 use write_image::size::Size;
 use write_plan::Plan;
-use write_plan::Uses;
 
 // The length of the image that was written, or FORMAT.md's number. `Short` is 23 with the length that the image needs; `Refused(23)` an
 // image of more than 4294967295 bytes.
@@ -65,38 +64,24 @@ fn put_image(
     strings: &[u8],
     work: &[u32],
     layout: Layout,
-    uses: Uses,
+    counts: EntryCounts,
     out: &mut [u8],
     source: Source,
 ) -> Encoded
     requires { ⌜ (let s =
         draftOf (source .version) (now nodes) (now children) (now named) (now definitions) (now items) (now payload) (now strings) in
-        Drawn s (now work) layout uses) ⌝ }
+        Drawn s (now work) layout counts) ⌝ }
     ensures { λ r. ⌜ (let s =
         draftOf (source .version) (now (nodes .entry)) (now (children .entry)) (now (named .entry)) (now (definitions .entry)) (now (items .entry))
         (now (payload .entry)) (now (strings .entry)) in
         EncodeAnswered ink s (unless (fitsOutput ink s (length (now (out .entry)))) noRoom) (now (out .entry)) (now (out .exit)) r) ⌝ }
 {
-    let mut counts = draft::entry_counts(
-        nodes,
-        children,
-        named,
-        definitions,
-        items,
-        payload,
-        source,
-    );
-    counts.index = uses.paths;
-    counts.strings = uses.strings;
     match size::image_length(counts, source) {
         Size::TooLong => Encoded::Refused(NO_ROOM),
         Size::Bytes(length) => {
             if out.len() < length as usize {
                 return Encoded::Short(length);
             }
-            let mut planned = layout;
-            planned.texts = uses.texts;
-            planned.offsets = uses.texts + uses.paths;
             write_image::fill(
                 ink,
                 nodes,
@@ -107,7 +92,7 @@ fn put_image(
                 payload,
                 strings,
                 work,
-                planned,
+                layout,
                 counts,
                 out,
                 source,
@@ -155,9 +140,10 @@ fn write(
         work,
         layout,
         source,
+        counts,
     ) {
         Plan::Refused(number) => Encoded::Refused(number),
-        Plan::Ready(uses) => put_image(
+        Plan::Ready(planned, entries) => put_image(
             ink,
             nodes,
             children,
@@ -167,8 +153,8 @@ fn write(
             payload,
             strings,
             work,
-            layout,
-            uses,
+            planned,
+            entries,
             out,
             source,
         ),

@@ -14,7 +14,7 @@ sort-paths-requires c κs =
     let asked = c .before .before .before .before .before .before .before .before .before .pre in
     let node-count = c .before .node-count in
     rw (node-count .ensures)
-    (paths-asks (to .source .version) (to .nodes .now) (asked .children) (to .named .now) (to .definitions .now) (to .items .now) (to .payload .now) (to .strings .now) (to .w .now) (to .layout) (asked .known))
+    (paths-asks (to .source .version) (to .nodes .now) (asked .children) (to .named .now) (to .definitions .now) (to .items .now) (to .payload .now) (to .strings .now) (to .w .now) (to .layout) (to .counts) (asked .known))
 
 enum-known-number : tie.Need-enum-known-number
 enum-known-number c = search needs
@@ -27,7 +27,7 @@ collect-requires c κs =
     let to = c .before .before .before .before .before .before .before .before .before .before .before .before .before .before .before .before .args in
     let asked = c .before .before .before .before .before .before .before .before .before .before .before .before .before .before .before .before .pre in
     let sort-paths = c .before .before .before .before .before .before .sort-paths in
-    uses-asks (to .source .version) (to .nodes .now) (asked .children) (to .named .now) (to .definitions .now) (to .items .now) (to .payload .now) (to .strings .now) (to .w .now) (to .layout) (asked .known)
+    uses-asks (to .source .version) (to .nodes .now) (asked .children) (to .named .now) (to .definitions .now) (to .items .now) (to .payload .now) (to .strings .now) (to .w .now) (to .layout) (to .counts) (asked .known)
     (sort-paths .last .1 .1 .0) _ (search needs) (rw (c .before .before .before .before .before .before .before .before .node-count .ensures) at (sort-paths .ensures)) _ (c .before .before .found .given .1)
 
 store-requires : tie.Need-store-requires
@@ -37,7 +37,7 @@ store-requires c κs =
     let sort-paths = c .before .before .before .before .before .before .before .before .before .before .sort-paths in
     let found = c .before .before .before .before .before .before .found in
     let collect = c .before .before .before .collect in
-    store-asks (to .source .version) (to .nodes .now) (asked .children) (to .named .now) (to .definitions .now) (to .items .now) (to .payload .now) (to .strings .now) (to .w .now) (to .layout) (asked .known)
+    store-asks (to .source .version) (to .nodes .now) (asked .children) (to .named .now) (to .definitions .now) (to .items .now) (to .payload .now) (to .strings .now) (to .w .now) (to .layout) (to .counts) (asked .known)
     (sort-paths .last .1 .1 .0) _ (search needs) (rw (c .before .before .before .before .before .before .before .before .before .before .before .before .node-count .ensures) at (sort-paths .ensures)) _ (found .given .1) (collect .last .1 .1 .1 .1 .1 .0) _ (search needs)
     (collect .ensures)
 
@@ -48,7 +48,7 @@ returns : tie.Need-returns
 returns c = λ children known.
     let to = c .before .before .before .before .before .before .before .before .before .before .before .before .before .before .before .args in
     let sort-paths = c .before .before .before .before .before .sort-paths in
-    clashing (to .source .version) (to .nodes .now) children (to .named .now) (to .definitions .now) (to .items .now) (to .payload .now) (to .strings .now) (to .w .now) (to .layout) known
+    clashing (to .source .version) (to .nodes .now) children (to .named .now) (to .definitions .now) (to .items .now) (to .payload .now) (to .strings .now) (to .w .now) (to .layout) (to .counts) known
     (sort-paths .last .1 .1 .0) _ (search needs) (rw (c .before .before .before .before .before .before .before .node-count .ensures) at (sort-paths .ensures)) [] _ (c .before .number .given .1)
 
 same-length-2 : tie.Need-same-length-2
@@ -61,7 +61,7 @@ returns-2 c = λ children known.
     let found = c .before .before .before .before .before .before .before .before .before .found in
     let collect = c .before .before .before .before .before .before .collect in
     let store = c .before .before .store in
-    prepared (to .source .version) (to .nodes .now) children (to .named .now) (to .definitions .now) (to .items .now) (to .payload .now) (to .strings .now) (to .w .now) (to .layout) known
+    prepared (to .source .version) (to .nodes .now) children (to .named .now) (to .definitions .now) (to .items .now) (to .payload .now) (to .strings .now) (to .w .now) (to .layout) (to .counts) known
     (sort-paths .last .1 .1 .0) _ (search needs) (rw (c .before .before .before .before .before .before .before .before .before .before .before .before .before .before .before .node-count .ensures) at (sort-paths .ensures)) _ (found .given .1) (collect .last .1 .1 .1 .1 .1 .0) _ (search needs)
     (collect .ensures) (store .last .1 .1 .0) (store .result) (store .ensures .0) (store .ensures .1)
 

@@ -27,8 +27,8 @@ prepare-requires c κs =
 enum-known-number : tie.Need-enum-known-number
 enum-known-number c = search needs
 
-enum-known-uses : tie.Need-enum-known-uses
-enum-known-uses c = search needs
+enum-known-planned : tie.Need-enum-known-planned
+enum-known-planned c = search needs
 
 put-image-requires : tie.Need-put-image-requires
 put-image-requires c κs =
@@ -38,10 +38,10 @@ put-image-requires c κs =
     let entry-counts = c .before .before .before .before .before .before .before .before .before .before .entry-counts in
     let layout-of = c .before .before .before .before .before .before .before .before .before .layout-of in
     let prepare = c .before .before .before .before .before .before .before .prepare in
-    let uses = c .before .before .before .uses in
+    let planned = c .before .before .before .planned in
     image-asks (to .ink) (to .source .version) (to .nodes .now) (to .children .now) (to .named .now) (to .definitions .now) (to .items .now) (to .payload .now)
     (to .strings .now) (asked .0 .0) (asked .0 .1) (to .out .now) (to .work .now) (asked .1) _ (entry-counts .ensures) _ (layout-of .ensures)
-    (prepare .last .1 .1 .1 .1 .1 .1 .1 .0) kept _ (prepare .ensures) _ (uses .given .1)
+    (prepare .last .1 .1 .1 .1 .1 .1 .1 .0) kept _ (prepare .ensures) _ _ (planned .given .1)
 
 same-length : tie.Need-same-length
 same-length c = search needs
@@ -71,11 +71,11 @@ returns-2 c =
     let entry-counts = c .before .before .before .before .before .before .before .before .before .before .before .before .before .entry-counts in
     let layout-of = c .before .before .before .before .before .before .before .before .before .before .before .before .layout-of in
     let prepare = c .before .before .before .before .before .before .before .before .before .before .prepare in
-    let uses = c .before .before .before .before .before .before .uses in
+    let planned = c .before .before .before .before .before .before .planned in
     let put-image = c .before .before .put-image in
     write-made (to .ink) (to .source .version) (to .nodes .now) (to .children .now) (to .named .now) (to .definitions .now) (to .items .now) (to .payload .now)
     (to .strings .now) (asked .0 .0) (asked .0 .1) (to .out .now) (to .work .now) (asked .1) _ (entry-counts .ensures) _ (layout-of .ensures)
-    (prepare .last .1 .1 .1 .1 .1 .1 .1 .0) kept _ (prepare .ensures) _ (uses .given .1)
+    (prepare .last .1 .1 .1 .1 .1 .1 .1 .0) kept _ (prepare .ensures) _ _ (planned .given .1)
     (put-image .last .1 .1 .1 .1 .1 .1 .1 .1 .1 .1 .1 .0) (put-image .result) (put-image .ensures)
 
 pub write-spec : {M : Type 1} → statement M
@@ -86,7 +86,7 @@ write-spec =
     layout-of-requires
     prepare-requires
     enum-known-number
-    enum-known-uses
+    enum-known-planned
     put-image-requires
     same-length
     returns

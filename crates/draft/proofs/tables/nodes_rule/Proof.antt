@@ -1,48 +1,51 @@
--- `draft::tables::nodes_rule` meets its contract. The invariant: whatever the definitions and items, the nodes before `i` pass, and the
--- sums are theirs.
-use Prim.Native.Nat.{ℕ, _≤_, _-_}
-use mathlib.Core.Path.{refl, sym, _∙_}
-use mathlib.Core.List.{List, []}
+-- `draft::tables::nodes_rule` meets its contract. The invariant: the nodes before `i` pass, and the sums are theirs.
+use Prim.Native.Nat.{_≤_, _-_}
+use mathlib.Core.Path.{sym, _∙_}
 use native.Mathlib.Omega.{arith}
 use borrow.Author.Needs.{needs}
 use Rattle.records.proofs.ByKind.{shown-used}
 use Rattle.records.proofs.PassedRules.{shown-sums}
-use Rattle.draft.specs.Source.{draftOf}
-use Rattle.draft.proofs.NodeTable.{Passing, passing-start, passing-next, counts-are, given, few, fields-pass, node-is, refused-here, all-summed, all-used, left-over}
+use Rattle.draft.specs.Source.{NodesFrom, draftOf}
+use Rattle.draft.proofs.NodeTable.{Passing, passing-start, passing-next, given, count-is, few, fields-pass, node-is, refused-here, all-summed, all-used, left-over}
 use Rattle.draft.proofs.NodeCount.{below-count, upto-count, past-count}
 use Rattle.draft.proofs.tables.nodes_rule.Statement.{statement}
 use Rattle.draft.proofs.tables.nodes_rule.Tie as tie
 
 abbrev Inv-loop : tie.InvT-loop
-Inv-loop nodes children named payload strings source counts sums₀ i₀ sums i =
-    (i ≤ counts .nodes) × ((ds is : List ℕ) → Passing (draftOf (source .version) nodes children named ds is payload strings) i sums)
+Inv-loop nodes children named definitions items payload strings source counts sums₀ i₀ sums i =
+    (i ≤ counts .nodes) × Passing (draftOf (source .version) nodes children named definitions items payload strings) i sums
 
 abbrev μ-loop : tie.MeasureT-loop
-μ-loop nodes children named payload strings source counts sums₀ i₀ sums i = counts .nodes - i
+μ-loop nodes children named definitions items payload strings source counts sums₀ i₀ sums i = counts .nodes - i
 
-node-count-requires : tie.Need-node-count-requires Inv-loop μ-loop
-node-count-requires c κs = search needs
+entry-counts-requires : tie.Need-entry-counts-requires Inv-loop μ-loop
+entry-counts-requires c κs = search needs
 
 loop-holds : tie.Need-loop-holds Inv-loop μ-loop
-loop-holds c = (search needs, λ ds is. passing-start _)
+loop-holds c = (search needs, passing-start _)
+
+-- what the loop knows: the draft's counts
+told : (c : tie.After-entry-counts Inv-loop μ-loop)
+    → let to = c .before .before .before .before .before .before .before .before .args in
+    NodesFrom (draftOf (to .source .version) (to .nodes .now) (to .children .now) (to .named .now) (to .definitions .now) (to .items .now) (to .payload .now) (to .strings .now)) (to .source .version) (to .nodes .now) (to .payload .now) (to .strings .now) (c .entry-counts .result)
+told c = given _ _ _ _ _ _ _ _ _ (c .entry-counts .ensures)
 
 node-at-requires : tie.Need-node-at-requires Inv-loop μ-loop
-node-at-requires c κs = below-count _ _ (c .before .before .before .node-count .ensures) _ (c .if1 .taken)
+node-at-requires c κs = below-count _ _ (count-is _ _ _ _ _ (told (c .before .before .before))) _ (c .if1 .taken)
 
 node-rule-requires : tie.Need-node-rule-requires Inv-loop μ-loop
 node-rule-requires c κs = search needs
 
 returns : tie.Need-returns Inv-loop μ-loop
 returns c =
-    λ ds is.
     let loop = c .before .before .before .before .before in
-    let count = loop .before .node-count .ensures in
-    let p = loop .loop .inv .1 ds is in
-    refused-here _ _ _ p _ (below-count _ _ count _ (c .before .before .before .if1 .taken))
-    (c .before .node-rule .ensures _ (given _ _ _ _ ds is _ _ _ count) (p .summed) (node-is _ _ _ _ ds is _ _ _ _ (c .before .before .node-at .ensures))) (c .if2 .taken)
+    let known = told (loop .before) in
+    let p = loop .loop .inv .1 in
+    refused-here _ _ _ p _ (below-count _ _ (count-is _ _ _ _ _ known) _ (c .before .before .before .if1 .taken))
+    (c .before .node-rule .ensures _ known (p .summed) (node-is _ _ _ _ _ _ _ _ _ _ (c .before .before .node-at .ensures))) (c .if2 .taken)
 
 add-requires : tie.Need-add-requires Inv-loop μ-loop
-add-requires c κs = let h = few _ _ _ (c .before .before .before .before .before .loop .inv .1 [] []) in omega arith
+add-requires c κs = let h = few _ _ _ (c .before .before .before .before .before .loop .inv .1) in omega arith
 
 add-i : tie.Need-add-i Inv-loop μ-loop
 add-i c = search needs
@@ -51,44 +54,33 @@ loop-less : tie.Need-loop-less Inv-loop μ-loop
 loop-less c = search needs
 
 loop-again : tie.Need-loop-again Inv-loop μ-loop
-loop-again c = (
-  search needs,
-  λ ds is.
-      let loop = c .before .before .before .before .before .before in
-      let p = loop .loop .inv .1 ds is in
-      let node = node-is _ _ _ _ ds is _ _ _ _ (c .before .before .before .node-at .ensures) in
-      let passes = sym (c .before .before .node-rule .ensures _ (given _ _ _ _ ds is _ _ _ (loop .before .node-count .ensures)) (p .summed) node) ∙ c .before .if2 .left in
-      passing-next _ _ _ p _ passes (c .add .ensures ∙ shown-sums _ _ _ _ (p .summed) node (fields-pass _ _ passes)),
-)
+loop-again c =
+    let loop = c .before .before .before .before .before .before in
+    let p = loop .loop .inv .1 in
+    let node = node-is _ _ _ _ _ _ _ _ _ _ (c .before .before .before .node-at .ensures) in
+    let passes = sym (c .before .before .node-rule .ensures _ (told (loop .before)) (p .summed) node) ∙ c .before .if2 .left in
+    (search needs, passing-next _ _ _ p _ passes (c .add .ensures ∙ shown-sums _ _ _ _ (p .summed) node (fields-pass _ _ passes)))
 
 used-up-requires : tie.Need-used-up-requires Inv-loop μ-loop
 used-up-requires c κs = search needs
 
 returns-2 : tie.Need-returns-2 Inv-loop μ-loop
 returns-2 c =
-    λ ds is.
     let loop = c .before .before .before .before in
-    let count = loop .before .node-count .ensures in
-    let p = loop .loop .inv .1 ds is in
-    let h = upto-count _ _ count _ (loop .loop .inv .0) in
-    let k = past-count _ _ count _ (c .before .before .if1 .left) in
-    let to = loop .before .before .before .before .before .before .before .args in
-    let told = counts-are (to .source .version) (to .nodes .now) (to .children .now) (to .named .now) ds is (to .payload .now) (to .strings .now) _ count in
-    let used = c .before .used-up .ensures ∙ shown-used _ _ _ _ (all-summed _ _ _ p h k) told refl in
-    all-used _ _ _ p h k _ used (c .if3 .taken)
+    let known = told (loop .before) in
+    let p = loop .loop .inv .1 in
+    let h = upto-count _ _ (count-is _ _ _ _ _ known) _ (loop .loop .inv .0) in
+    let k = past-count _ _ (count-is _ _ _ _ _ known) _ (c .before .before .if1 .left) in
+    all-used _ _ _ p h k _ (c .before .used-up .ensures ∙ shown-used _ _ _ _ _ (all-summed _ _ _ p h k) (known .counts)) (c .if3 .taken)
 
 returns-3 : tie.Need-returns-3 Inv-loop μ-loop
 returns-3 c =
-    λ ds is.
     let loop = c .before .before .before .before in
-    let count = loop .before .node-count .ensures in
-    let p = loop .loop .inv .1 ds is in
-    let h = upto-count _ _ count _ (loop .loop .inv .0) in
-    let k = past-count _ _ count _ (c .before .before .if1 .left) in
-    let to = loop .before .before .before .before .before .before .before .args in
-    let told = counts-are (to .source .version) (to .nodes .now) (to .children .now) (to .named .now) ds is (to .payload .now) (to .strings .now) _ count in
-    let used = c .before .used-up .ensures ∙ shown-used _ _ _ _ (all-summed _ _ _ p h k) told refl in
-    left-over _ _ _ p h k _ used (c .if3 .left)
+    let known = told (loop .before) in
+    let p = loop .loop .inv .1 in
+    let h = upto-count _ _ (count-is _ _ _ _ _ known) _ (loop .loop .inv .0) in
+    let k = past-count _ _ (count-is _ _ _ _ _ known) _ (c .before .before .if1 .left) in
+    left-over _ _ _ p h k _ (c .before .used-up .ensures ∙ shown-used _ _ _ _ _ (all-summed _ _ _ p h k) (known .counts)) (c .if3 .left)
 
 pub nodes-rule-spec : {M : Type 1} → statement M
 nodes-rule-spec =
@@ -96,7 +88,7 @@ nodes-rule-spec =
     (tie.spec
     Inv-loop
     μ-loop
-    node-count-requires
+    entry-counts-requires
     loop-holds
     node-at-requires
     node-rule-requires

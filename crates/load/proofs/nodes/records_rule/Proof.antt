@@ -55,8 +55,7 @@ enum-known-sums : tie.Need-enum-known-sums
 enum-known-sums c = search needs
 
 left-over-requires : tie.Need-left-over-requires
-left-over-requires c κs =
-    (c .before .before .before .before .counts-of .ensures, passed-sums _ _ _ (c .before .before .before .nodes-rule .ensures) (c .before .sums .given .1))
+left-over-requires c κs = search needs
 
 returns-3 : tie.Need-returns-3
 returns-3 c =
@@ -68,7 +67,9 @@ returns-4 : tie.Need-returns-4
 returns-4 c =
     nodes-passed _ _ _ _
     (sym (rooted (c .before .before .before .before .before .before .before)) ∙ not-false _ (c .before .before .before .before .before .before .if2 .left))
-    (c .before .before .before .before .nodes-rule .ensures) (c .before .before .sums .given .1) (c .left-over .ensures)
+    (c .before .before .before .before .nodes-rule .ensures) (c .before .before .sums .given .1)
+    (c .left-over .ensures _ (c .before .before .before .before .before .counts-of .ensures)
+    (passed-sums _ _ _ (c .before .before .before .before .nodes-rule .ensures) (c .before .before .sums .given .1)))
 
 pub records-rule-spec : {M : Type 1} → statement M
 records-rule-spec =
