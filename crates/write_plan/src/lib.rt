@@ -39,8 +39,8 @@ fn store(
     w: &mut [u32],
     layout: Layout,
     paths: usize,
-    source: Source,
     counts: EntryCounts,
+    source: Source,
 ) -> Plan
     requires { ⌜ (layout .texts + paths + (layout .texts + paths) ≤ layout .at) × Placed layout (length (now w)) ⌝ }
     requires { ⌜ (layout .texts + layout .texts ≤ layout .paths) × (layout .paths ≤ layout .lengths) ⌝ }
@@ -77,8 +77,8 @@ pub fn plan_texts(
     strings: &[u8],
     w: &mut [u32],
     layout: Layout,
-    source: Source,
     counts: EntryCounts,
+    source: Source,
 ) -> Plan
     requires { ⌜ ShapedTables (source .version) (now nodes) (now named) (now definitions) (now items) (now payload) (now strings) (now w)
         layout counts ⌝ }
@@ -104,7 +104,7 @@ pub fn plan_texts(
             );
             let mut collected = layout;
             collected.texts = texts;
-            store(nodes, strings, w, collected, found, source, counts)
+            store(nodes, strings, w, collected, found, counts, source)
         }
     }
 }
@@ -120,8 +120,8 @@ pub fn prepare(
     strings: &[u8],
     w: &mut [u32],
     layout: Layout,
-    source: Source,
     counts: EntryCounts,
+    source: Source,
 ) -> Plan
     requires { ⌜ (let s =
         draftOf (source .version) (now nodes) (now children) (now named) (now definitions) (now items) (now payload) (now strings) in
@@ -156,7 +156,7 @@ pub fn prepare(
         strings,
         w,
         layout,
-        source,
         counts,
+        source,
     )
 }

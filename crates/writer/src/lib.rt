@@ -139,8 +139,8 @@ fn write(
         strings,
         work,
         layout,
-        source,
         counts,
+        source,
     ) {
         Plan::Refused(number) => Encoded::Refused(number),
         Plan::Ready(planned, entries) => put_image(
