@@ -11,7 +11,7 @@ use Rattle.laws.specs.Lists.{flatMap, placeIn}
 use Rattle.laws.proofs.First.{both, passed}
 use Rattle.laws.proofs.Flags.{both-true}
 use Rattle.words.specs.Words.{NONE}
-use Rattle.words.proofs.Words.{below-none, below-cons}
+use Rattle.laws.proofs.Lists.{below-none, below-cons}
 use Rattle.texts.specs.Text.{holds}
 use Rattle.texts.specs.Decimal.{decimal}
 use Rattle.texts.specs.Dots.{dot}

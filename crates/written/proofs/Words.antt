@@ -10,7 +10,7 @@ use Rattle.laws.specs.Lists.{placeIn}
 use Rattle.laws.proofs.Members.{All, all-append}
 use Rattle.laws.proofs.Places.{place-le}
 use Rattle.words.specs.Words.{NONE, isNone}
-use Rattle.words.proofs.Words.{below-at}
+use Rattle.laws.proofs.Lists.{below-at}
 use Rattle.image.specs.Sections.{Sections, nodeWords, textEntryWords, definitionWords, nodeCount, definitionCount, itemCount, nodeWord, parentOf, f, namedWord, definitionWord, itemWord, absent}
 use Rattle.image.specs.Header.{version}
 use Rattle.image.specs.Encoding.{startOf}
