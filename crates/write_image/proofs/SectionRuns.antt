@@ -23,7 +23,8 @@ use Rattle.image.specs.Counted.{lengthBy, CountsOf}
 use Rattle.write_image.specs.declared.Places.{Places}
 use Rattle.write_image.specs.Length.{placesBy, imageCounts}
 use Rattle.write_image.specs.Given.{treeOut, TreeReady, definitionsAt, listsOut, ListsReady, textsOut, TextsReady, Ready, Sectioned}
-use Rattle.write_image.proofs.SectionLengths.{head-length, sized}
+use Rattle.draft_image.proofs.Lengths.{head-length}
+use Rattle.write_image.proofs.SectionLengths.{sized}
 use Rattle.write_image.proofs.Premises.{tree-length, lists-length, texts-length}
 use Rattle.write_image.proofs.SectionLayers.{over-next, three-parts, counts-right}
 

@@ -25,7 +25,8 @@ use Rattle.draft.specs.Numbering.{oldOf}
 use Rattle.draft_image.specs.Strings.{textIf, fieldTexts, offsetOf}
 use Rattle.draft_image.specs.Written.{fieldWords}
 use Rattle.written.proofs.Lists.{or-else}
-use Rattle.written.proofs.Texts.{in-left, in-one, offset-inside, good-text, good-length}
+use Rattle.draft_image.proofs.HeldTexts.{in-left, in-one}
+use Rattle.written.proofs.Texts.{offset-inside, good-text, good-length}
 use Rattle.draft_image.proofs.Blocks.{w}
 use Rattle.written.proofs.Fields.{Given, counted, old-in, old-new, new-in, old-zero, new-zero, zero-old, place-word, container-reads}
 use Rattle.written.proofs.Payload.{strings-small}
