@@ -1,14 +1,10 @@
 -- Words put one by one into a lent slice.
-use Prim.Native.Nat.{ℕ, zero, suc, _+_, _≤_, _<_}
-use mathlib.Core.Path.{_≡_, refl, sym, ap, _∙_}
+use Prim.Native.Nat.{ℕ, _+_, _≤_, _<_}
+use mathlib.Core.Path.{_≡_, sym, ap, _∙_}
 use mathlib.Core.List.{List, [], _∷_, _++_}
 use mathlib.Core.Bool.{Bool, cond}
 use mathlib.Core.Option.{Option, none, some}
-use native.Mathlib.Omega.{arith}
-use native.Mathlib.Nat.{not-suc-le-zero}
-use lib.ListN.{length, set, take, drop, getD}
-use native.Mathlib.Numerals.{add-one}
-use lib.Seq.{take-length}
+use lib.ListN.{length, drop}
 use borrow.Author.Tests.{le-leb, lt-leb}
 use lib.Signed.{mag}
 use mir.Val.{toZ, ofZ}
@@ -18,19 +14,6 @@ use Rattle.views.specs.declared.Span.{Span}
 use Rattle.lookups.specs.declared.ListItem.{ListItem}
 use Rattle.answers.specs.AnswerWords.{Answered, numberOf, answerAfter, unsigned, countWords, foundItemWords, partWords, listCountWords}
 use Rattle.answers.proofs.Bits.{field-bits}
-
--- a turn of the loop
-put-more : (ws xs : List ℕ) (i : ℕ) → i < length ws → i < length xs → set (take i ws ++ drop i xs) i (getD ws i 0) ≡ take (suc i) ws ++ drop (suc i) xs
-put-more [] xs i h k = absurd (not-suc-le-zero h)
-put-more (w ∷ ws) [] i h k = absurd (not-suc-le-zero k)
-put-more (w ∷ ws) (x ∷ xs) zero h k = refl
-put-more (w ∷ ws) (x ∷ xs) (suc i) h k = ap (λ (l : List ℕ). w ∷ l) (put-more ws xs i (omega arith) (omega arith))
-
-pub put-step : (ws xs now : List ℕ) (i : ℕ) → now ≡ take i ws ++ drop i xs → i < length ws → i < length xs → set now i (getD ws i 0) ≡ take (i + 1) ws ++ drop (i + 1) xs
-put-step ws xs now i e h k = rw (e, add-one i) (put-more ws xs i h k)
-
-pub put-end : (ws xs now : List ℕ) (i : ℕ) → i ≡ length ws → now ≡ take i ws ++ drop i xs → now ≡ ws ++ drop (length ws) xs
-put-end ws xs now i e h = h ∙ ap (λ (k : ℕ). take k ws ++ drop k xs) e ∙ ap (λ (l : List ℕ). l ++ drop (length ws) xs) (take-length ws)
 
 -- ---- an answer in a lent slice
 

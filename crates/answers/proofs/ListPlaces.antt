@@ -3,7 +3,7 @@ use Prim.Native.Nat.{ℕ, _+_, _/_, _≤_, _<_}
 use mathlib.Core.Path.{_≡_, refl, sym, ap, _∙_}
 use mathlib.Core.List.{List}
 use mathlib.Core.Bool.{Bool, true, false, cond, not, true≢false}
-use mathlib.Core.Option.{Option, none, some}
+use mathlib.Core.Option.{Option, none, some, Option·some-injective, Option·none-ne-some}
 use native.Mathlib.Omega.{arith}
 use native.Mathlib.Decide.{decLt}
 use lib.ListN.{length}
@@ -154,17 +154,14 @@ module _ (payload : ℕ) (r : NodeRecord) where
 abbrev pub Lies : ℕ → Option Span → Type 0
 Lies n o = (t : Span) → o ≡ some t → t .offset + t .len ≤ n
 
-some-inner : (x y : Span) → some x ≡ some y → x ≡ y
-some-inner x y e = cc
-
 none-lies : (n : ℕ) → Lies n none
-none-lies n t e = let z : _≡_ {A = ℕ} 0 1 = cc in absurd (omega arith)
+none-lies n t e = absurd (Option·none-ne-some t e)
 
 place-lies : (payload : ℕ) (r : NodeRecord) → Lies payload (listPlaceIn payload r)
 place-lies payload r = by (eqb (r .tag) 12) (leb (r .f0 + r .f1) payload) refl
   where
     by : (a b : Bool) → leb (r .f0 + r .f1) payload ≡ b → Lies payload (cond a (cond b (some (span (r .f0) (r .f1))) none) none)
-    by true true h t e = let z = some-inner (span (r .f0) (r .f1)) t e in rw (← z) (leb-true (r .f0 + r .f1) payload h)
+    by true true h t e = let z = Option·some-injective (span (r .f0) (r .f1)) t e in rw (← z) (leb-true (r .f0 + r .f1) payload h)
     by true false h t e = none-lies payload t e
     by false b h t e = none-lies payload t e
 

@@ -6,8 +6,9 @@ use Prim.Native.Nat.{ℕ, zero, suc, _+_, _-_, _^_, _≤_, _<_, min}
 use native.Mathlib.Numerals.{add-one}
 use native.Mathlib.Omega.{arith}
 use lib.ListN.{length, getD, take, drop, set, drop-of-length-le, length-take, length-drop, length-append}
-use lib.Seq.{drop-cons, take-all, take-nil, drop-nil, take-at, drop-at, getD-take, getD-drop, take-set-le, drop-set-lt, length-take-le, ext-getD}
+use lib.Seq.{drop-cons, take-nil, drop-nil, take-at, drop-at, getD-take, getD-drop, take-set-le, drop-set-lt, length-take-le, ext-getD}
 use native.Mathlib.Nat.{zero-min, suc-min-suc}
+use Rattle.laws.proofs.Lists.{to-end}
 use Rattle.checksum.specs.Crc.{ones, byteStep, crcFrom, crc32, skipFrom, skipTo, checksumOf, crcs}
 
 -- ---- a loop over the bytes
@@ -38,10 +39,6 @@ drop-min : (n : ℕ) (s : List ℕ) → drop (min n (length s)) s ≡ drop n s
 drop-min zero s = ap (λ m. drop m s) (zero-min (length s))
 drop-min (suc n) [] = drop-nil (min (suc n) 0)
 drop-min (suc n) (x ∷ s) = ap (λ m. drop m (x ∷ s)) (suc-min-suc n (length s)) ∙ drop-min n s
-
--- a part that runs to the end
-pub to-end : (k : ℕ) (s : List ℕ) → take (length s - k) (drop k s) ≡ drop k s
-to-end k s = take-all (length s - k) (drop k s) (simp length-drop (omega arith))
 
 -- ---- the checksum, made of two parts
 

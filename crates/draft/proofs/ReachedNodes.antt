@@ -11,10 +11,11 @@ use lib.Dec.{eqb}
 use borrow.Author.Tests.{eq-eqb}
 use Rattle.laws.specs.Lists.{has, placeIn}
 use Rattle.laws.proofs.First.{passed}
+use Rattle.laws.proofs.Flags.{all-at}
 use Rattle.laws.proofs.Places.{place-get}
 use Rattle.image.specs.Sections.{Sections, nodeCount, parentOf, isContainer}
 use Rattle.tree.specs.Tree.{childAt, namedAt, entriesRule, entryNodes, turns, readWalk, allSeen}
-use Rattle.laws.proofs.Members.{or-left, or-right, All, all-of, all-map, all-append, has-reverse}
+use Rattle.laws.proofs.Members.{or-left, or-right, All, all-map, all-append, has-reverse}
 use Rattle.tree.proofs.Entries.{entry-each, children-pass, named-pass, child-container, named-container}
 use Rattle.tree.proofs.Numbers.{EachOnce, read-once, read-inside}
 use Rattle.tree.proofs.Walks.{Turns, walk-turns}
@@ -24,7 +25,7 @@ use Rattle.draft.proofs.Rules.{Tables, entries-counts, entries-below}
 
 pub reached : (s : Sections) → reachRule s ≡ 0 → (i : ℕ) → i < nodeCount s → has i (readWalk s .seen) ≡ true
 unfolding reachRule allSeen
-reached s p i h = all-of _ _ (passed _ 19 p) i h
+reached s p i h = all-at _ _ (passed _ 19 p) i h
 
 -- each number below n once, and 0 first
 abbrev pub Numbered : ℕ → List ℕ → Type 0

@@ -12,6 +12,7 @@ use Rattle.laws.specs.Counted.{allOf}
 use Rattle.laws.proofs.First.{pass, fail}
 use Rattle.laws.proofs.Flags.{both-true}
 use Rattle.laws.proofs.Chains.{stop, go}
+use Rattle.laws.proofs.Members.{all-ext}
 use Rattle.texts.specs.Text.{rising}
 use Rattle.image.specs.declared.NodeRecord.{NodeRecord}
 use Rattle.image.specs.declared.TextEntry.{TextEntry}
@@ -27,7 +28,7 @@ use Rattle.index.specs.Definitions.{definitionText, itemText, itemTextOf, first
 use Rattle.draft.specs.Source.{draftOf, wordOf}
 use Rattle.draft.specs.Draft.{relationRule, orderRule}
 use Rattle.draft.specs.Shown.{rightContainer, namedRight, TreePassed, ListsPassed}
-use Rattle.draft.proofs.Runs.{as-passes, passes-unless, passes-both, passes-all, unless-both, unless-all, rising-upto, all-like}
+use Rattle.draft.proofs.Runs.{as-passes, passes-unless, passes-both, passes-all, unless-both, unless-all, rising-upto}
 
 -- ---- a node by its words
 
@@ -258,7 +259,7 @@ module _ (ds is ts : List ℕ) (g : ListsPassed (draftOf 0 [] [] [] ds is [] ts)
             unless-all (numberOfItems lists d) 20 (rising (itemTextOf lists d))
             ∙ ap (λ (n : ℕ). unless (allOf n (rising (itemTextOf lists d))) 21) (sym count-is)
             ∙ ap (λ (x : Bool). unless x 21)
-            (sym (k ∙ all-like (entry .count) (rising (entryTextFrom is ts (entry .first))) (rising (itemTextOf lists d))
+            (sym (k ∙ all-ext (entry .count) (rising (entryTextFrom is ts (entry .first))) (rising (itemTextOf lists d))
             (λ j l. rising-upto (entryTextFrom is ts (entry .first)) (itemTextOf lists d) j (λ m n. item-text m (omega arith)))))
 
         pub items-rise : b ≡ true → 0 ≡ orderRule lists d

@@ -63,8 +63,3 @@ unless-all (suc n) k t = rw (unless-all n k t) (unless-both (allOf n t) (t n) k)
 pub rising-upto : (t u : ℕ → List ℕ) (j : ℕ) → ((k : ℕ) → k ≤ j → t k ≡ u k) → rising t j ≡ rising u j
 rising-upto t u zero e = refl
 rising-upto t u (suc j) e = rw (e j (omega arith), e (suc j) (omega arith))
-
-pub all-like : (n : ℕ) (t u : ℕ → Bool) → ((j : ℕ) → j < n → t j ≡ u j) → allOf n t ≡ allOf n u
-unfolding allOf
-all-like zero t u e = refl
-all-like (suc n) t u e = rw (all-like n t u (λ j h. e j (omega arith)), e n (omega arith))

@@ -7,6 +7,7 @@ use native.Mathlib.Nat.{div-eq-of-eq-mul-left}
 use lib.ListN.{length, getD, replicate, length-append}
 use lib.Seq.{sets, length-sets}
 use Rattle.laws.specs.Counted.{sumOf}
+use Rattle.laws.proofs.Members.{length-join, get-join}
 use Rattle.words.specs.Words.{NONE}
 use Rattle.image.specs.Sections.{Sections, commonWords, nodeWords, textEntryWords, definitionWords, nodeCount, childCount, namedCount, definitionCount, itemCount, indexCount, nodeWord, childWord, namedWord, definitionWord, itemWord, indexWord}
 use Rattle.image.proofs.Widths.{words-some}
@@ -16,7 +17,7 @@ use Rattle.tree.specs.Tree.{childAt, namedAt, namedText}
 use Rattle.draft.specs.Numbering.{oldOf, newOf}
 use Rattle.draft_image.specs.Strings.{byPath, textWords}
 use Rattle.draft_image.specs.Written.{fieldStart, fieldWords, putFields, moreWords, nodeOut, childrenOut, namedOut, definitionOut, itemOut, indexOut, writtenWith}
-use Rattle.draft_image.proofs.Joins.{sum-scale, join-read, join-len, even-read, even-len, ones-len, ones-read}
+use Rattle.draft_image.proofs.Joins.{sum-scale, join-read, join-len, even-read, even-len}
 
 module _ (s : Sections) (order : List ℕ) (kept : List (List ℕ)) where
   -- the sections as they are written, shut
@@ -33,7 +34,7 @@ module _ (s : Sections) (order : List ℕ) (kept : List (List ℕ)) where
 
   more-length : (i : ℕ) → length (moreWords s order kept i) ≡ nodeWords (s .version) - commonWords
   unfolding moreWords
-  more-length i = ones-len (nodeWords (s .version) - commonWords) (λ k. nodeWord s i (commonWords + k))
+  more-length i = length-join (nodeWords (s .version) - commonWords) (λ k. nodeWord s i (commonWords + k))
 
   pub node-length : (i : ℕ) → length (nodeOut s order kept i) ≡ nodeWords (s .version)
   unfolding nodeOut
@@ -63,7 +64,7 @@ module _ (s : Sections) (order : List ℕ) (kept : List (List ℕ)) where
 
   pub children-length : (i : ℕ) → length (childrenOut s order kept i) ≡ numberOfChildren s i
   unfolding childrenOut
-  children-length i = ones-len (numberOfChildren s i) (λ j. newOf order (childAt s i j))
+  children-length i = length-join (numberOfChildren s i) (λ j. newOf order (childAt s i j))
 
   pub child-count : childCount w ≡ sumOf (nodeCount s) (λ j. numberOfChildren s (oldOf order j))
   unfolding w writtenWith
@@ -76,7 +77,7 @@ module _ (s : Sections) (order : List ℕ) (kept : List (List ℕ)) where
   unfolding childWord childrenOut w writtenWith
   child-word j k h q =
       join-read (nodeCount s) (λ m. childrenOut s order kept (oldOf order m)) (λ m. numberOfChildren s (oldOf order m)) (λ m i. children-length (oldOf order m)) j k h q
-      ∙ ones-read (numberOfChildren s (oldOf order j)) (λ m. newOf order (childAt s (oldOf order j) m)) k q
+      ∙ get-join 0 (numberOfChildren s (oldOf order j)) (λ m. newOf order (childAt s (oldOf order j) m)) k q
 
   -- ---- named children
 

@@ -3,7 +3,7 @@ use Prim.Native.Nat.{ℕ, zero, suc, _+_, _*_, _≤_, _<_}
 use mathlib.Core.Path.{_≡_, refl, sym, ap, _∙_, subst}
 use mathlib.Core.List.{List, [], _∷_, _++_}
 use native.Mathlib.Omega.{arith}
-use native.Mathlib.Nat.{not-suc-le-zero, mul-one, zero-mul, suc-mul, add-mul}
+use native.Mathlib.Nat.{not-suc-le-zero, zero-mul, suc-mul, add-mul}
 use native.Mathlib.Decide.{ℕ-discrete}
 use lib.ListN.{length, getD, take, drop, length-append, length-drop, List·getD-append}
 use lib.Seq.{getD-append-add, take-append-le, drop-append-le, drop-at, take-length}
@@ -102,12 +102,3 @@ module _ (n c : ℕ) (g : ℕ → List ℕ) (e : (m : ℕ) → m < n → length 
 
   pub even-len : length (joinOf n g) ≡ n * c
   even-len = join-len n g (λ m. c) e ∙ sum-const n c
-
--- one element a part
-module _ (n : ℕ) (g : ℕ → ℕ) where
-  pub ones-len : length (joinOf n (λ j. g j ∷ [])) ≡ n
-  ones-len = even-len n 1 (λ j. g j ∷ []) (λ m h. refl) ∙ mul-one n
-
-  pub ones-read : (k : ℕ) → k < n → getD (joinOf n (λ j. g j ∷ [])) k 0 ≡ g k
-  ones-read k h =
-      subst (λ (m : ℕ). getD (joinOf n (λ j. g j ∷ [])) m 0 ≡ g k) (omega arith) (even-read n 1 (λ j. g j ∷ []) (λ m q. refl) k 0 h (omega arith))

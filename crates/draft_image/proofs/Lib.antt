@@ -1,4 +1,6 @@
 pub mod Joins
+pub mod HeldTexts
 pub mod Blocks
+pub mod Lengths
 pub mod Offsets
 pub mod IndexOrder

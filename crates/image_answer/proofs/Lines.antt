@@ -1,5 +1,5 @@
 -- Texts and numbers written one behind the other make the line.
-use Prim.Native.Nat.{ℕ, _+_, _-_, _≤_, _<_, _^_}
+use Prim.Native.Nat.{ℕ, _+_, _-_, _≤_, _<_}
 use mathlib.Core.Path.{_≡_, refl, sym, ap, _∙_}
 use mathlib.Core.List.{List, [], _∷_, _++_, append-assoc, append-nil}
 use native.Mathlib.Omega.{arith}
@@ -7,10 +7,9 @@ use native.Mathlib.Numerals.{add-one}
 use lib.ListN.{length, getD, take, drop, set, length-append, length-drop, drop-of-length-le}
 use lib.Seq.{paste, paste-zero, paste-suc, length-paste, take-all, drop-drop}
 use borrow.Rule.Slice.PartMut.{putMid}
+use Rattle.laws.proofs.Lists.{to-end}
 use Rattle.words.specs.Output.{over}
 use Rattle.words.proofs.FilledOutput.{Filled, start, more, front-is}
-use Rattle.texts.specs.Decimal.{decimal}
-use Rattle.texts.proofs.Decimal.{word-length}
 use Rattle.image_answer.specs.declared.Answer.{Answer}
 use Rattle.image_answer.specs.Answer.{putBytes, lineOf}
 
@@ -35,17 +34,12 @@ module _ (out₀ text : List ℕ) (at : ℕ) where
   pub paste-end : (out : List ℕ) (i : ℕ) → i ≡ length text → Pasted out₀ text out at i → out ≡ putBytes out₀ at text
   paste-end out i e p = p .is ∙ rw (e, take-all (length text) text (omega arith)) refl
 
--- ---- a number, at the front of the part that is lent from `at` on
+-- ---- the part that is lent from `at` on, as it comes back
 
-pub number-room : (n : ℕ) → n < 2 ^ 32 → length (decimal n) ≤ 10
-number-room n b = word-length n b
-
--- such a part, as it comes back
 pub part-put : (out ys bs : List ℕ) (at : ℕ) → ys ≡ bs ++ drop (length bs) (take (length out - at) (drop at out)) → putMid at (length out - at) out ys ≡ putBytes out at bs
 part-put out ys bs at e =
-    let all : take (length out - at) (drop at out) ≡ drop at out = take-all (length out - at) (drop at out) (omega (arith, length-drop at out)) in
     let none : drop (length out - at) (drop at out) ≡ [] = drop-of-length-le (drop at out) {i = length out - at} (omega (arith, length-drop at out)) in
-    let part : ys ≡ bs ++ drop (at + length bs) out = e ∙ rw (all, drop-drop (length bs) at out) refl in
+    let part : ys ≡ bs ++ drop (at + length bs) out = e ∙ rw (to-end at out, drop-drop (length bs) at out) refl in
     ap (λ (z : List ℕ). take at out ++ (ys ++ z)) none
     ∙ ap (λ (z : List ℕ). take at out ++ z) (append-nil ys ∙ part)
     ∙ sym (append-assoc (take at out) bs (drop (at + length bs) out))

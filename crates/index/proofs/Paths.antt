@@ -65,7 +65,7 @@ abbrev pub pieceBy : Sections → PathNode → List ℕ
 pieceBy s node = pieceOf (s .strings) (node .place) (node .offset) (node .len)
 
 -- a node that is not the root has been reached and read: the text has been compared from `end` on, and n steps are left above it
-pub record Reached (s : Sections) (t : List ℕ) (n at end : ℕ) (node : PathNode) : Type 0 where
+pub record PathReached (s : Sections) (t : List ℕ) (n at end : ℕ) (node : PathNode) : Type 0 where
   pub away : at ≡ 0 → ⊥
   pub read : node ≡ pathNodeOf s at
   pub inside : end ≤ length t
@@ -76,7 +76,7 @@ pub record Matched (s : Sections) (t : List ℕ) (end start : ℕ) (node : PathN
   pub long : end - start ≡ length (pieceBy s node)
   pub like : same (take (end - start) (drop start t)) (pieceBy s node) ≡ true
 
-module _ {s : Sections} {t : List ℕ} {n at end : ℕ} {node : PathNode} (here : Reached s t n at end node) where
+module _ {s : Sections} {t : List ℕ} {n at end : ℕ} {node : PathNode} (here : PathReached s t n at end node) where
   piece-read : piece s at ≡ pieceBy s node
   unfolding piece
   piece-read = rw (here .read)

@@ -2,7 +2,7 @@
 use Prim.Native.Nat.{ℕ, suc, _+_, _-_, _*_, _/_, _≤_, _<_}
 use mathlib.Core.Path.{_≡_, refl, sym, ap, _∙_}
 use mathlib.Core.List.{List, []}
-use mathlib.Core.Bool.{Bool, true, false, _&&_, _||_}
+use mathlib.Core.Bool.{Bool, true, false, _&&_, _||_, or-true}
 use native.Mathlib.Omega.{arith}
 use native.Mathlib.Nat.{zero-add}
 use native.Mathlib.Decide.{decLe}
@@ -28,14 +28,10 @@ use Rattle.index.specs.Index.{indexText, indexEntryRule, indexRule}
 use Rattle.index.specs.Definitions.{definitionText, itemText, numberOfItems, itemsBefore, itemRuleFrom, definitionRule, itemsUsedUp, definitionsRule}
 use Rattle.index.specs.Parts.{indexParts, definitionParts}
 use Rattle.image.proofs.RisingTexts.{rising-like}
-use Rattle.laws.proofs.RuleRuns.{run-stops}
+use Rattle.laws.proofs.Chains.{first-broken}
 use Rattle.index.proofs.Definitions.{definition-passed}
 
 -- ---- names
-
-or-true : (a : Bool) → (a || true) ≡ true
-or-true true = refl
-or-true false = refl
 
 pub name-empty : (at len : ℕ) → len ≡ 0 → noName at len ≡ true
 name-empty at len h = rw (eq-eqb len 0 h) (or-true (isNone at && isNone len))
@@ -138,7 +134,7 @@ module _ (definitions items strings : List ℕ) (d : ℕ) where
       e
       ∙ sym (definitions-run definitions items strings
       ∙ first (firstOf n (definitionRule parts)) (unless (eqb (itemsBefore parts n) (length items / textEntrySize)) 17) (r - 1)
-      (sym (run-stops n d r (definitionRule parts) h p q z) ∙ e))
+      (sym (first-broken n d r (definitionRule parts) h p q z) ∙ e))
 
   pub definitions-end : (used : ℕ) → d ≤ length definitions / definitionSize → length definitions / definitionSize ≤ d → used ≡ itemsBefore parts d → firstOf d (definitionRule parts) ≡ 0
       → definitionsRule parts ≡ unless (eqb used (length items / textEntrySize)) 17

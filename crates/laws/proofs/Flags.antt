@@ -6,7 +6,10 @@ use mathlib.Core.Bool.{Bool, true, false, _&&_, true≢false}
 use native.Mathlib.Omega.{arith}
 use native.Mathlib.Nat.{not-suc-le-zero, eq-or-lt-of-le}
 use native.Mathlib.Numerals.{add-one}
-use native.Mathlib.Decide.{ℕ-discrete}
+use native.Mathlib.Decide.{ℕ-discrete, decLt}
+use borrow.Author.Tests.{eq-eqb, ne-eqb}
+use lib.Dec.{eqb}
+use lib.Bits.{bitOr, or-add-and, and-le-l, and-le-r}
 use Rattle.laws.specs.Counted.{allOf}
 
 -- ---- two flags
@@ -56,6 +59,18 @@ all-of zero t h = refl
 all-of (suc n) t h = rw (all-of n t (λ k l. h k (omega arith)), h n (omega arith))
 
 -- ---- numbers
+
+-- two numbers have no bit set where neither has one
+pub or-zero : (a b : ℕ) → eqb (bitOr a b) 0 ≡ (eqb a 0 && eqb b 0)
+or-zero a b =
+    elim (decLt 0 a) [
+      | yes h ↦ rw (ne-eqb a 0 (λ e. omega arith), ne-eqb (bitOr a b) 0 (λ e. omega (arith, or-add-and a b, and-le-r a b)))
+      | no h ↦
+          elim (decLt 0 b) [
+            | yes k ↦ rw (ne-eqb b 0 (λ e. omega arith), ne-eqb (bitOr a b) 0 (λ e. omega (arith, or-add-and a b, and-le-l a b))) (sym (and-false (eqb a 0)))
+            | no k ↦ rw (eq-eqb a 0 (omega arith), eq-eqb b 0 (omega arith), eq-eqb (bitOr a b) 0 (omega (arith, or-add-and a b)))
+          ]
+    ]
 
 -- a number that is at least k, and not k
 pub up : (k n : ℕ) → k ≤ n → (n ≡ k → ⊥) → suc k ≤ n

@@ -3,6 +3,7 @@ pub mod First
 pub mod Flags
 pub mod Chains
 pub mod RuleRuns
+pub mod Lists
 pub mod Members
 pub mod Sorted
 pub mod Places

@@ -6,12 +6,12 @@ use mathlib.Core.Bool.{Bool, true, false, cond, _&&_, _||_, false≢true}
 use native.Mathlib.Omega.{arith}
 use native.Mathlib.Nat.{not-suc-le-zero, le-trans}
 use native.Mathlib.Decide.{ℕ-discrete}
-use lib.ListN.{length, length-append}
+use lib.ListN.{length, getD, length-append, List·getD-append}
+use lib.Seq.{getD-append-seam}
 use lib.Dec.{eqb}
 use borrow.Author.Tests.{eqb-true, eqb-false, eq-eqb}
 use Rattle.laws.specs.Counted.{sumOf, allOf, joinOf, those}
 use Rattle.laws.specs.Lists.{has}
-use Rattle.laws.proofs.Flags as Flags
 
 -- ---- tests
 
@@ -60,10 +60,10 @@ all-join P zero g h = tt
 all-join P (suc n) g h =
     all-append P (joinOf n (λ j. g j ∷ [])) (g n ∷ []) (all-join P n g (λ j k. h j (omega arith))) (h n (omega arith), tt)
 
-pub all-at : (P : ℕ → Type 0) (i : ℕ) (xs : List ℕ) → has i xs ≡ true → All P xs → P i
+pub all-has : (P : ℕ → Type 0) (i : ℕ) (xs : List ℕ) → has i xs ≡ true → All P xs → P i
 unfolding has
-all-at P i [] h a = absurd (false≢true h)
-all-at P i (x ∷ xs) h a = go (λ q. all-at P i xs q (a .1)) (eqb i x) refl h
+all-has P i [] h a = absurd (false≢true h)
+all-has P i (x ∷ xs) h a = go (λ q. all-has P i xs q (a .1)) (eqb i x) refl h
   where
     go : (has i xs ≡ true → P i) → (b : Bool) → eqb i x ≡ b → (b || has i xs) ≡ true → P i
     go r true e q = subst P (sym (eqb-true i x e)) (a .0)
@@ -114,10 +114,22 @@ has-join (suc n) m g h =
       | no d ↦ or-left (has (g m) (joinOf n (λ j. g j ∷ []))) (eqb (g m) (g n) || false) (has-join n m g (omega arith))
     ]
 
-pub length-join : (n : ℕ) (g : ℕ → ℕ) → length (joinOf n (λ j. g j ∷ [])) ≡ n
+pub length-join : {X : Type 0} (n : ℕ) (g : ℕ → X) → length (joinOf n (λ j. g j ∷ [])) ≡ n
 unfolding joinOf
 length-join zero g = refl
 length-join (suc n) g = length-append (joinOf n (λ j. g j ∷ [])) (g n ∷ []) ∙ omega (arith, length-join n g)
+
+pub get-join : {X : Type 0} (z : X) (n : ℕ) (g : ℕ → X) (i : ℕ) → i < n → getD (joinOf n (λ j. g j ∷ [])) i z ≡ g i
+unfolding joinOf
+get-join z zero g i h = absurd (not-suc-le-zero h)
+get-join {X} z (suc n) g i h =
+    elim (ℕ-discrete i n) [
+      | yes e ↦ ap (λ (k : ℕ). getD (front ++ (g n ∷ [])) k z) (e ∙ sym (length-join n g)) ∙ getD-append-seam front (g n) [] z ∙ ap g (sym e)
+      | no d ↦ List·getD-append front (g n ∷ []) z i (omega (arith, length-join n g)) ∙ get-join z n g i (omega arith)
+    ]
+  where
+    front : List X
+    front = joinOf n (λ j. g j ∷ [])
 
 -- one more number at the end comes first when read backwards
 pub reverse-join : (n : ℕ) (g : ℕ → ℕ) → reverse (joinOf (suc n) (λ j. g j ∷ [])) ≡ g n ∷ reverse (joinOf n (λ j. g j ∷ []))
@@ -241,13 +253,6 @@ cover (suc n) xs h =
     le-trans (suc-le-suc (cover n (without n xs) (λ i k. without-other n i xs (h i (omega arith)) (λ e. omega arith)))) (without-less n xs (h n (omega arith)))
 
 -- ---- tests and sums over the numbers below a count
-
--- what a passed test says, and what makes one pass
-pub all-of : (n : ℕ) (g : ℕ → Bool) → allOf n g ≡ true → (i : ℕ) → i < n → g i ≡ true
-all-of = Flags.all-at
-
-pub all-so : (n : ℕ) (g : ℕ → Bool) → ((i : ℕ) → i < n → g i ≡ true) → allOf n g ≡ true
-all-so = Flags.all-of
 
 pub all-ext : (n : ℕ) (a b : ℕ → Bool) → ((i : ℕ) → i < n → a i ≡ b i) → allOf n a ≡ allOf n b
 unfolding allOf

@@ -1,11 +1,10 @@
--- A run of rules: the loop that stops at the first refusal, and rules that refuse alike.
-use Prim.Native.Nat.{ℕ, zero, suc, _+_, _≤_, _<_}
+-- A run of rules: the loop that passes them one by one (`first-broken` and `first-done` of Chains end it), and rules that refuse alike.
+use Prim.Native.Nat.{ℕ, zero, suc, _+_}
 use mathlib.Core.Path.{_≡_, refl, sym, _∙_}
 use native.Mathlib.Numerals.{add-one}
 use Rattle.laws.specs.Refusal.{firstOf}
 use Rattle.laws.specs.Counted.{sumOf}
 use Rattle.laws.proofs.First.{first-next}
-use Rattle.laws.proofs.Chains.{first-broken, first-done}
 
 pub run-starts : (f : ℕ → ℕ) → firstOf 0 f ≡ 0
 unfolding firstOf
@@ -15,17 +14,9 @@ pub sum-starts : (f : ℕ → ℕ) → sumOf 0 f ≡ 0
 unfolding sumOf
 sum-starts f = refl
 
--- the loop has passed n of m rules and stops at a refusal
-pub run-stops : (m n r : ℕ) (f : ℕ → ℕ) → n < m → firstOf n f ≡ 0 → r ≡ f n → (r ≡ 0 → ⊥) → r ≡ firstOf m f
-run-stops = first-broken
-
--- it passes one more
+-- the loop has passed n rules, and passes one more
 pub run-goes : (n r : ℕ) (f : ℕ → ℕ) → firstOf n f ≡ 0 → r ≡ f n → r ≡ 0 → firstOf (n + 1) f ≡ 0
 run-goes n r f p q z = rw add-one (first-next n f p (sym q ∙ z))
-
--- it has passed all
-pub run-ends : (m n : ℕ) (f : ℕ → ℕ) → n ≤ m → m ≤ n → firstOf n f ≡ 0 → 0 ≡ firstOf m f
-run-ends = first-done
 
 pub first-like : (n : ℕ) (f g : ℕ → ℕ) → ((i : ℕ) → f i ≡ g i) → firstOf n f ≡ firstOf n g
 unfolding firstOf

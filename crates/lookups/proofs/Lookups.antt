@@ -3,15 +3,15 @@ use Prim.Native.Nat.{ℕ, suc, _+_, _*_, _-_, _/_, _≤_, _<_}
 use mathlib.Core.Path.{_≡_, refl, sym, ap, _∙_}
 use mathlib.Core.List.{List, []}
 use mathlib.Core.Bool.{Bool, true, false, cond, _||_, not}
-use mathlib.Core.Option.{Option, none, some}
+use mathlib.Core.Option.{Option, none, some, Option·none-ne-some}
 use native.Mathlib.Omega.{arith}
 use native.Mathlib.Numerals.{add-one}
-use lib.ListN.{length, getD, take, drop, length-drop}
-use lib.Seq.{take-all}
+use lib.ListN.{length, getD, take, drop}
 use lib.IntN.{ℤ}
 use lib.Dec.{leb}
 use borrow.Author.Tests.{lt-ltb, le-ltb, le-leb, lt-leb, leb-true, not-true, not-false}
 use Rattle.laws.specs.Counted.{lastOf}
+use Rattle.laws.proofs.Lists.{to-end}
 use Rattle.words.specs.Words.{wordsOf}
 use Rattle.texts.specs.declared.Order.{Order}
 use Rattle.texts.specs.declared.Order.the-variants.{Less, Equal, Greater}
@@ -142,9 +142,9 @@ module _ (bs : List ℕ) (v : ImageView) (i : ℕ) (name : List ℕ) (r : Record
 
 -- ---- a list item
 
-chosen : (b : Bool) (x : Option ℕ) (j : ℕ) → cond b x none ≡ some j → (b ≡ true) × (x ≡ some j)
+pub chosen : (b : Bool) (x : Option ℕ) (j : ℕ) → cond b x none ≡ some j → (b ≡ true) × (x ≡ some j)
 chosen true x j e = (refl, e)
-chosen false x j e = absurd (let z : _≡_ {A = ℕ} 0 1 = cc in omega arith)
+chosen false x j e = absurd (Option·none-ne-some j e)
 
 pub item-made : (ds is : List ℕ) (d j w v : ℕ) → w ≡ getD (wordsOf ds) (d * definitionWords + 2) 0 → v ≡ getD (wordsOf is) ((w + j) * textEntryWords + 2) 0
     → (z : ℤ) → z ≡ signed v → answer.Item (record { definition = d; item = w + j; value = z }) ≡ listItemAt (definitionParts ds is []) d (some j)
@@ -263,9 +263,6 @@ module _ (ds is ss : List ℕ) where
         empty = unfold lastOf in refl
 
 -- ---- by the name's form
-
-to-end : (k : ℕ) (s : List ℕ) → take (length s - k) (drop k s) ≡ drop k s
-to-end k s = take-all (length s - k) (drop k s) (simp length-drop (omega arith))
 
 module _ (bs : List ℕ) (v : ImageView) (name : List ℕ) (b : Bool) (hb : b ≡ blank name) where
   pub list-blank : b ≡ true → answer.NotFound ≡ listItem (sectionsBy bs v) name

@@ -29,6 +29,7 @@ use Rattle.lookups.specs.declared.ListItemAnswer.the-variants as answer
 use Rattle.views.specs.View.{signed}
 use Rattle.lookups.specs.Lookup.{entryText, searched, foundAt, namedBy, findNamed, itemPlace, definitionName, answeringPlace, answers, listItemAt, listItemIn, lastItem}
 use Rattle.lookups.specs.Plain.{HasName, NodeNamed, NamedLookup, Holds, LastHolds, ItemLookup}
+use Rattle.lookups.proofs.Lookups.{chosen}
 use Rattle.lookups.proofs.HalvingSearch.{Rising, found-there, there-found}
 
 -- ---- a search among entries whose texts are u 0, u 1, .. and rise
@@ -191,10 +192,6 @@ module _ (s : Sections) (passed : Definitions s) (given : Bool) (origin name : L
     might : (b : Bool) → (b ≡ true → definitionText s d ≡ origin) → (not b || same origin (definitionName s d)) ≡ true
     might true g = rw name-plain (equal-same origin (definitionText s d) (sym (g refl)))
     might false g = refl
-
-    chosen : (b : Bool) (x : Option ℕ) (j : ℕ) → cond b x none ≡ some j → (b ≡ true) × (x ≡ some j)
-    chosen true x j e = (refl, e)
-    chosen false x j e = absurd (let z : _≡_ {A = ℕ} 0 1 = cc in omega arith)
 
     pub place-holds : (j : ℕ) → answeringPlace s given origin name d ≡ some j → Holds s given origin name d j
     unfolding answeringPlace

@@ -43,7 +43,7 @@ module _ (s : Sections) (i j : ℕ) where
 -- ---- rows 8 to 17
 
 -- the rules one by one
-pub record Passed (s : Sections) : Type 0 where
+pub record RowsPassed (s : Sections) : Type 0 where
   pub root-right : rootRight s ≡ true
   pub nodes : firstOf (nodeCount s) (nodeRule s) ≡ 0
   pub used : usedUp s ≡ true
@@ -53,7 +53,7 @@ pub record Passed (s : Sections) : Type 0 where
   pub definitions : definitionsRule s ≡ 0
 
 module _ (s : Sections) where
-  rows : sectionsRule s ≡ 0 → Passed s
+  rows : sectionsRule s ≡ 0 → RowsPassed s
   unfolding sectionsRule recordsRule leftoverRule
   rows p =
       let d = both (recordsRule s) _ p in
@@ -72,7 +72,7 @@ module _ (s : Sections) where
         definitions = h .1;
       }
 
-  all-rows : Passed s → sectionsRule s ≡ 0
+  all-rows : RowsPassed s → sectionsRule s ≡ 0
   unfolding sectionsRule recordsRule leftoverRule
   all-rows p =
       then _ _
@@ -80,11 +80,11 @@ module _ (s : Sections) where
       (then _ _ (p .tree) (then _ _ (p .index) (p .definitions)))
 
   -- the parent's rule and the fields'
-  node-parts : Passed s → (i : ℕ) → i < nodeCount s → (parentRule s i ≡ 0) × (fieldsRule s i ≡ 0)
+  node-parts : RowsPassed s → (i : ℕ) → i < nodeCount s → (parentRule s i ≡ 0) × (fieldsRule s i ≡ 0)
   unfolding nodeRule
   node-parts p i h = both _ _ (first-all (nodeCount s) (nodeRule s) (p .nodes) i h)
 
-  sections-right : Passed s → SectionsRight s
+  sections-right : RowsPassed s → SectionsRight s
   sections-right p =
       let r = root s (p .root-right) in
       let u = used-up s (p .used) in
@@ -126,7 +126,7 @@ module _ (s : Sections) where
         items-used = defined .used-up;
       }
 
-  pub right-sections : 0 < nodeCount s → SectionsRight s → Passed s
+  pub right-sections : 0 < nodeCount s → SectionsRight s → RowsPassed s
   right-sections some r =
       record {
         root-right = unfold rootRight in rw (eq-eqb _ _ (r .root-parent), eq-eqb _ _ (r .root-place), eq-eqb _ _ (r .root-container));
@@ -207,7 +207,7 @@ module _ (bs : List ℕ) where
       }
 
   -- the rules on its sections, one by one
-  pub accepted-passed : Accepted bs → Passed (sectionsOf bs)
+  pub accepted-passed : Accepted bs → RowsPassed (sectionsOf bs)
   accepted-passed p = rows (sectionsOf bs) (both (checksumRule bs) _ (both (headerRule bs) _ p .1) .1)
 
   pub right-accepted : BreaksNone bs → Accepted bs

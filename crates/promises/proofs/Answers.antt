@@ -2,7 +2,7 @@
 use Prim.Native.Nat.{ℕ, zero, suc}
 use mathlib.Core.Path.{_≡_, refl, sym, ap, _∙_}
 use mathlib.Core.List.{List}
-use mathlib.Core.Option.{Option, none, some}
+use mathlib.Core.Option.{Option·some-injective, Option·none-ne-some}
 use native.Mathlib.Omega.{arith}
 use Rattle.image.specs.declared.ImageView.{ImageView}
 use Rattle.image.specs.Header.{viewOf, headerRule, openedBy, openedOf}
@@ -17,12 +17,9 @@ use Rattle.lookups.specs.declared.ListItemAnswer.the-variants as listed
 use Rattle.promises.specs.Answers.{Answer, given, refused, ofOpened, ofLoaded, ofFound, ofListItem}
 
 module _ {A : Type 0} where
-  value-equal : (x y : A) → some x ≡ some y → x ≡ y
-  value-equal x y e = cc
-
   -- a value that is given is the one
   pub given-equal : (x y : A) → given x ≡ given y → x ≡ y
-  given-equal x y e = value-equal x y (ap (λ (a : Answer A). a .value) e)
+  given-equal x y e = Option·some-injective x y (ap (λ (a : Answer A). a .value) e)
 
   -- nothing is both given and refused
   pub given-refused : (n : ℕ) (x : A) → refused (suc n) ≡ given x → ⊥
@@ -48,10 +45,7 @@ listed-refused listed.NotFound e = refl
 
 pub loaded-given : (r : Loaded) (v : ImageView) → ofLoaded r ≡ given v → r ≡ loaded.View v
 loaded-given (loaded.View w) v e = ap loaded.View (given-equal w v e)
-loaded-given (loaded.Refused n) v e = absurd (none-some v (ap (λ (a : Answer ImageView). a .value) e))
-  where
-    none-some : (v : ImageView) → none ≡ some v → ⊥
-    none-some v e = let z : _≡_ {A = ℕ} 0 1 = cc in omega arith
+loaded-given (loaded.Refused n) v e = absurd (Option·none-ne-some v (ap (λ (a : Answer ImageView). a .value) e))
 
 -- ---- the numbers of the header's constructor and of a load are those of their rules
 

@@ -3,7 +3,7 @@ use Prim.Native.Nat.{ℕ, _<_}
 use mathlib.Core.Path.{_≡_, refl, sym, _∙_}
 use mathlib.Core.Logic.{_≢_, _⊎_, inl, inr}
 use mathlib.Core.List.{List·Memᴰ}
-use mathlib.Core.Bool.{Bool, true, false, _||_, not, true≢false}
+use mathlib.Core.Bool.{Bool, true, _||_, or-true, true≢false}
 use native.Mathlib.Omega.{arith}
 use native.Mathlib.Decide.{ℕ-discrete}
 use borrow.Author.Tests.{eq-eqb, ne-eqb, le-leb, lt-ltb, eqb-true}
@@ -21,11 +21,7 @@ use Rattle.promises.specs.Rules.{TextRight, OptionalRight, NodeRight, Co
 
 -- neither word is NONE
 given : (at len : ℕ) → present at len ≡ true → (at ≢ NONE) × (len ≢ NONE)
-given at len h = (λ e. true≢false (sym h ∙ rw (eq-eqb at NONE e)), λ e. true≢false (sym h ∙ rw (eq-eqb len NONE e) (either (isNone at))))
-  where
-    either : (b : Bool) → not (b || true) ≡ false
-    either true = refl
-    either false = refl
+given at len h = (λ e. true≢false (sym h ∙ rw (eq-eqb at NONE e)), λ e. true≢false (sym h ∙ rw (eq-eqb len NONE e, or-true (isNone at))))
 
 module _ (s : Sections) (at len : ℕ) where
   pub text-right : goodText s at len ≡ true → TextRight s at len
@@ -61,11 +57,7 @@ either-right n b P g h = by (ℕ-discrete n NONE)
 
 right-either : (n : ℕ) (b : Bool) (P : Type 0) → (P → b ≡ true) → (n ≡ NONE) ⊎ P → (isNone n || b) ≡ true
 right-either n b P g (inl e) = rw (eq-eqb n NONE e)
-right-either n b P g (inr p) = rw (g p) (any (isNone n))
-  where
-    any : (a : Bool) → (a || true) ≡ true
-    any true = refl
-    any false = refl
+right-either n b P g (inr p) = rw (g p) (or-true (isNone n))
 
 module _ (s : Sections) (n : ℕ) where
   pub node-right : inside s n ≡ true → NodeRight s n

@@ -29,7 +29,7 @@ use Rattle.promises.specs.Answers.{Answer, given, ofLoaded, ofFound, ofL
 use Rattle.promises.specs.Rules.{Iff}
 use Rattle.promises.specs.Lookups.{NamedFound, ItemFound, Lookups, AcceptedLookups}
 use Rattle.promises.proofs.Answers.{found-given, found-refused, listed-given, listed-refused, loaded-given}
-use Rattle.promises.proofs.Acceptance.{Passed, load-accepted, accepted-passed}
+use Rattle.promises.proofs.Acceptance.{RowsPassed, load-accepted, accepted-passed}
 use Rattle.promises.proofs.Fields.{node-right}
 use Rattle.promises.proofs.Premises.{Kept, load-kept}
 use Rattle.promises.proofs.Nodes.{named-range}
@@ -82,7 +82,7 @@ module _ (s : Sections) (passed : Definitions s) (asked : Bool) (origin name : L
 
 -- ---- of sections that passed
 
-module _ (s : Sections) (g : Kept s) (p : Passed s) where
+module _ (s : Sections) (g : Kept s) (p : RowsPassed s) where
   named-at : (i : ℕ) → insideContainer s i ≡ true → NamedLookup s i
   named-at i box =
       let q = both-true (inside s i) (isContainer s i) box in

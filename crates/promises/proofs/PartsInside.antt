@@ -1,11 +1,11 @@
 -- Every part that a query answers lies in the slice, whatever the bytes and the view.
-use Prim.Native.Nat.{ℕ, zero, suc, _+_, _*_, _≤_}
+use Prim.Native.Nat.{ℕ, _+_, _*_, _≤_}
 use mathlib.Core.Path.{_≡_, refl, sym, ap, _∙_, subst}
-use mathlib.Core.List.{List, [], _∷_, List·Memᴰ}
+use mathlib.Core.List.{List, [], List·Memᴰ}
 use mathlib.Core.Bool.{Bool, true, false, cond, _&&_}
 use native.Mathlib.Omega.{arith}
-use lib.ListN.{length, take, drop}
-use lib.Seq.{take-take, drop-drop, take-length}
+use lib.ListN.{length}
+use lib.Seq.{take-length}
 use lib.Dec.{leb, ltb}
 use borrow.Author.Tests.{leb-true, leb-false}
 use Rattle.laws.proofs.Flags.{both-true}
@@ -15,7 +15,7 @@ use Rattle.image.specs.declared.Section.{Section}
 use Rattle.image.specs.declared.ImageView.{ImageView}
 use Rattle.image.specs.Header.{sectionBytes, sectionsBy}
 use Rattle.image.specs.Entries.{nodeIn}
-use Rattle.image.proofs.Parts.{part-length, section-inside, section-outside, text-inside, text-outside}
+use Rattle.image.proofs.Parts.{part-length, part-of-part, section-inside, section-outside, text-inside, text-outside}
 use Rattle.image.proofs.Views.{strings-by, payload-by}
 use Rattle.records.specs.Fields.{Kind, kindOf, Field, text, optional, command, operator, node, optionalNode, container, optionalContainer, plain, atMost, children, named, payload, wrong}
 use Rattle.index.specs.Definitions.{firstItem, numberOfItems}
@@ -51,16 +51,6 @@ use Rattle.promises.proofs.ViewParts.{All, all-none, kindAt, optional-a
 use Rattle.promises.proofs.Whole.{shown-part, shown-length}
 
 -- ---- parts of parts
-
-kept : (l : List ℕ) (n at len : ℕ) → at + len ≤ n → take len (drop at (take n l)) ≡ take len (drop at l)
-kept l n zero len h = take-take len n l (omega arith)
-kept l zero (suc at) len h = absurd (omega arith)
-kept [] (suc n) (suc at) len h = refl
-kept (x ∷ l) (suc n) (suc at) len h = kept l n at len (omega arith)
-
-part-of-part : (bs : List ℕ) (from n at len : ℕ) → at + len ≤ n → partAt (partAt bs from n) at len ≡ partAt bs (from + at) len
-unfolding partAt
-part-of-part bs from n at len h = kept (drop from bs) n at len h ∙ ap (take len) (drop-drop at from bs)
 
 -- a part of a list lies in it, the empty one too
 pub part-in : (bs : List ℕ) (at len : ℕ) → at + len ≤ length bs → InSlice bs (partAt bs at len)

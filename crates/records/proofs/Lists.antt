@@ -8,6 +8,7 @@ use lib.ListN.{length}
 use lib.Dec.{leb, eqb}
 use borrow.Author.Tests.{le-leb, lt-leb, eq-eqb, ne-eqb}
 use Rattle.laws.specs.Refusal.{unless, _▸_, firstOf}
+use Rattle.laws.proofs.Flags.{and-false}
 use Rattle.laws.proofs.First.{first, second, pass, fail}
 use Rattle.laws.proofs.Chains.{refused, stop, go, stop-last, go-last}
 use Rattle.words.specs.Words.{wordAt}
@@ -56,20 +57,11 @@ module _ (ps ts : List ℕ) (at : ℕ) where
   unfolding payloadRule
   inexact len h = sym (first _ _ 10 (fail (exact len) 11 h))
 
-  and-false : (a b : Bool) → (a && false && b) ≡ false
-  and-false true b = refl
-  and-false false b = refl
-
-  and-both-false : (a b : Bool) → (a && b && false) ≡ false
-  and-both-false true true = refl
-  and-both-false true false = refl
-  and-both-false false b = refl
-
   pub payload-past : (len : ℕ) → length ps < at + len → 11 ≡ payloadRule (bytesOnly ps ts) at len
   payload-past len h = inexact len (rw (lt-leb (at + len) (length ps) h))
 
   pub payload-short : (len : ℕ) → len < 8 → 11 ≡ payloadRule (bytesOnly ps ts) at len
-  payload-short len h = inexact len (rw (lt-leb listHeadSize len h) (and-false (leb (at + len) (length ps)) _))
+  payload-short len h = inexact len (rw (lt-leb listHeadSize len h, and-false (leb (at + len) (length ps))))
 
   module _ (len items origins : ℕ) (n : items ≡ wordAt ps at) (o : origins ≡ wordAt ps (at + 4)) where
     total : listHeadSize + items * listItemSize + origins * listOriginSize ≡ listHeadSize + listItems (bytesOnly ps ts) at * listItemSize + listOrigins (bytesOnly ps ts) at * listOriginSize
@@ -77,7 +69,7 @@ module _ (ps ts : List ℕ) (at : ℕ) where
 
     pub payload-other : (len ≡ listHeadSize + items * listItemSize + origins * listOriginSize → ⊥) → 11 ≡ payloadRule (bytesOnly ps ts) at len
     payload-other h =
-        inexact len (rw (ne-eqb len _ (λ e. h (e ∙ sym total))) (and-both-false (leb (at + len) (length ps)) (leb listHeadSize len)))
+        inexact len (rw (ne-eqb len _ (λ e. h (e ∙ sym total))) (and-false (leb (at + len) (length ps) && leb listHeadSize len)))
 
     module _ (inside : at + len ≤ length ps) (long : listHeadSize ≤ len) (e : len ≡ listHeadSize + items * listItemSize + origins * listOriginSize) where
       is-exact : exact len ≡ true

@@ -3,7 +3,7 @@ use Prim.Native.Nat.{ℕ, zero, suc, _+_, _*_, _/_, _≤_, _<_, _^_}
 use mathlib.Core.Path.{_≡_, refl, sym, ap, _∙_}
 use mathlib.Core.List.{List, [], _∷_, _++_}
 use mathlib.Core.Bool.{Bool, true, false, cond, not, _&&_, _||_}
-use mathlib.Core.Option.{Option, none, some}
+use mathlib.Core.Option.{Option, none, some, Option·some-injective, Option·none-ne-some}
 use native.Mathlib.Omega.{arith}
 use lib.ListN.{length, drop}
 use lib.Dec.{leb, ltb}
@@ -60,20 +60,14 @@ use Rattle.story_image.proofs.Views.{view-back, enough}
 
 -- ---- how many words an answer has
 
-none-some : {A : Type 0} {x : A} → none ≡ some x → ⊥
-none-some {A} {x} e = let z : _≡_ {A = ℕ} 0 1 = cc in omega arith
-
-some-inner : {A : Type 0} (x y : A) → some x ≡ some y → x ≡ y
-some-inner x y e = cc
-
 abbrev Size : ℕ → Option (List ℕ) → Type 0
 Size k o = (ws : List ℕ) → o ≡ some ws → length ws ≡ k
 
 some-size : (k : ℕ) (us : List ℕ) → length us ≡ k → Size k (some us)
-some-size k us h ws e = ap length (sym (some-inner us ws e)) ∙ h
+some-size k us h ws e = ap length (sym (Option·some-injective us ws e)) ∙ h
 
 none-size : (k : ℕ) → Size k none
-none-size k ws e = absurd (none-some e)
+none-size k ws e = absurd (Option·none-ne-some _ e)
 
 found-size : (a : Found) → Size 1 (foundAnswer a)
 found-size (found.Node n) = some-size 1 (n ∷ []) refl
@@ -166,11 +160,11 @@ module _ (bs view : List ℕ) (versioned : viewOf bs .version ≡ version) (v : 
 
 last-below : (n : ℕ) (t : ℕ → Bool) (d : ℕ) → lastOf n t ≡ some d → d < n
 unfolding lastOf
-last-below zero t d e = absurd (none-some e)
+last-below zero t d e = absurd (Option·none-ne-some _ e)
 last-below (suc n) t d e = by (t n) e (last-below n t d)
   where
     by : (b : Bool) → cond b (some n) (lastOf n t) ≡ some d → (lastOf n t ≡ some d → d < n) → d < suc n
-    by true q r = let z = some-inner n d q in omega arith
+    by true q r = let z = Option·some-injective n d q in omega arith
     by false q r = let h = r q in omega arith
 
 module _ (s : Sections) where
@@ -193,7 +187,7 @@ module _ (s : Sections) where
           let below = place-below (s .items) (s .strings) (firstItem s d) (numberOfItems s d) name j q in
           let whole = leb-true (firstItem s d + numberOfItems s d) (itemCount s) h in
           omega arith
-      by false h q = absurd (none-some q)
+      by false h q = absurd (Option·none-ne-some _ q)
 
   place-item : (given : Bool) (origin name : List ℕ) (d j : ℕ) → answeringPlace s given origin name d ≡ some j → itemPlace s d name ≡ some j
   unfolding answeringPlace
@@ -201,7 +195,7 @@ module _ (s : Sections) where
     where
       by : (b : Bool) → cond b (itemPlace s d name) none ≡ some j → itemPlace s d name ≡ some j
       by true q = q
-      by false q = absurd (none-some q)
+      by false q = absurd (Option·none-ne-some _ q)
 
   last-numbers : (given : Bool) (origin name : List ℕ) → Numbers (lastItem s given origin name)
   unfolding lastItem

@@ -12,6 +12,7 @@ use Rattle.laws.proofs.First.{first, second}
 use Rattle.image.specs.declared.ImageView.{ImageView}
 use Rattle.image.specs.Header.{headerRule, viewOf, sectionsOf}
 use Rattle.promises.specs.Answers.{ofLoaded}
+use Rattle.promises.proofs.Answers.{loaded-number}
 use Rattle.load.specs.Load.{checksumRule, sectionsRule, loadRule, loadWords, loadedBy, loadedOf, early, workAfter}
 use Rattle.load.specs.declared.Loaded.{Loaded}
 use Rattle.load.specs.declared.Loaded.the-variants.{View, Refused}
@@ -51,13 +52,8 @@ module _ (bs : List ℕ) (work : ℕ) (a : Loaded) (e : a ≡ loadedOf bs work) 
   unfolding loadedOf
   refused-some k q = not-zero (loadRule bs work) k (viewOf bs) (sym q ∙ e)
 
-number-by : (r : ℕ) (v : ImageView) → ofLoaded (loadedBy r v) .number ≡ r
-number-by zero v = refl
-number-by (suc r) v = refl
-
 pub number : (bs : List ℕ) (work : ℕ) (a : Loaded) (r : ℕ) → a ≡ loadedOf bs work → r ≡ ofLoaded a .number → r ≡ loadRule bs work
-unfolding loadedOf
-number bs work a r e q = q ∙ ap (λ (x : Loaded). ofLoaded x .number) e ∙ number-by (loadRule bs work) (viewOf bs)
+number bs work a r e q = q ∙ ap (λ (x : Loaded). ofLoaded x .number) e ∙ loaded-number bs work
 
 -- ---- a refusal leaves the view
 

@@ -1,12 +1,11 @@
 -- The part of the image that a text's words bound is the text.
-use Prim.Native.Nat.{ℕ, zero, suc, _+_, _*_, _≤_}
-use mathlib.Core.Path.{_≡_, refl, sym, ap, _∙_}
+use Prim.Native.Nat.{ℕ, _+_, _*_, _≤_}
+use mathlib.Core.Path.{_≡_, refl, sym, _∙_}
 use mathlib.Core.List.{List, [], _∷_}
-use mathlib.Core.Bool.{Bool, true, false, cond, true≢false}
-use mathlib.Core.Option.{Option, none, some}
+use mathlib.Core.Bool.{Bool, true, false, cond}
+use mathlib.Core.Option.{none, some, Option·none-ne-some}
 use native.Mathlib.Omega.{arith}
-use lib.ListN.{length, take, drop}
-use lib.Seq.{take-take, drop-drop}
+use lib.ListN.{length}
 use lib.Dec.{leb}
 use borrow.Author.Tests.{leb-true, leb-false}
 use Rattle.laws.proofs.Flags.{both-true}
@@ -14,30 +13,12 @@ use Rattle.words.specs.Words.{NONE}
 use Rattle.image.specs.declared.ImageView.{ImageView}
 use Rattle.image.specs.Sections.{partAt, present}
 use Rattle.image.specs.Header.{sectionBytes, sectionsBy}
-use Rattle.image.proofs.Parts.{section-inside, section-outside, section-length}
+use Rattle.image.proofs.Parts.{part-of-part, section-inside, section-outside, section-length}
 use Rattle.views.specs.declared.Span.{Span}
 use Rattle.views.specs.declared.TextAnswer.the-variants as place
 use Rattle.views.specs.View.{shown}
 use Rattle.views.specs.Children.{textQuery, shownText}
 use Rattle.answers.specs.AnswerWords.{partAnswer}
-
-abbrev some-flag : Option (List ℕ) → Bool
-some-flag none = false
-some-flag (some ws) = true
-
-no-some : {ws : List ℕ} → none ≡ some ws → ⊥
-no-some e = true≢false (sym (ap some-flag e))
-
--- a part of a part
-kept : (l : List ℕ) (n at len : ℕ) → at + len ≤ n → take len (drop at (take n l)) ≡ take len (drop at l)
-kept l n zero len h = take-take len n l (omega arith)
-kept l zero (suc at) len h = absurd (omega arith)
-kept [] (suc n) (suc at) len h = refl
-kept (x ∷ l) (suc n) (suc at) len h = kept l n at len (omega arith)
-
-part-of-part : (bs : List ℕ) (from n at len : ℕ) → at + len ≤ n → partAt (partAt bs from n) at len ≡ partAt bs (from + at) len
-unfolding partAt
-part-of-part bs from n at len h = kept (drop from bs) n at len h ∙ ap (take len) (drop-drop at from bs)
 
 empty : (l m : List ℕ) (a b len : ℕ) → len ≡ 0 → partAt l a len ≡ partAt m b len
 unfolding partAt
@@ -82,11 +63,11 @@ module _ (bs : List ℕ) (v : ImageView) (t : Span) where
 
       fits-by : (a b : Bool) → cond a (cond b (some (start ∷ t .len ∷ [])) none) none ≡ some (from ∷ len ∷ []) → partAt bs start (t .len) ≡ partAt bs from len
       fits-by true true e = same e
-      fits-by true false e = absurd (no-some e)
-      fits-by false b e = absurd (no-some e)
+      fits-by true false e = absurd (Option·none-ne-some _ e)
+      fits-by false b e = absurd (Option·none-ne-some _ e)
 
       shown-by : (b : Bool) → shown (length section) (t .offset) (t .len) ≡ b
           → partAnswer (length bs) (v .strings .offset) (cond b (place.Text t) place.NotFound) ≡ some (from ∷ len ∷ [])
           → partAt bs from len ≡ shownText section (t .offset) (t .len)
       shown-by true h e = sym (fits-by (leb (start + t .len) (length bs)) (leb start NONE) e) ∙ held h
-      shown-by false h e = absurd (no-some e)
+      shown-by false h e = absurd (Option·none-ne-some _ e)

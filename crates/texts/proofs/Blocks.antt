@@ -2,17 +2,19 @@
 use Prim.Native.Nat.{ℕ, zero, suc, _+_, _*_, _≤_, _<_}
 use mathlib.Core.Path.{_≡_, refl, sym, ap, ap₂, _∙_}
 use mathlib.Core.List.{List, [], _∷_, _++_}
-use mathlib.Core.Bool.{Bool, true, false, false≢true, _&&_}
+use mathlib.Core.Bool.{Bool, true, false, false≢true}
 use native.Mathlib.Omega.{arith}
 use native.Mathlib.Decide.{decLt}
 use native.Mathlib.Nat.{add-zero}
 use native.Mathlib.Numerals.{add-one}
 use borrow.Author.Tests.{lt-ltb, le-ltb, eq-eqb, ne-eqb, eqb-true}
 use lib.Dec.{eqb}
-use lib.Bits.{bitOr, bitXor, or-add-and, xor-add-and, xor-self, and-le-l, and-le-r}
+use lib.Bits.{bitOr, bitXor, xor-add-and, xor-self, and-le-l, and-le-r}
 use lib.ListN.{length, getD, take, drop, take-append-drop, length-take, length-drop, List·getD-eq-default}
-use lib.Seq.{drop-cons, drop-drop, getD-take, getD-drop, length-take-le}
+use lib.Seq.{drop-drop, getD-take, getD-drop, length-take-le}
 use Rattle.laws.specs.Counted.{allOf}
+use Rattle.laws.proofs.Flags.{both-true, or-zero}
+use Rattle.laws.proofs.Lists.{drop-next}
 use Rattle.texts.specs.declared.Order.{Order}
 use Rattle.texts.specs.declared.Order.the-variants.{Less, Equal, Greater}
 use Rattle.texts.specs.Text.{orderOf}
@@ -20,21 +22,6 @@ use Rattle.texts.specs.Blocks.{Alike, numberFrom, WordAt}
 use Rattle.texts.proofs.Text.{order-turned, turned, byte-like}
 
 -- ---- differences, gathered
-
-and-false : (a : Bool) → (a && false) ≡ false
-and-false true = refl
-and-false false = refl
-
-or-zero : (a b : ℕ) → eqb (bitOr a b) 0 ≡ (eqb a 0 && eqb b 0)
-or-zero a b =
-    elim (decLt 0 a) [
-      | yes h ↦ rw (ne-eqb a 0 (λ e. omega arith), ne-eqb (bitOr a b) 0 (λ e. omega (arith, or-add-and a b, and-le-r a b)))
-      | no h ↦
-          elim (decLt 0 b) [
-            | yes k ↦ rw (ne-eqb b 0 (λ e. omega arith), ne-eqb (bitOr a b) 0 (λ e. omega (arith, or-add-and a b, and-le-l a b))) (sym (and-false (eqb a 0)))
-            | no k ↦ rw (eq-eqb a 0 (omega arith), eq-eqb b 0 (omega arith), eq-eqb (bitOr a b) 0 (omega (arith, or-add-and a b)))
-          ]
-    ]
 
 -- the difference of two bytes is 0 where they are one
 xor-zero : (x y : ℕ) → eqb (bitXor x y) 0 ≡ eqb x y
@@ -59,10 +46,6 @@ bits-all a b i j n bits e h k = let d : j ≡ n = omega arith in rw d at e
 
 pub alike-none : (a b : List ℕ) → Alike a b 0
 alike-none a b = record { first = omega arith; second = omega arith; rest = refl }
-
-both-true : (a b : Bool) → (a && b) ≡ true → (a ≡ true) × (b ≡ true)
-both-true true b e = (refl, e)
-both-true false b e = absurd (false≢true e)
 
 pub alike-block : {a b : List ℕ} {i : ℕ} (n : ℕ) → Alike a b i → i + n ≤ length a → i + n ≤ length b → allOf n (likeAt a b i) ≡ true → Alike a b (i + n)
 unfolding allOf
@@ -135,9 +118,6 @@ number-order-same p (x ∷ s) (y ∷ t) u v l f g h =
 -- eight bytes from i on, and what follows them
 eight : (s : List ℕ) (i : ℕ) → take 8 (drop i s) ++ drop (i + 8) s ≡ drop i s
 eight s i = ap (λ (t : List ℕ). take 8 (drop i s) ++ t) (sym (drop-drop 8 i s)) ∙ take-append-drop 8 (drop i s)
-
-drop-next : (s : List ℕ) (i j : ℕ) → j ≡ i + 1 → i < length s → drop i s ≡ getD s i 0 ∷ drop j s
-drop-next s i j e h = drop-cons s i 0 h ∙ ap (λ k. getD s i 0 ∷ drop k s) (sym (e ∙ add-one i))
 
 eight-of : (s : List ℕ) (i : ℕ)
     → i + 8 ≤ length s

@@ -2,7 +2,7 @@
 use Prim.Native.Nat.{ℕ, suc, _+_, _-_, _≤_, _<_}
 use mathlib.Core.Path.{_≡_, refl, sym, ap, _∙_, subst}
 use mathlib.Core.List.{List, [], _∷_, _++_}
-use mathlib.Core.Bool.{Bool, true, false, not}
+use mathlib.Core.Bool.{Bool, true, false, not, Bool·not-not}
 use native.Mathlib.Omega.{arith}
 use lib.ListN.{length, getD, drop, set, replicate, length-reverse, length-replicate, getD-replicate, List·getD-append}
 use lib.Seq.{drop-set-lt, drop-at, drop-drop}
@@ -70,13 +70,9 @@ module _ (s : Sections) (count : ℕ) (e : count ≡ nodeCount s) (c : EntriesOw
           answer = ap (λ (x : Walked). x .refusal) (sym end ∙ whole s);
           marks = λ z i k.
               ap not (mark-seen (entriesRule s) (backwards s) one count count (pushedEntries s) here (set w₀ count 0) w d inv i (omega arith))
-              ∙ not-not (has i (inv .seen)) ∙ ap (λ (x : Walked). has i (x .seen)) (sym end ∙ whole s);
+              ∙ Bool·not-not (has i (inv .seen)) ∙ ap (λ (x : Walked). has i (x .seen)) (sym end ∙ whole s);
           rest = kept-behind w₀ w (inv .high);
         }
-      where
-        not-not : (b : Bool) → not (not b) ≡ b
-        not-not true = refl
-        not-not false = refl
 
     -- node v is on top
     module _ (v : ℕ) (h : 0 < d) (top : v ≡ getD w (count + (d - 1)) 0) where

@@ -17,9 +17,10 @@ use Rattle.records.specs.Records.{numberOfChildren, numberOfNamed}
 use Rattle.tree.specs.Tree.{childAt, childRule, namedRule, entriesRule, entryNodes}
 use Rattle.tree.specs.Work.{stackOf, Pushed, Entered}
 use Rattle.tree.specs.Parts.{partsOf, namedNode, Fit}
+use Rattle.laws.proofs.Lists.{drop-more}
 use Rattle.laws.proofs.Members.{length-join}
 use Rattle.tree.proofs.Entries.{length-entries}
-use Rattle.tree.proofs.Stack.{take-less, drop-more}
+use Rattle.tree.proofs.Stack.{take-less}
 
 -- ---- two runs of pushes
 

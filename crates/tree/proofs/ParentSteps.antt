@@ -9,7 +9,7 @@ use lib.ListN.{length}
 use Rattle.image.specs.Sections.{Sections, nodeCount, parentOf, isContainer}
 use Rattle.tree.specs.Tree.{childAt, namedAt, entriesRule, entryNodes, turns, loadWalk, treeRule}
 use Rattle.tree.specs.Reach.{climb, Climbs}
-use Rattle.laws.proofs.Members.{All, all-map, all-append, all-reverse, all-at, Distinct, pigeon}
+use Rattle.laws.proofs.Members.{All, all-map, all-append, all-reverse, all-has, Distinct, pigeon}
 use Rattle.tree.proofs.Walks.{Turns, walk-turns, walk-marks}
 use Rattle.tree.proofs.Entries.{children-pass, named-pass, child-container, named-container, entry-each, entries-inside}
 use Rattle.tree.proofs.PlainTree.{backwards, walk-passed, all-marked}
@@ -85,4 +85,4 @@ module _ (s : Sections) where
       let m = marks-right h q in
       let a = walk-turns (entriesRule s) (backwards s) climbing (turns s) [] (0 ∷ []) (tt, (root-climbs s, tt)) q in
       farther (length (loadWalk s .seen)) (nodeCount s) (pigeon (nodeCount s) (loadWalk s .seen) (m .distinct) (m .inside))
-      (all-at (Climbs s (length (loadWalk s .seen))) i (loadWalk s .seen) (all-marked s p i k) a)
+      (all-has (Climbs s (length (loadWalk s .seen))) i (loadWalk s .seen) (all-marked s p i k) a)

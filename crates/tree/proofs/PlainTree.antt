@@ -8,11 +8,12 @@ use native.Mathlib.Omega.{arith}
 use lib.ListN.{length, length-reverse}
 use Rattle.laws.specs.Lists.{has}
 use Rattle.laws.proofs.First.{both, then, passed, pass}
+use Rattle.laws.proofs.Flags.{all-at, all-of}
 use Rattle.image.specs.Sections.{Sections, nodeCount}
 use Rattle.tree.specs.Tree.{entriesRule, entryNodes, turns, loadWalk, allSeen, treeRule}
 use Rattle.tree.specs.Reach.{Reached, root, child, named}
 use Rattle.tree.specs.Parts.{EntriesOwned}
-use Rattle.laws.proofs.Members.{All, all-reverse, all-at, has-reverse, all-of, all-so, sum-ext}
+use Rattle.laws.proofs.Members.{All, all-reverse, all-has, has-reverse, sum-ext}
 use Rattle.tree.proofs.Walks.{walk-keeps, walk-passes, walk-closed, Closed}
 use Rattle.tree.proofs.Walks.{pending, pushed}
 use Rattle.tree.proofs.Entries.{entry-each, child-entry, named-entry, entries-inside, entries-counted}
@@ -45,10 +46,10 @@ module _ (s : Sections) where
 
   pub all-marked : treeRule s ≡ 0 → (i : ℕ) → i < nodeCount s → has i (loadWalk s .seen) ≡ true
   unfolding treeRule allSeen
-  all-marked p i h = all-of (nodeCount s) (λ j. has j (loadWalk s .seen)) (passed _ 14 (both (loadWalk s .refusal) _ p .1)) i h
+  all-marked p i h = all-at (nodeCount s) (λ j. has j (loadWalk s .seen)) (passed _ 14 (both (loadWalk s .refusal) _ p .1)) i h
 
   pub tree-right : treeRule s ≡ 0 → (i : ℕ) → i < nodeCount s → Right i
-  tree-right p i h = all-at Right i (loadWalk s .seen) (all-marked p i h) (marked-right (walk-passed p))
+  tree-right p i h = all-has Right i (loadWalk s .seen) (all-marked p i h) (marked-right (walk-passed p))
 
   -- ---- and back
 
@@ -82,4 +83,4 @@ module _ (s : Sections) where
 
     pub right-tree : ((i : ℕ) → i < nodeCount s → Reached s i) → treeRule s ≡ 0
     unfolding treeRule allSeen
-    right-tree r = then _ _ never-refused (pass _ 15 (all-so (nodeCount s) (λ i. has i (loadWalk s .seen)) (λ i h. marked i (r i h))))
+    right-tree r = then _ _ never-refused (pass _ 15 (all-of (nodeCount s) (λ i. has i (loadWalk s .seen)) (λ i h. marked i (r i h))))

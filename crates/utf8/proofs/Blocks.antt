@@ -7,13 +7,13 @@ use native.Mathlib.Omega.{arith}
 use native.Mathlib.Decide.{decLt}
 use native.Mathlib.Nat.{zero-add}
 use native.Mathlib.Numerals.{add-one}
-use borrow.Author.Tests.{lt-ltb, eq-eqb, ne-eqb, ltb-true}
+use borrow.Author.Tests.{lt-ltb, ltb-true}
 use lib.Dec.{ltb, eqb}
 use lib.Bits.{bitOr, bitAnd, bitXor, or-add-and, and-le-l, and-le-r}
 use lib.ListN.{length, drop, getD, drop-of-length-le}
 use lib.Seq.{drop-cons}
 use Rattle.laws.specs.Counted.{allOf}
-use Rattle.laws.proofs.Flags.{both-true, and-false}
+use Rattle.laws.proofs.Flags.{both-true, all-at, all-of, or-zero}
 use Rattle.utf8.specs.Runs.{Passes}
 use Rattle.utf8.specs.Utf8.{rows, sizeIn, utf8}
 use Rattle.utf8.specs.Places.{flag, differ, due, wrong, rightAt, starts, ends, Passed, AsciiTo}
@@ -57,40 +57,12 @@ unfolding flag
 flag-zero x true p = rw p
 flag-zero x false p = rw p
 
-pub or-zero : (a b : ℕ) → eqb (bitOr a b) 0 ≡ (eqb a 0 && eqb b 0)
-or-zero a b =
-    elim (decLt 0 a) [
-      | yes h ↦ rw (ne-eqb a 0 (λ e. omega arith), ne-eqb (bitOr a b) 0 (λ e. omega (arith, or-add-and a b, and-le-r a b)))
-      | no h ↦
-          elim (decLt 0 b) [
-            | yes k ↦ rw (ne-eqb b 0 (λ e. omega arith), ne-eqb (bitOr a b) 0 (λ e. omega (arith, or-add-and a b, and-le-l a b))) (sym (and-false (eqb a 0)))
-            | no k ↦ rw (eq-eqb a 0 (omega arith), eq-eqb b 0 (omega arith), eq-eqb (bitOr a b) 0 (omega (arith, or-add-and a b)))
-          ]
-    ]
-
 pub no-fault : (x y z : ℕ) (a b c : Bool) → x ≡ flag a → y ≡ flag b → z ≡ flag c → eqb (bitOr (bitOr x y) z) 0 ≡ ((not a && not b) && not c)
 no-fault x y z a b c p q r = rw (or-zero (bitOr x y) z, or-zero x y, flag-zero x a p, flag-zero y b q, flag-zero z c r)
 
 -- the bits of three bytes and of a block
 pub three-ascii : (a b c d : ℕ) (t : Bool) → ltb d 0x80 ≡ t → ltb (bitOr (bitOr (bitOr a b) c) d) 0x80 ≡ (((ltb a 0x80 && ltb b 0x80) && ltb c 0x80) && t)
 three-ascii a b c d t e = rw (or-ascii (bitOr (bitOr a b) c) d, or-ascii (bitOr a b) c, or-ascii a b, e)
-
--- ---- tests over an index
-
-pub all-at : (n : ℕ) (t : ℕ → Bool) → allOf n t ≡ true → (k : ℕ) → k < n → t k ≡ true
-unfolding allOf
-all-at zero t e k h = absurd (omega arith)
-all-at (suc n) t e k h =
-    let p = both-true (allOf n t) (t n) e in
-    elim (decLt k n) [
-      | yes l ↦ all-at n t (p .0) k l
-      | no l ↦ let d : k ≡ n = omega arith in rw d (p .1)
-    ]
-
-pub all-of : (n : ℕ) (t : ℕ → Bool) → ((k : ℕ) → k < n → t k ≡ true) → allOf n t ≡ true
-unfolding allOf
-all-of zero t e = refl
-all-of (suc n) t e = rw (all-of n t (λ k h. e k (omega arith)), e n (omega arith))
 
 -- ---- places by index
 

@@ -2,7 +2,7 @@
 use Prim.Native.Nat.{ℕ, zero, suc, _≤_, _<_, _/_}
 use mathlib.Core.Path.{_≡_, refl, sym, ap, _∙_}
 use mathlib.Core.List.{List, [], _∷_}
-use mathlib.Core.Bool.{Bool, true, false, not, cond, _&&_, _||_}
+use mathlib.Core.Bool.{Bool, true, false, not, cond, _&&_, _||_, or-true}
 use native.Mathlib.Omega.{arith}
 use native.Mathlib.Decide.{decLt}
 use borrow.Author.Tests.{lt-ltb, le-ltb, le-leb, lt-leb, eq-eqb, ne-eqb}
@@ -61,10 +61,6 @@ never-lead b h l = rw (ne-eqb (b / 2) 96 (λ e. omega arith), lt-leb 0xf5 b (ome
 never-low : (b : ℕ) → 0xc0 ≤ b → b < 0xc2 → never b ≡ true
 unfolding never
 never-low b h l = rw (eq-eqb (b / 2) 96 (omega arith))
-
-or-true : (a : Bool) → (a || true) ≡ true
-or-true true = refl
-or-true false = refl
 
 never-over : (b : ℕ) → 0xf5 ≤ b → never b ≡ true
 unfolding never

@@ -1,34 +1,15 @@
 -- Laws of words and their bytes: each gives back the other, lengths, ranges, words of a part.
 use Prim.Native.Nat.{ℕ, zero, suc, _+_, _*_, _/_, _%_, _≤_, _<_, _^_}
 use mathlib.Core.Path.{_≡_, refl, sym, ap, _∙_}
-use mathlib.Core.Logic.{⊎-elim}
-use mathlib.Core.List.{List, [], _∷_, _++_, append-assoc, append-nil, List·Memᴰ·head, List·Memᴰ·tail, List·Memᴰ·cases-cons, List·Memᴰ·not-nil}
+use mathlib.Core.List.{List, [], _∷_, _++_, append-assoc, append-nil}
 use native.Mathlib.Omega.{arith}
 use native.Mathlib.Nat.{suc-add, add-assoc}
 use borrow.Author.Tests.{le-leb, lt-leb}
 use lib.ListN.{length, getD, take, drop}
 use lib.Seq.{getD-take, getD-drop, getD-append-add, length-take-le}
 use Rattle.laws.specs.Lists.{Below}
+use Rattle.laws.proofs.Lists.{below-none, below-cons, below-head, below-tail, below-at}
 use Rattle.words.specs.Words.{word4, wordAt, wordIn, wordsOf, bytes4, putIn, bytesOf}
-
--- ---- lists whose elements are below a bound
-
-pub below-none : (n : ℕ) → Below n []
-below-none n x m = absurd (List·Memᴰ·not-nil m)
-
-pub below-cons : (n a : ℕ) (xs : List ℕ) → a < n → Below n xs → Below n (a ∷ xs)
-below-cons n a xs h b x m = ⊎-elim (λ e. omega arith) (b x) (List·Memᴰ·cases-cons m)
-
-pub below-head : (n a : ℕ) (xs : List ℕ) → Below n (a ∷ xs) → a < n
-below-head n a xs b = b a (List·Memᴰ·head refl)
-
-pub below-tail : (n a : ℕ) (xs : List ℕ) → Below n (a ∷ xs) → Below n xs
-below-tail n a xs b x m = b x (List·Memᴰ·tail m)
-
-pub below-at : (n i : ℕ) (xs : List ℕ) → 0 < n → Below n xs → getD xs i 0 < n
-below-at n i [] h b = h
-below-at n zero (x ∷ xs) h b = below-head n x xs b
-below-at n (suc i) (x ∷ xs) h b = below-at n i xs h (below-tail n x xs b)
 
 -- ---- a word and its four bytes
 

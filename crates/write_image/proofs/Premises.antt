@@ -3,7 +3,6 @@ use Prim.Native.Nat.{ℕ, zero, suc, _+_, _*_, _/_, _^_, _≤_, _<_}
 use mathlib.Core.Path.{_≡_, refl, sym, ap, _∙_, subst}
 use mathlib.Core.List.{List, [], _∷_, _++_, map}
 use native.Mathlib.Omega.{arith}
-use native.Mathlib.Nat.{mul-one}
 use lib.ListN.{length, getD, take, length-append, length-map}
 use lib.Seq.{take-suc, take-all}
 use Rattle.laws.specs.Counted.{sumOf, joinOf}
@@ -11,25 +10,21 @@ use Rattle.laws.specs.Lists.{placeIn}
 use Rattle.laws.proofs.Members.{sum-ext}
 use Rattle.words.specs.Words.{bytesOf}
 use Rattle.words.proofs.Words.{length-bytes}
-use Rattle.image.specs.Sections.{Sections, nodeWords, textEntryWords, definitionWords, nodeSize, childSize, textEntrySize, definitionSize, nodeCount, childCount, namedCount, definitionCount, itemCount, nodeWord, definitionWord, tagOf}
-use Rattle.image.specs.declared.NodeRecord.{NodeRecord}
-use Rattle.image.proofs.Entries.{node-record}
+use Rattle.image.specs.Sections.{Sections, nodeWords, textEntryWords, definitionWords, nodeSize, childSize, textEntrySize, definitionSize, nodeCount, childCount, namedCount, definitionCount, itemCount, nodeWord, definitionWord}
 use Rattle.image.proofs.Widths.{size-words, nodes-fewer}
 use Rattle.image.specs.Encoding.{sectionOut}
-use Rattle.records.specs.Fields.{kindOf}
 use Rattle.records.specs.Records.{numberOfChildren, numberOfNamed, payloadLengthOf}
 use Rattle.records.proofs.PassedRules.{used-up}
-use Rattle.tree.specs.Tree.{namedText}
 use Rattle.tree.proofs.Numbers.{get-below, place-of-get}
 use Rattle.draft.specs.Source.{draftOf}
 use Rattle.draft.specs.Draft.{tablesRule, reachRule}
 use Rattle.draft.specs.Numbering.{numbering, oldOf}
 use Rattle.draft.proofs.Rules.{tables, items-all}
 use Rattle.draft.proofs.ReachedNodes.{Numbered}
-use Rattle.draft_image.specs.Strings.{nodeTexts, namedTexts, uses, byPath, pathOf, distinct, storedTexts, offsetOf}
+use Rattle.draft_image.specs.Strings.{nodeTexts, uses, byPath, pathOf, distinct, storedTexts, offsetOf}
 use Rattle.draft_image.specs.Written.{indexOut, writtenWith, written}
 use Rattle.draft_image.specs.Ready.{NewsAt, OffsetsAt, nodeUses, namedUses, definitionUses, textUses}
-use Rattle.draft_image.proofs.Joins.{sum-const, join-length, join-same}
+use Rattle.draft_image.proofs.Joins.{join-length, join-same}
 use Rattle.draft_image.proofs.Offsets.{offsets-left, offsets-right}
 use Rattle.write_text_uses.specs.Uses.{storedBytes}
 use Rattle.draft.specs.declared.layout.Layout.{Layout}
@@ -37,10 +32,9 @@ use Rattle.write_tree_sections.specs.Held.{OrderFits, NamedFit, childrenInOrder
 use Rattle.write_paths.specs.PathIndex.{IndexFit, PathsAt, LengthsAt}
 use Rattle.words.specs.Output.{over}
 use Rattle.write_text_uses.proofs.Sums.{sum-ordered}
-use Rattle.write_text_uses.proofs.Bounds.{uses-bound}
-use Rattle.write_tree_sections.specs.Encoded.{textsBy}
+use Rattle.write_text_uses.proofs.Bounds.{uses-bound, named-exact}
 use Rattle.write_tree_sections.specs.Summed.{textsAt, usedBy, NodesFit}
-use Rattle.write_tree_sections.proofs.FieldWords.{texts-count}
+use Rattle.write_tree_sections.proofs.FieldWords.{texts-at}
 use Rattle.write_tree_sections.specs.Put.{NodesPut, ChildrenPut, NamedPut}
 use Rattle.write_list_sections.specs.Put.{DefinitionsPut, ItemsPut, PayloadPut}
 use Rattle.write_list_sections.specs.Entered.{textsBefore, itemsBeforeIn, payloadWords, PayloadFits}
@@ -51,9 +45,6 @@ use Rattle.write_interning.specs.Uses.{textsOf, storedOf, textsJoined, Offsets}
 use Rattle.write_image.specs.Length.{imageLength}
 use Rattle.write_image.specs.Given.{Told, Indexed, Keyed, TreeReady, ListsReady, TextsReady, treeOut, listsOut, textsOut, definitionsAt}
 use Rattle.write_image.proofs.SectionLengths.{Sized, sized, once}
-
-ones-length : (n : ℕ) (g : ℕ → List ℕ) → length (joinOf n (λ j. g j ∷ [])) ≡ n
-ones-length n g = join-length n (λ j. g j ∷ []) ∙ sum-const n 1 ∙ mul-one n
 
 -- the first of a list's texts, one by one
 taken : (n : ℕ) (xs : List (List ℕ)) → n ≤ length xs → joinOf n (λ k. getD xs k [] ∷ []) ≡ take n xs
@@ -189,12 +180,7 @@ module _ (s : Sections) (w : List ℕ) (l : Layout) (t : Told s w l) where
 
   -- one a named entry
   pub named-length : length (namedUses s order) ≡ namedCount s
-  unfolding namedTexts
-  named-length =
-      join-length (nodeCount s) (λ j. namedTexts s (oldOf order j))
-      ∙ sum-ext (nodeCount s) (λ j. length (namedTexts s (oldOf order j))) (λ j. numberOfNamed s (oldOf order j)) (λ j h. ones-length (numberOfNamed s (oldOf order j)) (namedText s (oldOf order j)))
-      ∙ sum-ordered (nodeCount s) order numbers-once (numberOfNamed s)
-      ∙ used-up s (tables s (t .tables) .used) .named
+  named-length = named-exact s (tables s (t .tables)) order numbers-once
 
 -- ---- what the writers of the first sections ask
 
@@ -216,16 +202,10 @@ module _ (version : ℕ) (nodes children named definitions items payload strings
     payload-sum = sum-words s w l t (payloadLengthOf s) ∙ used-up s (tables s (t .tables) .used) .payload
 
     -- the texts of the nodes
-    one-count : (i : ℕ) → i < nodeCount s → textsAt version nodes payload i ≡ length (nodeTexts s i)
-    unfolding textsAt
-    one-count i h =
-        ap (λ (r : NodeRecord). textsBy payload r (kindOf (r .tag))) (node-record s version nodes i refl refl)
-        ∙ texts-count s i (kindOf (tagOf s i)) (tables s (t .tables) .fields i h)
-
     pub texts-sum : usedBy version nodes w (l .order) payload (length nodes / nodeWords version) ≡ length (nodeUses s (numbering s))
     texts-sum =
         sum-ext (nodeCount s) (λ m. textsAt version nodes payload (getD w (l .order + m) 0)) (λ m. length (nodeTexts s (oldOf (numbering s) m)))
-        (λ m h. ap (textsAt version nodes payload) (t .olds m h) ∙ one-count (oldOf (numbering s) m) (old-inside s w l t m h))
+        (λ m h. ap (textsAt version nodes payload) (t .olds m h) ∙ texts-at s (oldOf (numbering s) m) (tables s (t .tables) .fields _ (old-inside s w l t m h)))
         ∙ sym (join-length (nodeCount s) (λ m. nodeTexts s (oldOf (numbering s) m)))
 
     pub order-fits : OrderFits version nodes w l

@@ -24,7 +24,8 @@ use Rattle.write_image.specs.declared.Places.{Places}
 use Rattle.write_text_uses.specs.Uses.{imageCounts}
 use Rattle.write_image.specs.Length.{placesBy}
 use Rattle.write_image.specs.Given.{treeOut, TreeReady, definitionsAt, listsOut, ListsReady, textsOut, TextsReady, Ready, Sectioned}
-use Rattle.write_image.proofs.SectionLengths.{head-length, sized}
+use Rattle.draft_image.proofs.Lengths.{head-length}
+use Rattle.write_image.proofs.SectionLengths.{sized}
 use Rattle.write_image.proofs.Premises.{tree-length, lists-length, texts-length}
 use Rattle.write_image.proofs.SectionLayers.{over-next, three-parts, counts-right}
 

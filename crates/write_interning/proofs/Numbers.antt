@@ -12,6 +12,7 @@ use lib.Dec.{ltb}
 use lib.ListN.{length, getD, take, drop, set, length-set}
 use lib.Seq.{take-suc-set, take-take, take-at, drop-at, drop-set-lt, length-take-le}
 use Rattle.laws.specs.Sorted.{insert, isort}
+use Rattle.laws.proofs.Lists.{drop-more}
 use Rattle.laws.proofs.Members.{All}
 use Rattle.laws.proofs.Sorted.{all-insert, all-isort, length-isort}
 use Rattle.texts.specs.Text.{before, byKey}
@@ -20,7 +21,7 @@ use Rattle.write_sorting.specs.Sorted.{upFrom, merge, part, Ordered, Rises}
 use Rattle.write_sorting.proofs.Laws.{cases, differ, key-strict, sort-append}
 use Rattle.write_sorting.proofs.ListProperties.{Pairs, In, here, there, all-map, all-at, pairs-at, in-at, in-isort}
 use Rattle.write_sorting.proofs.OrderedLists.{ordered-isort, isort-rises}
-use Rattle.write_sorting.proofs.MergeInPlace.{part-take, drop-later}
+use Rattle.write_sorting.proofs.MergeInPlace.{part-take}
 use Rattle.write_sorting.proofs.NumberedWords.{upFrom-length, upFrom-at, upFrom-append}
 use Rattle.write_interning.specs.Uses.{RisesFrom}
 
@@ -127,12 +128,12 @@ module _ (K : List ℕ → ℕ → List ℕ) (w z : List ℕ) (p n at : ℕ) whe
       → drop at y ≡ drop at x → take p z ≡ take p y → part p n z ≡ upFrom p (n - p) → drop n z ≡ drop n y → Parts K w z p n at
   parts x y hp hn nx bx sy by lz nz bz =
       let e : p - 0 ≡ p = omega arith in
-      let tx : drop at x ≡ drop at w = drop-later p at x w bx (omega arith) in
+      let tx : drop at x ≡ drop at w = drop-more p at x w (omega arith) bx in
       let first : take p x ≡ upFrom 0 p = ap (λ (k : ℕ). take k x) (sym e) ∙ nx ∙ ap (upFrom 0) e in
       record {
         low = lz ∙ sy ∙ ap (isort (byKey (K (drop at x)))) first ∙ ap (λ (d : List ℕ). isort (byKey (K d)) (upFrom 0 p)) tx;
         high = nz;
-        behind = drop-later n at z y bz hn ∙ by ∙ tx;
+        behind = drop-more n at z y hn bz ∙ by ∙ tx;
       }
 
   pub parts-ordered : Parts K w z p n at → Ordered (byKey (K (drop at z))) (take p z)

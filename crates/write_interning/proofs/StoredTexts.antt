@@ -12,16 +12,12 @@ use Rattle.laws.specs.Counted.{joinOf}
 use Rattle.laws.specs.Lists.{flatMap}
 use Rattle.texts.specs.Text.{same, holds}
 use Rattle.texts.proofs.Text.{same-self, same-equal}
+use Rattle.draft_image.proofs.HeldTexts.{in-left}
 use Rattle.draft_image.specs.Strings.{distinct, offsetOf}
 use Rattle.write_sorting.proofs.Laws.{cases, differ}
 use Rattle.write_interning.specs.Uses.{textsOf, storedOf, textsJoined, First}
 
 -- ---- what is held
-
-pub holds-old : (ss rs : List (List ℕ)) (t : List ℕ) → holds ss t ≡ true → holds (ss ++ rs) t ≡ true
-unfolding holds
-holds-old [] rs t e = differ (sym e)
-holds-old (s ∷ ss) rs t e = cases (same t s) (λ f. rw f) (λ f. rw f (holds-old ss rs t (rw f at e)))
 
 pub holds-new : (ss : List (List ℕ)) (t : List ℕ) → holds (ss ++ (t ∷ [])) t ≡ true
 unfolding holds
@@ -95,7 +91,7 @@ module _ (key : ℕ → List ℕ) where
       (λ e.
       rw (stored-new k e)
       (cases (ltb p k)
-      (λ f. holds-old (storedOf key k) (key k ∷ []) (key p) (stored-holds k p (ltb-true p k f)))
+      (λ f. in-left (storedOf key k) (key k ∷ []) (key p) (stored-holds k p (ltb-true p k f)))
       (λ f. let q : p ≡ k = omega (arith, ltb-false p k f) in rw q (holds-new (storedOf key k) (key k)))))
 
   none : {P : Type 0} (t : List ℕ) → holds (storedOf key 0) t ≡ true → P
@@ -145,7 +141,7 @@ module _ (key : ℕ → List ℕ) where
       (λ f. rw (stored-old (k + d) f) h)
       (λ f.
       rw (stored-new (k + d) f) (
-        holds-old (storedOf key (k + d)) (key (k + d) ∷ []) t (h .0),
+        in-left (storedOf key (k + d)) (key (k + d) ∷ []) t (h .0),
         offset-old (storedOf key (k + d)) (key (k + d) ∷ []) t (h .0) ∙ h .1,
       )))
 

@@ -11,7 +11,7 @@ use Rattle.words.specs.Words.{bytesOf}
 use Rattle.words.proofs.Words.{bytes-append, length-bytes}
 use Rattle.image.specs.declared.NodeRecord.{NodeRecord}
 use Rattle.image.specs.Entries.{recordOf, nodeIn}
-use Rattle.image.specs.Sections.{Sections, nodeWords, nodeCount, tagOf}
+use Rattle.image.specs.Sections.{Sections, nodeWords, nodeCount}
 use Rattle.image.proofs.Entries.{node-record}
 use Rattle.records.specs.Fields.{kindOf}
 use Rattle.draft.specs.Draft.{tablesRule}
@@ -27,7 +27,7 @@ use Rattle.words.proofs.EntryLoop.{Running, run-start, run-room, run-next, run-
 use Rattle.write_numbering.proofs.DraftWords.{retold, told}
 use Rattle.write_tree_sections.specs.Encoded.{textsBy}
 use Rattle.write_tree_sections.specs.Summed.{textsAt, usedBy}
-use Rattle.write_tree_sections.proofs.FieldWords.{texts-count}
+use Rattle.write_tree_sections.proofs.FieldWords.{texts-at}
 use Rattle.write_list_sections.specs.Entered.{nodeListWords, payloadWords, PayloadFits, PutAsBytes}
 use Rattle.write_list_sections.proofs.ListWords.{node-written}
 
@@ -96,12 +96,6 @@ module _ (s : Sections) (version : ℕ) (nodes payload w : List ℕ) (order offs
   abbrev r : Sections
   r = retold s version nodes (s .children) (s .named) payload
 
-  texts-at : tablesRule r ≡ 0 → (i : ℕ) → i < nodeCount r → textsAt version nodes payload i ≡ length (nodeTexts r i)
-  unfolding textsAt
-  texts-at p i h =
-      ap (λ (x : NodeRecord). textsBy payload x (kindOf (x .tag))) (node-record r version nodes i refl refl)
-      ∙ texts-count r i (kindOf (tagOf r i)) (tables r p .fields i h)
-
   module _ (fits : PayloadFits version nodes payload w order offsets) (p : tablesRule r ≡ 0) (q : OldsAt olds w (nodeCount r) order)
       (o : OffsetsAt kept (nodeUses r olds) w offsets) where
     old-below : (j : ℕ) → j < nodeCount r → oldOf olds j < nodeCount r
@@ -110,7 +104,7 @@ module _ (s : Sections) (version : ℕ) (nodes payload w : List ℕ) (order offs
     used-is : (j : ℕ) → j ≤ nodeCount r → sumOf j (λ m. length (nodeTexts r (oldOf olds m))) ≡ usedBy version nodes w order payload j
     used-is j h =
         sum-ext j (λ m. length (nodeTexts r (oldOf olds m))) (λ m. textsAt version nodes payload (getD w (order + m) 0))
-        (λ m k. sym (ap (textsAt version nodes payload) (q m (omega arith)) ∙ texts-at p (oldOf olds m) (old-below m (omega arith))))
+        (λ m k. sym (ap (textsAt version nodes payload) (q m (omega arith)) ∙ texts-at r (oldOf olds m) (tables r p .fields _ (old-below m (omega arith)))))
 
     part-is : (j : ℕ) → j < nodeCount r → bytesOf (payloadWords version nodes payload w order offsets j) ≡ payloadOut r olds kept (oldOf olds j)
     unfolding payloadWords
@@ -174,6 +168,6 @@ module _ (s : Sections) (version : ℕ) (nodes payload w : List ℕ) (order offs
               arith,
               join-length (nodeCount r) (λ m. nodeTexts r (oldOf olds m)),
               sum-ext (nodeCount r) (λ m. length (nodeTexts r (oldOf olds m))) (λ m. textsAt version nodes payload (getD w (order + m) 0))
-                  (λ m k. sym (ap (textsAt version nodes payload) (q m k) ∙ texts-at p (oldOf olds m) (below m k))),
+                  (λ m k. sym (ap (textsAt version nodes payload) (q m k) ∙ texts-at r (oldOf olds m) (tables r p .fields _ (below m k)))),
             );
       })

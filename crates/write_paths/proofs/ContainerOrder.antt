@@ -5,12 +5,11 @@ use mathlib.Core.List.{List, [], _∷_, _++_, map}
 use mathlib.Core.Bool.{Bool, true, false, cond}
 use native.Mathlib.Omega.{arith}
 use native.Mathlib.Numerals.{add-one}
-use native.Mathlib.Decide.{decLt}
-use lib.ListN.{length, getD, List·getD-append}
-use lib.Seq.{getD-append-seam, ext-getD}
+use lib.ListN.{length, getD}
+use lib.Seq.{ext-getD}
 use lib.Dec.{eqb}
 use Rattle.laws.specs.Counted.{allOf, joinOf, those}
-use Rattle.laws.proofs.Members.{All, all-join, length-join}
+use Rattle.laws.proofs.Members.{All, all-join, length-join, get-join}
 use Rattle.laws.specs.Sorted.{insert, isort}
 use Rattle.laws.proofs.Sorted.{all-isort}
 use Rattle.texts.specs.Text.{before, byKey}
@@ -83,20 +82,6 @@ sort-map k g (x ∷ xs) = insert-map k g x (isort (byKey (λ a. k (g a))) xs) �
 
 -- ---- the numbers below n, as names of a list's places
 
-pub join-at : (n : ℕ) (g : ℕ → ℕ) (i : ℕ) → i < n → getD (joinOf n (λ j. g j ∷ [])) i 0 ≡ g i
-unfolding joinOf
-join-at zero g i h = absurd (omega arith)
-join-at (suc n) g i h = go (decLt i n) (join-at n g i)
-  where
-    before-last : List ℕ
-    before-last = joinOf n (λ j. g j ∷ [])
-
-    go : Dec (i < n) → (i < n → getD before-last i 0 ≡ g i) → getD (before-last ++ (g n ∷ [])) i 0 ≡ g i
-    go (yes l) r = List·getD-append before-last (g n ∷ []) 0 i (omega (arith, length-join n g)) ∙ r l
-    go (no l) r =
-        let e : i ≡ n = omega arith in
-        ap (λ (k : ℕ). getD (before-last ++ (g n ∷ [])) k 0) (e ∙ sym (length-join n g)) ∙ getD-append-seam before-last (g n) [] 0 ∙ ap g (sym e)
-
 up-join : (n : ℕ) → joinOf n (λ i. i ∷ []) ≡ upFrom 0 n
 unfolding joinOf upFrom
 up-join zero = refl
@@ -119,7 +104,7 @@ names-map : (c : List ℕ) → map (λ a. getD c a 0) (upFrom 0 (length c)) ≡ 
 names-map c =
     ap (map (λ a. getD c a 0)) (sym (up-join (length c))) ∙ through (length c) (λ a. getD c a 0)
     ∙ ext-getD 0 (joinOf (length c) (λ a. getD c a 0 ∷ [])) c (length-join (length c) (λ a. getD c a 0))
-    (λ i h. join-at (length c) (λ a. getD c a 0) i (omega (arith, length-join (length c) (λ a. getD c a 0))))
+    (λ i h. get-join 0 (length c) (λ a. getD c a 0) i (omega (arith, length-join (length c) (λ a. getD c a 0))))
 
 all-below : (P : ℕ → Type 0) (n : ℕ) → ((i : ℕ) → i < n → P i) → All P (upFrom 0 n)
 all-below P n h = rw (← up-join n) (all-join P n (λ i. i) h)

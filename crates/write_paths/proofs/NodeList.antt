@@ -5,34 +5,24 @@ use mathlib.Core.List.{List, [], _∷_}
 use mathlib.Core.Bool.{Bool, true, false, false≢true}
 use native.Mathlib.Omega.{arith}
 use lib.ListN.{length, getD, take, drop, length-take}
-use lib.Seq.{sets, getD-take, getD-drop, drop-drop, take-at, ext-getD, length-sets}
+use lib.Seq.{sets, getD-take, take-at, ext-getD, length-sets}
 use Rattle.laws.specs.Counted.{joinOf, allOf}
-use Rattle.laws.proofs.Members.{length-join, all-of, all-so, all-ext}
+use Rattle.laws.proofs.Flags.{all-at, all-of}
+use Rattle.laws.proofs.Lists.{drop-more}
+use Rattle.laws.proofs.Members.{length-join, get-join, all-ext}
 use Rattle.laws.specs.Sorted.{isort}
 use Rattle.texts.specs.Text.{before, rising, byKey}
 use Rattle.write_sorting.specs.Sorted.{upFrom, part}
+use Rattle.write_sorting.proofs.MergeInPlace.{getD-later}
 use Rattle.draft.specs.declared.layout.Layout.{Layout}
 use Rattle.write_text_keys.specs.Keys.{keyOf, keyIn}
 use Rattle.write_paths.specs.Arranged.{sortedNames, Arranged}
 use Rattle.write_paths.proofs.WordLoop.{sets-past, sets-before, sets-at, sets-drop}
-use Rattle.write_paths.proofs.ContainerOrder.{join-at}
-
--- lists that agree from a place on
-pub same-later : (at i : ℕ) (v w : List ℕ) → at ≤ i → drop at v ≡ drop at w → getD v i 0 ≡ getD w i 0
-same-later at i v w h e =
-    let there : (l : List ℕ) → getD l i 0 ≡ getD (drop at l) (i - at) 0 = λ l. sym (getD-drop at l (i - at) 0 ∙ ap (λ (k : ℕ). getD l k 0) (omega arith)) in
-    there v ∙ ap (λ (l : List ℕ). getD l (i - at) 0) e ∙ sym (there w)
-
-pub drop-later : (a b : ℕ) (v w : List ℕ) → a ≤ b → drop a v ≡ drop a w → drop b v ≡ drop b w
-drop-later a b v w h e =
-    let sum : a + (b - a) ≡ b = omega arith in
-    let there : (l : List ℕ) → drop b l ≡ drop (b - a) (drop a l) = λ l. sym (drop-drop (b - a) a l ∙ ap (λ (k : ℕ). drop k l) sum) in
-    there v ∙ ap (drop (b - a)) e ∙ sym (there w)
 
 -- ---- texts that rise
 
 pub all-less : (m n : ℕ) (t : ℕ → Bool) → m ≤ n → allOf n t ≡ true → allOf m t ≡ true
-all-less m n t h e = all-so m t (λ i k. all-of n t e i (omega arith))
+all-less m n t h e = all-of m t (λ i k. all-at n t e i (omega arith))
 
 -- of place i and the one before it, by their names x and y
 pub rises-at : (key : ℕ → List ℕ) (w : List ℕ) (i x y : ℕ) (b : Bool) → 1 ≤ i → x ≡ getD w (i - 1) 0 → y ≡ getD w i 0 → b ≡ before (key x) (key y)
@@ -51,7 +41,7 @@ module _ (w₀ : List ℕ) (found at list : ℕ) (room : found + found ≤ at) (
     numbered-front = let e : found - 0 ≡ found = omega arith in ap (λ (k : ℕ). take k w₁) (sym e) ∙ numbered ∙ ap (upFrom 0) e
 
     pub numbered-behind : drop at w₁ ≡ drop at w₀
-    numbered-behind = drop-later found at w₁ w₀ (omega arith) rest
+    numbered-behind = drop-more found at w₁ w₀ (omega arith) rest
 
   -- they are sorted, which leaves what is behind
   module _ (w₂ sorted : List ℕ) (front : take found w₂ ≡ sorted) (behind : drop at w₂ ≡ drop at w₀) (long : length w₂ ≡ length w₀) where
@@ -73,17 +63,17 @@ module _ (w₀ : List ℕ) (found at list : ℕ) (room : found + found ≤ at) (
           ∙ sets-drop (joinOf found (λ i. getD w₃ (found + i) 0 ∷ [])) w₃ list (list + found) (omega (arith, length-join found (λ i. getD w₃ (found + i) 0)))
           ∙ ap (drop (list + found)) gathered
           ∙ sets-drop (joinOf found (λ i. getD w₂ (list + getD w₂ i 0) 0 ∷ [])) w₂ found (list + found)
-          (omega (arith, length-join found (λ i. getD w₂ (list + getD w₂ i 0) 0))) ∙ drop-later at (list + found) w₂ w₀ (omega arith) behind
+          (omega (arith, length-join found (λ i. getD w₂ (list + getD w₂ i 0) 0))) ∙ drop-more at (list + found) w₂ w₀ (omega arith) behind
 
       pub settled-at : (i : ℕ) → i < found → getD w₄ (list + i) 0 ≡ getD w₀ (list + getD sorted i 0) 0
       settled-at i h =
           ap (λ (l : List ℕ). getD l (list + i) 0) settled
           ∙ sets-at (joinOf found (λ j. getD w₃ (found + j) 0 ∷ [])) w₃ list i (omega (arith, length-join found (λ j. getD w₃ (found + j) 0)))
           (omega (arith, long₃, length-join found (λ j. getD w₃ (found + j) 0)))
-          ∙ join-at found (λ j. getD w₃ (found + j) 0) i h ∙ ap (λ (l : List ℕ). getD l (found + i) 0) gathered
+          ∙ get-join 0 found (λ j. getD w₃ (found + j) 0) i h ∙ ap (λ (l : List ℕ). getD l (found + i) 0) gathered
           ∙ sets-at (joinOf found (λ j. getD w₂ (list + getD w₂ j 0) 0 ∷ [])) w₂ found i (omega (arith, length-join found (λ j. getD w₂ (list + getD w₂ j 0) 0)))
           (omega (arith, long, length-join found (λ j. getD w₂ (list + getD w₂ j 0) 0)))
-          ∙ join-at found (λ j. getD w₂ (list + getD w₂ j 0) 0) i h ∙ same-later at (list + getD w₂ i 0) w₂ w₀ (omega arith) behind
+          ∙ get-join 0 found (λ j. getD w₂ (list + getD w₂ j 0) 0) i h ∙ getD-later at (list + getD w₂ i 0) w₂ w₀ behind (omega arith)
           ∙ ap (λ (x : ℕ). getD w₀ (list + x) 0) (sorted-at i h)
 
 -- ---- the whole sort
@@ -124,7 +114,7 @@ module _ (v : ℕ) (nodes strings : List ℕ) (l : Layout) (w₀ w₁ w₂ : Lis
         record {
           answer = sym e ∙ answer;
           nodes = λ z. absurd (false≢true z);
-          behind = drop-later (l .at) (list + found) w₂ w₀ (omega arith) (behind ∙ behind₁);
+          behind = drop-more (l .at) (list + found) w₂ w₀ (omega arith) (behind ∙ behind₁);
         }
 
     pub arranged : r ≡ true → (w₃ w₄ : List ℕ) → w₃ ≡ sets w₂ found (joinOf found (λ i. getD w₂ (list + getD w₂ i 0) 0 ∷ []))

@@ -8,7 +8,9 @@ use lib.ListN.{length, getD, take, drop, length-map, length-append}
 use lib.Seq.{sets, getD-take, getD-drop, length-sets}
 use lib.Dec.{eqb}
 use Rattle.laws.specs.Counted.{allOf, those}
-use Rattle.laws.proofs.Members.{All, all-of, all-append, all-map}
+use Rattle.laws.proofs.Flags.{all-at}
+use Rattle.laws.proofs.Lists.{drop-more}
+use Rattle.laws.proofs.Members.{All, all-append, all-map}
 use Rattle.laws.specs.Sorted.{isort}
 use Rattle.laws.proofs.Sorted.{length-isort}
 use Rattle.texts.specs.Text.{before, rising, byKey}
@@ -29,7 +31,7 @@ use Rattle.write_paths.specs.Arranged.{Measured, sortedNames, Arranged, 
 use Rattle.write_paths.proofs.Rule.{all-not, those-at, unplaced}
 use Rattle.write_paths.proofs.WordLoop.{sets-at, sets-drop}
 use Rattle.write_paths.proofs.ContainerOrder.{listed, names-length, sorted-below, paths-pass, paths-order, paths-refuse}
-use Rattle.write_paths.proofs.NodeList.{same-later, drop-later}
+use Rattle.write_sorting.proofs.MergeInPlace.{getD-later}
 
 -- ---- what the loops need
 
@@ -174,8 +176,8 @@ module _ (s : Sections) (olds : List ℕ) (v : ℕ) (nodes strings : List ℕ) (
 
       behind-tables : drop (table + nodeCount s + nodeCount s) w₃ ≡ drop (table + nodeCount s + nodeCount s) w₀
       behind-tables =
-          drop-later (list + found) (table + nodeCount s + nodeCount s) w₃ w₂ (omega (arith, few)) (arranged .behind)
-          ∙ drop-later (table + count + count) (table + nodeCount s + nodeCount s) w₂ w₁ (omega (arith, ec)) (measured .high)
+          drop-more (list + found) (table + nodeCount s + nodeCount s) w₃ w₂ (omega (arith, few)) (arranged .behind)
+          ∙ drop-more (table + count + count) (table + nodeCount s + nodeCount s) w₂ w₁ (omega (arith, ec)) (measured .high)
           ∙ ap (drop (table + nodeCount s + nodeCount s)) words
           ∙ sets-drop (containersIn v nodes w₀ order count) w₀ list (table + nodeCount s + nodeCount s) (omega (arith, few, size))
 
@@ -189,7 +191,7 @@ module _ (s : Sections) (olds : List ℕ) (v : ℕ) (nodes strings : List ℕ) (
       module _ (yes′ : r ≡ true) where
         rise : Rises (byKey key) (sortedNames key (length boxes))
         rise i h =
-            all-of (length boxes) (rising (λ j. key (getD (sortedNames key (length boxes)) j 0)))
+            all-at (length boxes) (rising (λ j. key (getD (sortedNames key (length boxes)) j 0)))
             (ap (λ (n : ℕ). allOf n (rising (λ j. key (getD (sortedNames key n) j 0)))) (sym found-all) ∙ sym tests ∙ yes′) (suc i)
             (omega (arith, length-isort (byKey key) (upFrom 0 (length boxes)), names-length (length boxes)))
 
@@ -223,8 +225,8 @@ module _ (s : Sections) (olds : List ℕ) (v : ℕ) (nodes strings : List ℕ) (
         kept-long : (x : ℕ) → longOf table w₃ x ≡ longOf table w₂ x
         kept-long x =
             rw (
-              same-later (list + found) (table + x + x) w₃ w₂ (omega (arith, few)) (arranged .behind),
-              same-later (list + found) (table + x + x + 1) w₃ w₂ (omega (arith, few)) (arranged .behind),
+              getD-later (list + found) (table + x + x) w₃ w₂ (arranged .behind) (omega (arith, few)),
+              getD-later (list + found) (table + x + x + 1) w₃ w₂ (arranged .behind) (omega (arith, few)),
             ) refl
 
         pub indexed : Indexes s olds l w₀ w₃ (Paths found)

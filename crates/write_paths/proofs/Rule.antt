@@ -13,7 +13,7 @@ use Rattle.laws.specs.Lists.{placeIn}
 use Rattle.laws.specs.Refusal.{unless, _▸_, firstOf}
 use Rattle.laws.proofs.First.{pass, fail, then, first-of}
 use Rattle.laws.proofs.Flags.{all-fails}
-use Rattle.laws.proofs.Members.{all-of, all-so}
+use Rattle.laws.proofs.Flags.{all-at, all-of}
 use Rattle.texts.specs.Text.{same}
 use Rattle.texts.proofs.Text.{same-self, unlike-same}
 use Rattle.image.specs.Sections.{Sections, nodeCount, isContainer}
@@ -251,9 +251,9 @@ module _ (s : Sections) where
           earlier p j l false q = refl
 
           go : (b : Bool) → isContainer s i ≡ b → (not b || allOf i (λ j. not (isContainer s j) || not (same (canonicalPath s j) (canonicalPath s i)))) ≡ true
-          go true p = all-so i _ (λ j l. earlier p j l (isContainer s j) refl)
+          go true p = all-of i _ (λ j l. earlier p j l (isContainer s j) refl)
           go false p = refl
 
       pub once : pathsRule s ≡ 0
       unfolding pathsRule pathRule
-      once = first-of (nodeCount s) (pathRule s) (λ i h. then _ _ (pass _ 22 (all-of (nodeCount s) (placed s) all i h)) (pass _ 22 (fresh i h)))
+      once = first-of (nodeCount s) (pathRule s) (λ i h. then _ _ (pass _ 22 (all-at (nodeCount s) (placed s) all i h)) (pass _ 22 (fresh i h)))

@@ -45,7 +45,7 @@ use Rattle.write_plan.specs.declared.Plan.the-variants.{Ready, Refused}
 use Rattle.write_plan.specs.Shared.{SameTexts}
 use Rattle.write_plan.specs.Planned.{layoutOf, layoutWith, plannedLayout, planRule, Prepared, PlanOf, StoredPlan}
 use Rattle.write_plan.proofs.SharedTexts.{table-same, long-same, key-same}
-use Rattle.write_paths.proofs.NodeList.{same-later}
+use Rattle.write_sorting.proofs.MergeInPlace.{getD-later}
 use Rattle.write_plan.proofs.Premises.{once}
 use Rattle.write_plan.proofs.UseTexts.{texts-same, uses-long, tables-put, put-behind, boxes-long, boxes′, longs′, key-use, paths-rise}
 
@@ -173,7 +173,7 @@ module _ (version : ℕ) (ns cs ms ds is ps ss : List ℕ) (p : tablesRule (draf
 
       -- the numbers are where they were
       late : (i : ℕ) → layoutOf s .order ≤ i → getD w₂ i 0 ≡ getD w₁ i 0
-      late i h = same-later (layoutOf s .at + layoutOf s .lengths + n + n) i w₂ w₁ (omega (arith, laid .sizes)) (sorted .behind)
+      late i h = getD-later (layoutOf s .at + layoutOf s .lengths + n + n) i w₂ w₁ (sorted .behind) (omega (arith, laid .sizes))
 
       order-words : wordsFrom w₂ (layoutOf s .order) n ≡ numbering s
       order-words =

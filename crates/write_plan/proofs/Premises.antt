@@ -4,7 +4,7 @@ use mathlib.Core.Path.{_≡_, sym, ap, _∙_}
 use mathlib.Core.List.{List}
 use native.Mathlib.Omega.{arith}
 use borrow.Author.Tests.{eqb-true}
-use Rattle.laws.proofs.Members.{all-at}
+use Rattle.laws.proofs.Members.{all-has}
 use Rattle.image.specs.Sections.{Sections, nodeCount, nodeWord}
 use Rattle.records.proofs.PassedRules.{ranges}
 use Rattle.tree.specs.Tree.{readWalk}
@@ -38,7 +38,7 @@ module _ (s : Sections) (p : tablesRule s ≡ 0) (q : reachRule s ≡ 0) where
         climbs =
             λ x h.
             tree-climbs s (tables s p .some)
-            (right-tree s (entries-counts s (tables s p)) (shape s r .entries) (λ i k. all-at (Reached s) i (readWalk s .seen) (reached s q i k) (read-reached s))) x h;
+            (right-tree s (entries-counts s (tables s p)) (shape s r .entries) (λ i k. all-has (Reached s) i (readWalk s .seen) (reached s q i k) (read-reached s))) x h;
         named = λ x h c. ranges s x c (tables s p .fields x h) .name;
       }
 

@@ -6,10 +6,10 @@ use mathlib.Core.Bool.{true, cond}
 use native.Mathlib.Omega.{arith}
 use native.Mathlib.Decide.{decLt}
 use lib.ListN.{length, getD, take, drop, length-append, length-map, List·getD-append}
-use lib.Seq.{getD-append-add, getD-drop, drop-drop, drop-at, length-take-le, ext-getD, getD-append-seam}
+use lib.Seq.{getD-append-add, getD-drop, drop-drop, drop-at, length-take-le, ext-getD}
 use Rattle.laws.specs.Counted.{joinOf, sumOf}
 use Rattle.laws.specs.Sorted.{isort}
-use Rattle.laws.proofs.Members.{those-length}
+use Rattle.laws.proofs.Members.{length-join, get-join, those-length}
 use Rattle.laws.proofs.Sorted.{all-isort, length-isort}
 use Rattle.records.specs.Records.{containerOf}
 use Rattle.texts.specs.Text.{before, byKey}
@@ -76,33 +76,10 @@ module _ (s : Sections) (p : tablesRule s ≡ 0) (q : reachRule s ≡ 0) (free :
 
 -- ---- lists of texts
 
-texts-at : (n : ℕ) (g : ℕ → List ℕ) (i : ℕ) → i < n → getD (joinOf n (λ j. g j ∷ [])) i [] ≡ g i
-unfolding joinOf
-texts-at zero g i h = absurd (omega arith)
-texts-at (suc n) g i h = go (decLt i n) (texts-at n g i)
-  where
-    front : List (List ℕ)
-    front = joinOf n (λ j. g j ∷ [])
-
-    long : (m : ℕ) → length (joinOf m (λ j. g j ∷ [])) ≡ m
-    long zero = refl
-    long (suc m) = length-append (joinOf m (λ j. g j ∷ [])) (g m ∷ []) ∙ omega (arith, long m)
-
-    go : Dec (i < n) → (i < n → getD front i [] ≡ g i) → getD (front ++ (g n ∷ [])) i [] ≡ g i
-    go (yes l) r = List·getD-append front (g n ∷ []) [] i (omega (arith, long n)) ∙ r l
-    go (no l) r =
-        let e : i ≡ n = omega arith in
-        ap (λ (k : ℕ). getD (front ++ (g n ∷ [])) k []) (e ∙ sym (long n)) ∙ getD-append-seam front (g n) [] [] ∙ ap g (sym e)
-
-texts-long : (m : ℕ) (g : ℕ → List ℕ) → length (joinOf m (λ j. g j ∷ [])) ≡ m
-unfolding joinOf
-texts-long zero g = refl
-texts-long (suc m) g = length-append (joinOf m (λ j. g j ∷ [])) (g m ∷ []) ∙ omega (arith, texts-long m g)
-
 pub texts-same : (n : ℕ) (key : ℕ → List ℕ) (us : List (List ℕ)) → length us ≡ n → ((a : ℕ) → a < n → key a ≡ getD us a []) → textsOf key n ≡ us
 texts-same n key us e h =
-    ext-getD [] (joinOf n (λ k. key k ∷ [])) us (texts-long n key ∙ sym e)
-    (λ i l. texts-at n key i (omega (arith, texts-long n key)) ∙ h i (omega (arith, texts-long n key)))
+    ext-getD [] (joinOf n (λ k. key k ∷ [])) us (length-join n key ∙ sym e)
+    (λ i l. get-join [] n key i (omega (arith, length-join n key)) ∙ h i (omega (arith, length-join n key)))
 
 map-text : (g : ℕ → List ℕ) (xs : List ℕ) (i : ℕ) → i < length xs → getD (map g xs) i [] ≡ g (getD xs i 0)
 map-text g [] i h = absurd (omega arith)

@@ -11,6 +11,7 @@ use lib.Dec.{ltb}
 use lib.ListN.{length, take, drop, set, getD, length-set, length-append, length-drop, List·getD-append, drop-of-length-le}
 use lib.Seq.{drop-cons, take-suc-set, take-all, take-add, drop-drop, getD-drop, drop-set-lt, length-take-le, take-at, drop-at, paste, paste-suc, length-paste, getD-take}
 use Rattle.laws.specs.Sorted.{isort}
+use Rattle.laws.proofs.Lists.{drop-more}
 use Rattle.write_sorting.specs.Sorted.{merge, rightFirst, takesRight, Strict, part, Ordered}
 use Rattle.write_sorting.proofs.Laws.{cases, differ, merge-nil, sort-append, first-left, first-right}
 use Rattle.write_sorting.proofs.OrderedLists.{ordered-isort, merge-ordered}
@@ -40,16 +41,7 @@ part-take m n x h k =
 pub take-parts : (m n : ℕ) (x : List ℕ) → m ≤ n → take m x ++ part m n x ≡ take n x
 take-parts m n x h = let q : m + (n - m) ≡ n = omega arith in sym (take-add m (n - m) x) ∙ ap (λ (p : ℕ). take p x) q
 
--- two lists that are the same from j on are so from each later place on, and at each
-pub drop-later : (j p : ℕ) (x w : List ℕ) → drop j x ≡ drop j w → j ≤ p → drop p x ≡ drop p w
-drop-later j p x w e h =
-    let q : p ≡ j + (p - j) = omega arith in
-    ap (λ (n : ℕ). drop n x) q
-    ∙ sym (drop-drop (p - j) j x)
-    ∙ ap (drop (p - j)) e
-    ∙ drop-drop (p - j) j w
-    ∙ ap (λ (n : ℕ). drop n w) (sym q)
-
+-- two lists that are the same from j on are so at each later place
 pub getD-later : (j p : ℕ) (x w : List ℕ) → drop j x ≡ drop j w → j ≤ p → getD x p 0 ≡ getD w p 0
 getD-later j p x w e h =
     let q : p ≡ j + (p - j) = omega arith in
@@ -85,7 +77,7 @@ module _ (lt : ℕ → ℕ → Bool) (w : List ℕ) (m n : ℕ) (hm : m ≤ n) (
 
   -- what lies behind stays
   pub placing-behind : (x : List ℕ) (i j k : ℕ) → Placing lt w m n x i j k → (p : ℕ) → n ≤ p → drop p x ≡ drop p w
-  placing-behind x i j k P p h = drop-later j p x w (P .kept) (omega arith)
+  placing-behind x i j k P p h = drop-more j p x w (omega arith) (P .kept)
 
   takes-in : (x : List ℕ) (i j : ℕ) → takesRight lt x n i j ≡ true → j < n
   unfolding takesRight
@@ -117,7 +109,7 @@ module _ (lt : ℕ → ℕ → Bool) (w : List ℕ) (m n : ℕ) (hm : m ≤ n) (
         within = omega arith;
         count = omega arith;
         room = length-set x k (getD x j 0) ∙ P .room;
-        kept = rw add-one (drop-set-lt (suc j) x k (getD x j 0) (omega arith) ∙ drop-later j (suc j) x w (P .kept) (omega arith));
+        kept = rw add-one (drop-set-lt (suc j) x k (getD x j 0) (omega arith) ∙ drop-more j (suc j) x w (omega arith) (P .kept));
         rest = P .rest
             ∙ rw (add-one k, add-one j, take-suc-set x k (getD x j 0) b, append-assoc)
             (ap (λ (l : List ℕ). take k x ++ l) (rw (t, v) (first-right lt (part (n + i) (n + m) w) (getD w j 0) (part (suc j) n w) f)));

@@ -6,9 +6,10 @@ use mathlib.Core.Bool.{Bool, true, false, cond, _&&_}
 use native.Mathlib.Omega.{arith}
 use lib.Dec.{eqb, leb, ltb}
 use lib.ListN.{length, getD, take, drop, length-take, length-drop}
-use lib.Seq.{take-all, getD-drop}
+use lib.Seq.{getD-drop}
 use borrow.Author.Tests.{lt-ltb, le-ltb, le-leb, leb-true, eqb-true}
 use Rattle.laws.proofs.Flags.{both-true}
+use Rattle.laws.proofs.Lists.{to-end}
 use Rattle.texts.specs.Text.{before}
 use Rattle.texts.proofs.Text.{before-self}
 use Rattle.image.specs.Sections.{partAt, textOrEmpty}
@@ -16,10 +17,6 @@ use Rattle.write_text_keys.specs.declared.Cursor.{Cursor}
 use Rattle.write_text_keys.specs.Keys.{atEnd, lastByte, stepBack, readBack, back, decided, alike, nodeOf, longOf, keyOf, keyLength, endOf}
 use Rattle.write_text_keys.proofs.Comparison.{decided-last, decided-self, before-shorter, before-longer}
 use Rattle.write_text_keys.proofs.BackwardReads.{read-length, read-front, read-one, read-alike, piece-read}
-
--- the part from a word on
-pub tail-part : (at : ℕ) (w : List ℕ) → take (length w - at) (drop at w) ≡ drop at w
-tail-part at w = take-all (length w - at) (drop at w) (omega (arith, length-drop at w))
 
 -- ---- texts
 
@@ -170,11 +167,11 @@ module _ (v : ℕ) (nodes strings : List ℕ) (texts paths lengths at : ℕ) (w 
   pub text-written : (text : List ℕ) (a : ℕ) → a < texts
       → text ≡ textOrEmpty strings (getD (take (length w - at) (drop at w)) (a + a) 0) (getD (take (length w - at) (drop at w)) (a + a + 1) 0)
       → keyOf v nodes strings texts paths lengths (drop at w) a ≡ text
-  text-written text a h e = sym (e ∙ rw (tail-part at w, text-key v nodes strings texts paths lengths (drop at w) a h))
+  text-written text a h e = sym (e ∙ rw (to-end at w, text-key v nodes strings texts paths lengths (drop at w) a h))
 
   pub path-written : (a x n : ℕ) (c : Cursor) → texts ≤ a → x ≡ nodeOf texts paths (take (length w - at) (drop at w)) a → c ≡ atEnd v nodes x
       → n ≡ longOf lengths (take (length w - at) (drop at w)) x
       → (keyOf v nodes strings texts paths lengths (drop at w) a ≡ readBack n v nodes strings c) × (length (keyOf v nodes strings texts paths lengths (drop at w) a) ≡ n)
   path-written a x n c h e q l =
-      let p = path-key v nodes strings texts paths lengths (drop at w) a x n c h (rw tail-part at e) q (rw tail-part at l) in
+      let p = path-key v nodes strings texts paths lengths (drop at w) a x n c h (rw to-end at e) q (rw to-end at l) in
       (p, ap length p ∙ read-length v nodes strings n c)

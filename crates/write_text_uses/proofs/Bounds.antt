@@ -150,7 +150,7 @@ module _ (s : Sections) where
             used-up s (t .used) .payload,
           )
 
-      named-exact : length (namedUses s order) ≡ namedCount s
+      pub named-exact : length (namedUses s order) ≡ namedCount s
       unfolding namedTexts
       named-exact =
           join-exact (nodeCount s) (λ j. namedTexts s (oldOf order j)) (λ j. numberOfNamed s (oldOf order j))

@@ -9,6 +9,7 @@ use mathlib.Core.Bool.{cond}
 use Rattle.image.specs.declared.NodeRecord.{NodeRecord}
 use Rattle.image.specs.Entries.{recordOf}
 use Rattle.laws.specs.Counted.{joinOf}
+use Rattle.laws.proofs.Members.{length-join}
 use Rattle.words.specs.Words.{bytesOf}
 use Rattle.image.specs.Sections.{Sections, nodeWords, nodeCount, nodeWord, childWord, f}
 use Rattle.records.specs.Records.{numberOfChildren}
@@ -19,7 +20,7 @@ use Rattle.draft.specs.Numbering.{oldOf}
 use Rattle.draft.proofs.Rules.{tables, child-at}
 use Rattle.draft_image.specs.Written.{childrenOut}
 use Rattle.draft_image.specs.Ready.{OldsAt, NewsAt}
-use Rattle.draft_image.proofs.Joins.{join-len, ones-len, join-same}
+use Rattle.draft_image.proofs.Joins.{join-len, join-same}
 use Rattle.words.specs.Output.{putAt, over}
 use Rattle.words.proofs.EntryLoop.{Running, run-start, run-room, run-next, run-front}
 use Rattle.write_tree_sections.specs.Held.{childWords, childWordsOf, childrenInOrder}
@@ -27,7 +28,7 @@ use Rattle.write_numbering.specs.Numbers.{newIn}
 use Rattle.write_numbering.proofs.DraftWords.{retold, told, new-is}
 
 pub child-words-length : (children w : List ℕ) (new first count : ℕ) → length (childWords children w new first count) ≡ count
-child-words-length children w new first count = ones-len count (λ j. newIn w new (getD children (first + j) 0))
+child-words-length children w new first count = length-join count (λ j. newIn w new (getD children (first + j) 0))
 
 pub words-of-length : (version : ℕ) (nodes children w : List ℕ) (new i : ℕ) → length (childWordsOf version nodes children w new i) ≡ numberOfChildren (nodesOnly version nodes []) i
 unfolding childWordsOf

@@ -14,14 +14,16 @@ use Rattle.laws.proofs.Flags.{both-true}
 use Rattle.laws.proofs.Members.{sum-ext, sum-add}
 use Rattle.words.specs.Words.{NONE, wordAt, wordIn}
 use Rattle.words.proofs.Words.{word-in}
+use Rattle.image.specs.declared.NodeRecord.{NodeRecord}
 use Rattle.image.specs.Entries.{nodeIn}
 use Rattle.image.specs.Sections.{Sections, nodeCount, parentOf, placeOf, tagOf, f, textAt, absent, goodText, goodOptional, inside}
+use Rattle.image.proofs.Entries.{node-record}
 use Rattle.image.proofs.Parts.{optional-present, optional-half}
-use Rattle.records.specs.Fields.{Kind, Container, Choice, Command, Divert, Glue, Operator, Tag, BoolValue, IntValue, FloatValue, StringValue, ListValue, TargetValue, PointerValue, Assignment, Reference, Void, Unknown, fields}
-use Rattle.records.specs.Records.{numberOfChildren, numberOfNamed, payloadLengthOf, firstField, listWord, listItems, listOrigins, listItemWord, listOriginWord}
+use Rattle.records.specs.Fields.{Kind, Container, Choice, Command, Divert, Glue, Operator, Tag, BoolValue, IntValue, FloatValue, StringValue, ListValue, TargetValue, PointerValue, Assignment, Reference, Void, Unknown, fields, kindOf}
+use Rattle.records.specs.Records.{numberOfChildren, numberOfNamed, payloadLengthOf, firstField, fieldsRule, listWord, listItems, listOrigins, listItemWord, listOriginWord}
 use Rattle.records.proofs.PassedRules.{node-of, text-passed, optional-passed, command-passed, operator-passed, node-passed, optional-node-passed, container-passed, optional-container-passed, payload-passed, ListPassed, list-passed}
 use Rattle.draft.specs.Numbering.{newOf}
-use Rattle.draft_image.specs.Strings.{textIf, listTexts, fieldTexts, offsetOf}
+use Rattle.draft_image.specs.Strings.{textIf, listTexts, fieldTexts, nodeTexts, offsetOf}
 use Rattle.draft_image.specs.Written.{startIn, fieldWords, putFields}
 use Rattle.draft_image.specs.Ready.{NewsAt, OffsetsAt}
 use Rattle.draft_image.proofs.Joins.{join-length, sum-const}
@@ -29,6 +31,7 @@ use Rattle.draft_image.proofs.Offsets.{offset-first, offsets-left, offsets-righ
 use Rattle.write_numbering.specs.Numbers.{newIn}
 use Rattle.write_numbering.proofs.DraftWords.{new-is, new-none, text-length}
 use Rattle.write_tree_sections.specs.declared.kinds.Starts.{Starts}
+use Rattle.write_tree_sections.specs.Summed.{textsAt}
 use Rattle.write_tree_sections.specs.Encoded.{textCount, optionalOffset, recordWords, recordByKind, listTextsIn, textsBy}
 
 -- ---- texts
@@ -236,3 +239,10 @@ module _ (s : Sections) (i : ℕ) where
       omega (arith, one (f s i 2) (f s i 3) (optional-passed s i 2 (both _ _ (both _ _ p .1) .0)), length-append path [])
   texts-count Void p = refl
   texts-count Unknown p = refl
+
+  -- the texts of the node, as the code counts them
+  pub texts-at : fieldsRule s i ≡ 0 → textsAt (s .version) (s .nodes) (s .payload) i ≡ length (nodeTexts s i)
+  unfolding textsAt
+  texts-at p =
+      ap (λ (x : NodeRecord). textsBy (s .payload) x (kindOf (x .tag))) (node-record s (s .version) (s .nodes) i refl refl)
+      ∙ texts-count (kindOf (tagOf s i)) p

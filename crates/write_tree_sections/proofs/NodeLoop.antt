@@ -40,7 +40,7 @@ use Rattle.write_tree_sections.specs.declared.kinds.Starts.{Starts}
 use Rattle.write_tree_sections.specs.Encoded.{recordWords, recordByKind, textsBy}
 use Rattle.write_tree_sections.specs.Summed.{childCountIn, namedCountIn, payloadLengthIn, StartsFit, startsAfter, textsAt, startsBy, usedBy, NodesFit}
 use Rattle.write_tree_sections.proofs.RecordWidth.{record-length, more-none}
-use Rattle.write_tree_sections.proofs.FieldWords.{fielded, texts-count}
+use Rattle.write_tree_sections.proofs.FieldWords.{fielded, texts-at}
 
 -- ---- the starts after a node
 
@@ -205,16 +205,10 @@ module _ (s : Sections) (version : ℕ) (nodes payload w : List ℕ) (l : Layout
         sum-ext j (λ m. a (getD w (l .order + m) 0)) (λ m. b (oldOf order m)) (λ m k. e (getD w (l .order + m) 0) ∙ ap b (olds m (omega arith)))
         ∙ ap (λ (k : ℕ). sumOf k (λ m. b (oldOf order m))) (sym (place j h))
 
-    texts-at : (i : ℕ) → i < nodeCount r → textsAt version nodes payload i ≡ length (nodeTexts r i)
-    unfolding textsAt
-    texts-at i h =
-        ap (λ (x : NodeRecord). textsBy payload x (kindOf (x .tag))) (node-record r version nodes i refl refl)
-        ∙ texts-count r i (kindOf (tagOf r i)) (tables r p .fields i h)
-
     used-is : (j : ℕ) → j ≤ nodeCount r → usedBy version nodes w (l .order) payload j ≡ sumOf j (λ m. length (nodeTexts r (oldOf order m)))
     used-is j h =
         sum-ext j (λ m. textsAt version nodes payload (getD w (l .order + m) 0)) (λ m. length (nodeTexts r (oldOf order m)))
-        (λ m k. texts-at (getD w (l .order + m) 0) (below m (omega arith)) ∙ ap (λ (x : ℕ). length (nodeTexts r x)) (olds m (omega arith)))
+        (λ m k. texts-at r (getD w (l .order + m) 0) (tables r p .fields _ (below m (omega arith))) ∙ ap (λ (x : ℕ). length (nodeTexts r x)) (olds m (omega arith)))
 
     -- the root has no parent, and every other node's is a node
     parent-is : (i : ℕ) → i < nodeCount r → newIn w (l .new) (parentOf r i) ≡ newOf order (parentOf r i)

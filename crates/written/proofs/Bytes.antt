@@ -9,7 +9,8 @@ use Rattle.laws.specs.Counted.{joinOf}
 use Rattle.laws.specs.Lists.{Below, flatMap}
 use Rattle.laws.proofs.Members.{All, all-append}
 use Rattle.words.specs.Words.{bytesOf}
-use Rattle.words.proofs.Words.{below-head, below-tail, bytes-below}
+use Rattle.laws.proofs.Lists.{below-head, below-tail}
+use Rattle.words.proofs.Words.{bytes-below}
 use Rattle.texts.specs.Text.{ascii, holds}
 use Rattle.texts.specs.Decimal.{decimal}
 use Rattle.texts.specs.Dots.{dot}

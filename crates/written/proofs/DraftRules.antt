@@ -11,7 +11,7 @@ use borrow.Author.Tests.{eq-eqb, ne-eqb, eqb-true, eqb-false, le-leb, leb-true, 
 use Rattle.laws.specs.Refusal.{unless, _▸_, firstOf}
 use Rattle.laws.proofs.First.{both, then, passed, pass, zero-as, first-all, first-of}
 use Rattle.laws.proofs.Flags.{both-true, all-at, all-of}
-use Rattle.laws.proofs.Members.{all-at as has-all}
+use Rattle.laws.proofs.Members.{all-has}
 use Rattle.words.specs.Words.{NONE, isNone}
 use Rattle.texts.specs.Text.{same}
 use Rattle.texts.proofs.Text.{same-equal, equal-same}
@@ -105,7 +105,7 @@ module _ (s : Sections) where
   -- ---- 20
 
   reached-right : reachRule s ≡ 0 → (i : ℕ) → i < nodeCount s → Reached s i
-  reached-right p i h = has-all (Reached s) i (readWalk s .seen) (reached s p i h) (read-reached s)
+  reached-right p i h = all-has (Reached s) i (readWalk s .seen) (reached s p i h) (read-reached s)
 
   right-reached : tablesRule s ≡ 0 → ((i : ℕ) → i < nodeCount s → Reached s i) → reachRule s ≡ 0
   unfolding reachRule allSeen

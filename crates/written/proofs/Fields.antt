@@ -25,7 +25,7 @@ use Rattle.written.specs.Written.{DraftWords}
 use Rattle.draft_image.proofs.Joins.{sum-below}
 use Rattle.written.proofs.Lists.{not-of}
 use Rattle.tree.proofs.Numbers.{EachOnce, get-below, place-below, get-of-place, place-of-get}
-use Rattle.written.proofs.Header.{image-length}
+use Rattle.draft_image.proofs.Lengths.{image-length}
 use Rattle.written.proofs.Draft.{Taken}
 use Rattle.written.proofs.Texts.{Stored}
 use Rattle.draft_image.proofs.Blocks.{w, put-length, nodes-length, node-count, node-word}

@@ -5,23 +5,26 @@ use mathlib.Core.List.{List, _++_}
 use mathlib.Core.Bool.{true}
 use native.Mathlib.Omega.{arith}
 use native.Mathlib.Nat.{le-trans, mul-le-mul-left}
-use lib.ListN.{length, getD, take, length-append}
+use lib.ListN.{length, getD, take}
 use lib.Seq.{drop-append-add}
 use borrow.Author.Tests.{eq-eqb, le-leb, ne-eqb}
 use Rattle.laws.specs.Counted.{sumOf, joinOf}
 use Rattle.laws.specs.Lists.{Below}
 use Rattle.laws.proofs.First.{pass, then}
-use Rattle.laws.proofs.Members.{and-true, all-so, sum-ext}
+use Rattle.laws.proofs.Flags.{all-of}
+use Rattle.laws.proofs.Members.{and-true, sum-ext}
 use Rattle.words.specs.Words.{wordAt, wordsOf, bytesOf}
 use Rattle.words.proofs.Words.{word-back, words-of-bytes, length-bytes}
 use Rattle.texts.specs.Text.{ascii, orderOf, same}
-use Rattle.checksum.specs.Crc.{checksumOf, crc32}
+use Rattle.checksum.specs.Crc.{checksumOf}
+use Rattle.checksum.proofs.Checksums.{checksum-lt}
 use Rattle.image.specs.Sections.{Sections, nodeWords, textEntryWords, definitionWords, partAt, nodeCount, namedCount, definitionCount, itemCount, indexCount}
 use Rattle.image.specs.Header.{magic, headerLength, version, sectionAt, viewOf, sectionBytes, sectionsBy, sectionsOf, sizes, startBy, sectionRight, laidOut, inkRight, headerRule}
 use Rattle.image.specs.Encoding.{countOf, sectionOut, startOf, bodyOf, headerWith, imageOf}
 use Rattle.image.proofs.Widths.{words-some, size-words}
 use Rattle.load.specs.Load.{checksumRule}
-use Rattle.draft_image.proofs.Joins.{sum-below, join-length, join-part}
+use Rattle.draft_image.proofs.Joins.{sum-below, join-part}
+use Rattle.draft_image.proofs.Lengths.{head-length, image-length}
 use Rattle.written.proofs.Lists.{not-of}
 
 -- one of eight
@@ -37,7 +40,7 @@ eight P a b c d e f g h (suc (suc (suc (suc (suc (suc (suc zero))))))) q = h
 eight P a b c d e f g h (suc (suc (suc (suc (suc (suc (suc (suc k)))))))) q = absurd (omega arith)
 
 -- sections of whole entries, whose words are words and whose bytes fit an image
-pub record Whole (s : Sections) : Type 0 where
+pub record WholeSections (s : Sections) : Type 0 where
   pub versioned : s .version ≡ version
   pub some : zero < nodeCount s
   pub nodes : length (s .nodes) ≡ nodeCount s * nodeWords (s .version)
@@ -55,19 +58,7 @@ pub record Whole (s : Sections) : Type 0 where
 
 -- ---- lengths
 
-head-length : (ink : ℕ) (s : Sections) (c : ℕ) → length (headerWith ink s c) ≡ headerLength
-unfolding headerWith magic ascii bytesOf joinOf
-head-length ink s c = refl
-
-length-with : (ink : ℕ) (s : Sections) (c : ℕ) → length (headerWith ink s c ++ bodyOf s) ≡ startOf s 8
-unfolding bodyOf startOf
-length-with ink s c = length-append (headerWith ink s c) (joinOf 8 (sectionOut s)) ∙ rw (head-length ink s c, join-length 8 (sectionOut s)) refl
-
-pub image-length : (ink : ℕ) (s : Sections) → length (imageOf ink s) ≡ startOf s 8
-unfolding imageOf
-image-length ink s = length-with ink s _
-
-module _ (ink : ℕ) (s : Sections) (o : Whole s) (small : ink < 2 ^ 32) where
+module _ (ink : ℕ) (s : Sections) (o : WholeSections s) (small : ink < 2 ^ 32) where
   section-size : (k : ℕ) → k < 8 → countOf s k * getD (sizes (s .version)) k 0 ≡ length (sectionOut s k)
   unfolding countOf sectionOut sizes
   section-size =
@@ -155,16 +146,12 @@ module _ (ink : ℕ) (s : Sections) (o : Whole s) (small : ink < 2 ^ 32) where
   unfolding imageOf
   count-is k h = count-with _ (bodyOf s) k h
 
-  sum-small : (b : List ℕ) → checksumOf b < 2 ^ 32
-  unfolding checksumOf crc32
-  sum-small b = omega arith
-
   image-words : (same (take 8 (imageOf ink s)) magic ≡ true) × (wordAt (imageOf ink s) 8 ≡ s .version) × (wordAt (imageOf ink s) 12 ≡ ink)
       × (wordAt (imageOf ink s) 16 ≡ startOf s 8) × (wordAt (imageOf ink s) 84 ≡ checksumOf (imageOf ink s))
   unfolding imageOf
   image-words =
       let c = checksumOf (headerWith ink s 0 ++ bodyOf s) in
-      let ws = words-with c (bodyOf s) (sum-small (headerWith ink s 0 ++ bodyOf s)) in
+      let ws = words-with c (bodyOf s) (checksum-lt (headerWith ink s 0 ++ bodyOf s)) in
       (ws .0, ws .1, ws .2, ws .3, ws .4 ∙ sym (sum-with c (bodyOf s)))
 
   -- ---- the sections of the image
@@ -221,7 +208,7 @@ module _ (ink : ℕ) (s : Sections) (o : Whole s) (small : ink < 2 ^ 32) where
   laid-out =
       and-true _ _
       (and-true _ _
-      (all-so 8 _ (λ k h. and-true _ _ (eq-eqb _ _ (offset-is k h ∙ sym (start-by k (omega arith))))
+      (all-of 8 _ (λ k h. and-true _ _ (eq-eqb _ _ (offset-is k h ∙ sym (start-by k (omega arith))))
       (le-leb (startBy (imageOf ink s) (suc k)) (length (imageOf ink s)) (omega (arith, start-by (suc k) h, start-next k, section-end k h, image-length ink s)))))
       (eq-eqb _ _ (start-by 8 (omega arith) ∙ sym (image-length ink s))))
       (not-of _ (ne-eqb (sectionAt (imageOf ink s) 0 .count) 0 (λ e. omega (arith, count-is 0 (omega arith), first-count, o .some))))

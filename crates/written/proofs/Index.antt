@@ -13,7 +13,8 @@ use Rattle.laws.specs.Counted.{sumOf, those}
 use Rattle.laws.specs.Lists.{placeIn}
 use Rattle.laws.specs.Sorted.{insert, isort}
 use Rattle.laws.proofs.First.{pass, then, first-of}
-use Rattle.laws.proofs.Members.{and-true, or-left, all-of, All, all-map, all-append, sum-ext, those-length}
+use Rattle.laws.proofs.Flags.{all-at}
+use Rattle.laws.proofs.Members.{and-true, or-left, All, all-map, all-append, sum-ext, those-length}
 use Rattle.laws.proofs.Sorted.{all-isort, length-isort}
 use Rattle.texts.specs.Text.{before, same, byKey, rising}
 use Rattle.texts.proofs.Text.{same-self, same-turned, same-unlike, unlike-before}
@@ -114,7 +115,7 @@ module _ {s : Sections} {order : List ℕ} {kept : List (List ℕ)} (g : Given s
   unfolding newPath
   unlike-draft a b h k p q =
       let earlier = or-else (not (isContainer s b)) _ (g .taken .paths b k) (rw q refl) in
-      not-true (same (canonicalPath s a) (canonicalPath s b)) (or-else (not (isContainer s a)) _ (all-of b _ earlier a h) (rw p refl))
+      not-true (same (canonicalPath s a) (canonicalPath s b)) (or-else (not (isContainer s a)) _ (all-at b _ earlier a h) (rw p refl))
 
   unlike : (x y : ℕ) → x < y → y < nodeCount s → isContainer s (oldOf order x) ≡ true → isContainer s (oldOf order y) ≡ true
       → same (pathOf s order x) (pathOf s order y) ≡ false

@@ -23,7 +23,8 @@ use Rattle.draft_image.specs.Strings.{storedTexts}
 use Rattle.draft_image.specs.Written.{written}
 use Rattle.draft_image.specs.Encode.{imageFor, encodeRule}
 use Rattle.written.specs.Written.{DraftWords, WrittenLoads, WrittenAccepted, HeaderPasses, RoundTrip, SamePaths, IndexPaths, IndexHasNoDot}
-use Rattle.written.proofs.Header.{Whole, round-trip, header-passes, checksum-passes, image-length}
+use Rattle.draft_image.proofs.Lengths.{image-length}
+use Rattle.written.proofs.Header.{WholeSections, round-trip, header-passes, checksum-passes}
 use Rattle.written.proofs.Draft.{taken, numbered, ink-taken, image-fits}
 use Rattle.written.proofs.Texts.{stored}
 use Rattle.draft_image.proofs.Blocks.{w, index-count}
@@ -87,7 +88,7 @@ module _ (ink : ℕ) (s : Sections) (work room : ℕ) (two : s .version ≡ vers
   small : ink < 2 ^ 32
   small = omega (arith, leb-true ink 21 (both-true (leb 18 ink) (leb ink 21) right .1))
 
-  all-whole : Whole (w s order kept)
+  all-whole : WholeSections (w s order kept)
   all-whole = whole given two (omega (arith, image-length ink (w s order kept), fits))
 
   pub back : sectionsOf (imageFor ink s) ≡ w s order kept

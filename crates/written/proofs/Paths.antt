@@ -11,7 +11,7 @@ use Rattle.laws.specs.Lists.{flatMap, placeIn}
 use Rattle.laws.proofs.First.{both, passed}
 use Rattle.laws.proofs.Flags.{both-true}
 use Rattle.words.specs.Words.{NONE}
-use Rattle.words.proofs.Words.{below-none, below-cons}
+use Rattle.laws.proofs.Lists.{below-none, below-cons}
 use Rattle.texts.specs.Text.{holds}
 use Rattle.texts.specs.Decimal.{decimal}
 use Rattle.texts.specs.Dots.{dot}
@@ -25,7 +25,8 @@ use Rattle.draft.specs.Numbering.{oldOf}
 use Rattle.draft_image.specs.Strings.{textIf, fieldTexts, offsetOf}
 use Rattle.draft_image.specs.Written.{fieldWords}
 use Rattle.written.proofs.Lists.{or-else}
-use Rattle.written.proofs.Texts.{in-left, in-one, offset-inside, good-text, good-length}
+use Rattle.draft_image.proofs.HeldTexts.{in-left, in-one}
+use Rattle.written.proofs.Texts.{offset-inside, good-text, good-length}
 use Rattle.draft_image.proofs.Blocks.{w}
 use Rattle.written.proofs.Fields.{Given, counted, old-in, old-new, new-in, old-zero, new-zero, zero-old, place-word, container-reads}
 use Rattle.written.proofs.Payload.{strings-small}

@@ -4,7 +4,7 @@ use mathlib.Core.Path.{_≡_, refl, sym, ap, _∙_, subst}
 use mathlib.Core.List.{List, [], _∷_, _++_}
 use mathlib.Core.Bool.{Bool, true, false, cond, _&&_}
 use native.Mathlib.Omega.{arith}
-use lib.ListN.{length, getD, length-append, List·getD-append}
+use lib.ListN.{length, getD, List·getD-append}
 use lib.Seq.{getD-append-add}
 use lib.Dec.{eqb, leb}
 use borrow.Author.Tests.{eqb-true}
@@ -22,6 +22,7 @@ use Rattle.draft.specs.Numbering.{oldOf}
 use Rattle.draft_image.specs.Strings.{offsetOf}
 use Rattle.draft_image.specs.Written.{listItemOut, listOriginOut, listOut, payloadOut, writtenWith}
 use Rattle.draft_image.proofs.Joins.{join-read, join-len, even-read, even-len}
+use Rattle.draft_image.proofs.Lengths.{payload-length}
 use Rattle.written.proofs.Lists.{all-joined, all-below}
 use Rattle.written.proofs.Texts.{offset-le, text-short}
 use Rattle.draft_image.proofs.Blocks.{w}
@@ -52,14 +53,6 @@ module _ (s : Sections) (order : List ℕ) (kept : List (List ℕ)) (at : ℕ) w
   front-length : length front ≡ 2 + listItems s at * 5
   unfolding front
   front-length = omega (arith, even-len (listItems s at) 5 (listItemOut s order kept at) (λ m h. unfold listItemOut in refl))
-
-  back-length : length back ≡ listOrigins s at * 2
-  unfolding back
-  back-length = even-len (listOrigins s at) 2 (listOriginOut s order kept at) (λ m h. unfold listOriginOut in refl)
-
-  pub list-length : length (listOut s order kept at) ≡ 2 + listItems s at * 5 + listOrigins s at * 2
-  unfolding listOut front back
-  list-length = length-append front back ∙ omega (arith, front-length, back-length)
 
   pub list-item : (j k : ℕ) → j < listItems s at → k < 5 → getD (listOut s order kept at) (2 + j * 5 + k) 0 ≡ getD (listItemOut s order kept at j) k 0
   unfolding listOut front back
@@ -137,19 +130,14 @@ module _ {s : Sections} {order : List ℕ} {kept : List (List ℕ)} (g : Given s
 
   -- ---- where it stands
 
-  payload-length : (i : ℕ) → i < nodeCount s → length (payloadOut s order kept i) ≡ payloadLengthOf s i
-  unfolding payloadOut payloadLengthOf
-  payload-length i h = go (eqb (tagOf s i) 12) refl
-    where
-      go : (b : Bool) → eqb (tagOf s i) 12 ≡ b → length (cond b (bytesOf (listOut s order kept (f s i 0))) []) ≡ cond b (f s i 1) 0
-      go true e = omega (arith, length-bytes (listOut s order kept (f s i 0)), list-length s order kept (f s i 0), list-size i h e)
-      go false e = refl
+  own-length : (i : ℕ) → i < nodeCount s → length (payloadOut s order kept i) ≡ payloadLengthOf s i
+  own-length i h = payload-length s order kept i (g .taken .tables .fields i h)
 
   pub payload-count : length (w s order kept .payload) ≡ sumOf (nodeCount s) (λ j. payloadLengthOf s (oldOf order j))
   unfolding w writtenWith
   payload-count =
       join-len (nodeCount s) (λ j. payloadOut s order kept (oldOf order j)) (λ j. payloadLengthOf s (oldOf order j))
-      (λ m h. payload-length (oldOf order m) (old-in g m h))
+      (λ m h. own-length (oldOf order m) (old-in g m h))
 
   -- byte k of the payload of node j
   payload-byte : (j k : ℕ) → j < nodeCount s → k < payloadLengthOf s (oldOf order j)
@@ -157,7 +145,7 @@ module _ {s : Sections} {order : List ℕ} {kept : List (List ℕ)} (g : Given s
   unfolding w writtenWith
   payload-byte j k h q =
       join-read (nodeCount s) (λ m. payloadOut s order kept (oldOf order m)) (λ m. payloadLengthOf s (oldOf order m))
-      (λ m i. payload-length (oldOf order m) (old-in g m i)) j k h q
+      (λ m i. own-length (oldOf order m) (old-in g m i)) j k h q
 
   -- word q of the list of node j
   pub payload-word : (j q : ℕ) → j < nodeCount s → eqb (tagOf s (oldOf order j)) 12 ≡ true → q < length (listOut s order kept (f s (oldOf order j) 0))
@@ -168,7 +156,7 @@ module _ {s : Sections} {order : List ℕ} {kept : List (List ℕ)} (g : Given s
       let out = listOut s order kept (f s i 0) in
       let at = sumOf j (λ m. payloadLengthOf s (oldOf order m)) in
       let pay = w s order kept .payload in
-      let size : payloadLengthOf s i ≡ 4 * length out = sym (payload-length i (old-in g j h)) ∙ ap length (payload-list i (old-in g j h) e) ∙ length-bytes out in
+      let size : payloadLengthOf s i ≡ 4 * length out = sym (own-length i (old-in g j h)) ∙ ap length (payload-list i (old-in g j h) e) ∙ length-bytes out in
       let word : wordAt pay (at + 4 * q) ≡ wordAt (bytesOf out) (4 * q) = word-same pay (bytesOf out) (at + 4 * q) (4 * q)
       (λ k z. here pay (at + 4 * q + k) (at + (4 * q + k)) (omega arith) ∙ payload-byte j (4 * q + k) h (omega arith)
       ∙ ap (λ (l : List ℕ). getD l (4 * q + k) 0) (payload-list i (old-in g j h) e)) in

@@ -11,8 +11,8 @@ use Rattle.laws.specs.Refusal.{unless}
 use Rattle.laws.specs.Counted.{sumOf, allOf, joinOf}
 use Rattle.laws.specs.Lists.{flatMap, placeIn}
 use Rattle.laws.proofs.First.{both, then, pass, passed, first-all, first-of}
-use Rattle.laws.proofs.Flags.{both-true}
-use Rattle.laws.proofs.Members.{and-true, or-left, or-right, all-of, sum-ext}
+use Rattle.laws.proofs.Flags.{both-true, all-at}
+use Rattle.laws.proofs.Members.{and-true, or-left, or-right, sum-ext}
 use Rattle.words.specs.Words.{NONE, isNone}
 use Rattle.texts.specs.Text.{holds}
 use Rattle.names.specs.Names.{commands, operators}
@@ -24,11 +24,13 @@ use Rattle.draft.specs.Numbering.{oldOf, newOf}
 use Rattle.draft_image.specs.Strings.{textIf, listTexts, fieldTexts, offsetOf}
 use Rattle.draft_image.specs.Written.{fieldStart, fieldWords, listItemOut, listOriginOut, listOut, writtenWith}
 use Rattle.draft_image.proofs.Joins.{sum-below}
+use Rattle.draft_image.proofs.Lengths.{list-length}
 use Rattle.written.proofs.Lists.{or-else, not-of}
-use Rattle.written.proofs.Texts.{in-left, in-right, in-one, in-join, good-text, text-back, text-good}
+use Rattle.draft_image.proofs.HeldTexts.{in-left, in-right, in-one, in-join}
+use Rattle.written.proofs.Texts.{good-text, text-back, text-good}
 use Rattle.draft_image.proofs.Blocks.{w, child-count, named-count}
 use Rattle.written.proofs.Fields.{Given, counted, old-in, old-new, new-in, old-zero, zero-old, inside-lt, new-is, inside-new, parent-word, place-word, tag-word, Reads, ReadsAll, reads, container-same, children-of, named-of, payload-of, start-is, sum-written}
-use Rattle.written.proofs.Payload.{strings-small, list-length, list-item, list-origin, list-right, list-size, payload-count, payload-word}
+use Rattle.written.proofs.Payload.{strings-small, list-item, list-origin, list-right, list-size, payload-count, payload-word}
 
 -- ---- the fields that only one tag has
 
@@ -57,7 +59,7 @@ unfolding kinds fields suits all-suit
 suited tag = go (ltb tag 19) refl
   where
     go : (b : Bool) → ltb tag 19 ≡ b → all-suit tag (fields (kindOf tag)) ≡ true
-    go true e = all-of 19 (λ t. all-suit t (fields (kindOf t))) (unfold allOf in refl) tag (ltb-true tag 19 e)
+    go true e = all-at 19 (λ t. all-suit t (fields (kindOf t))) (unfold allOf in refl) tag (ltb-true tag 19 e)
     go false e = rw (past-kinds tag (ltb-false tag 19 e)) refl
 
 module _ {s : Sections} {order : List ℕ} {kept : List (List ℕ)} (g : Given s order kept) where

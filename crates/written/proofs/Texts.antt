@@ -1,11 +1,10 @@
 -- The stored texts: every text in use is stored, and is found again at its offset.
 use Prim.Native.Nat.{ℕ, zero, suc, _+_, _≤_, _<_, zero-le}
-use mathlib.Core.Path.{_≡_, refl, sym, ap, _∙_, subst}
+use mathlib.Core.Path.{_≡_, refl, ap, _∙_, subst}
 use mathlib.Core.List.{List, [], _∷_, _++_, map}
 use mathlib.Core.Bool.{Bool, true, false, cond, _&&_, _||_, false≢true}
 use native.Mathlib.Omega.{arith}
 use native.Mathlib.Nat.{not-suc-le-zero}
-use native.Mathlib.Decide.{ℕ-discrete}
 use lib.ListN.{length, getD, take, drop, length-append, length-take, length-drop}
 use lib.Seq.{take-append-seam, drop-append-add}
 use lib.Dec.{leb}
@@ -16,46 +15,16 @@ use Rattle.laws.proofs.Flags.{both-true}
 use Rattle.laws.proofs.Members.{and-true, or-left, or-right}
 use Rattle.words.specs.Words.{NONE}
 use Rattle.texts.specs.Text.{same, holds}
-use Rattle.texts.proofs.Text.{same-self, same-equal}
+use Rattle.texts.proofs.Text.{same-equal}
 use Rattle.image.specs.Sections.{Sections, nodeCount, definitionCount, partAt, textAt, present, goodIn, goodText, goodBytes}
 use Rattle.records.specs.Records.{numberOfNamed}
 use Rattle.tree.specs.Tree.{namedText}
 use Rattle.index.specs.Definitions.{definitionText, numberOfItems, itemTextOf}
 use Rattle.draft.specs.Numbering.{oldOf}
+use Rattle.draft_image.proofs.HeldTexts.{in-left, in-right, in-head, in-one, in-join}
 use Rattle.draft_image.specs.Strings.{byPath, pathOf, nodeTexts, namedTexts, definitionTexts, uses, distinct, storedTexts, offsetOf}
 
 -- ---- texts that a list holds
-
-holds-append : (xs ys : List (List ℕ)) (t : List ℕ) → holds (xs ++ ys) t ≡ (holds xs t || holds ys t)
-unfolding holds
-holds-append [] ys t = refl
-holds-append (x ∷ xs) ys t = go (same t x) (holds-append xs ys t)
-  where
-    go : (b : Bool) → holds (xs ++ ys) t ≡ (holds xs t || holds ys t) → (b || holds (xs ++ ys) t) ≡ (b || holds xs t || holds ys t)
-    go true e = refl
-    go false e = e
-
-pub in-left : (xs ys : List (List ℕ)) (t : List ℕ) → holds xs t ≡ true → holds (xs ++ ys) t ≡ true
-in-left xs ys t h = holds-append xs ys t ∙ or-left (holds xs t) (holds ys t) h
-
-pub in-right : (xs ys : List (List ℕ)) (t : List ℕ) → holds ys t ≡ true → holds (xs ++ ys) t ≡ true
-in-right xs ys t h = holds-append xs ys t ∙ or-right (holds xs t) (holds ys t) h
-
-pub in-head : (t : List ℕ) (ts : List (List ℕ)) → holds (t ∷ ts) t ≡ true
-unfolding holds
-in-head t ts = or-left (same t t) (holds ts t) (same-self t)
-
-pub in-one : (t : List ℕ) → holds (t ∷ []) t ≡ true
-in-one t = in-head t []
-
-pub in-join : (n j : ℕ) (g : ℕ → List (List ℕ)) (t : List ℕ) → j < n → holds (g j) t ≡ true → holds (joinOf n g) t ≡ true
-unfolding joinOf
-in-join zero j g t h q = absurd (not-suc-le-zero h)
-in-join (suc n) j g t h q =
-    elim (ℕ-discrete j n) [
-      | yes e ↦ in-right (joinOf n g) (g n) t (ap (λ (m : ℕ). holds (g m) t) (sym e) ∙ q)
-      | no d ↦ in-left (joinOf n g) (g n) t (in-join n j g t (omega arith) q)
-    ]
 
 in-map : (k : ℕ) (xs : List ℕ) (g : ℕ → List ℕ) → k < length xs → holds (map g xs) (g (getD xs k 0)) ≡ true
 unfolding holds

@@ -9,7 +9,7 @@ use borrow.Author.Tests.{eq-eqb}
 use Rattle.laws.specs.Counted.{sumOf}
 use Rattle.laws.specs.Lists.{placeIn}
 use Rattle.laws.proofs.First.{then, pass}
-use Rattle.laws.proofs.Members.{and-true, all-at}
+use Rattle.laws.proofs.Members.{and-true, all-has}
 use Rattle.texts.specs.Text.{rising}
 use Rattle.image.specs.Sections.{Sections, nodeCount, parentOf, placeOf, f, childWord, namedWord}
 use Rattle.records.specs.Fields.{fields}
@@ -130,7 +130,7 @@ module _ {s : Sections} {order : List ℕ} {kept : List (List ℕ)} (g : Given s
   reached : (j : ℕ) → j < nodeCount s → Reached v j
   reached j h =
       let seen = g .taken .reached (oldOf order j) (old-in g j h) in
-      subst (Reached v) (new-old g j h) (reached-new (oldOf order j) (all-at (Reached s) (oldOf order j) (readWalk s .seen) seen (read-reached s)) .1)
+      subst (Reached v) (new-old g j h) (reached-new (oldOf order j) (all-has (Reached s) (oldOf order j) (readWalk s .seen) seen (read-reached s)) .1)
 
   pub tree-kept : treeRule v ≡ 0
   tree-kept =

@@ -10,7 +10,7 @@ use Rattle.laws.specs.Lists.{placeIn}
 use Rattle.laws.proofs.Members.{All, all-append}
 use Rattle.laws.proofs.Places.{place-le}
 use Rattle.words.specs.Words.{NONE, isNone}
-use Rattle.words.proofs.Words.{below-at}
+use Rattle.laws.proofs.Lists.{below-at}
 use Rattle.image.specs.Sections.{Sections, nodeWords, textEntryWords, definitionWords, nodeCount, definitionCount, itemCount, nodeWord, parentOf, f, namedWord, definitionWord, itemWord, absent}
 use Rattle.image.specs.Header.{version}
 use Rattle.image.specs.Encoding.{startOf}
@@ -22,7 +22,7 @@ use Rattle.draft_image.specs.Strings.{byPath, pathOf}
 use Rattle.draft_image.specs.Written.{fieldStart, fieldWords, putFields, moreWords, nodeOut, childrenOut, namedOut, definitionOut, itemOut, indexOut, startIn, writtenWith}
 use Rattle.draft_image.proofs.Joins.{sum-below}
 use Rattle.written.proofs.Lists.{all-joined, all-sets, all-below}
-use Rattle.written.proofs.Header.{Whole}
+use Rattle.written.proofs.Header.{WholeSections}
 use Rattle.written.proofs.Draft.{taken, numbered}
 use Rattle.written.proofs.Texts.{stored, offset-inside}
 use Rattle.draft_image.proofs.Blocks.{w, nodes-length, child-count, named-whole, definitions-whole, items-whole, index-whole}
@@ -117,7 +117,7 @@ module _ {s : Sections} {order : List ℕ} {kept : List (List ℕ)} (g : Given s
   unfolding w writtenWith
   version-kept = refl
 
-  pub whole : s .version ≡ version → startOf v 8 ≤ NONE → Whole v
+  pub whole : s .version ≡ version → startOf v 8 ≤ NONE → WholeSections v
   whole two fit =
       record {
         versioned = version-kept ∙ two;

@@ -15,7 +15,7 @@ use Rattle.records.specs.Records.{fieldsAt, payloadLengthOf, fieldRule, firstFi
 use Rattle.draft.specs.Numbering.{oldOf}
 use Rattle.draft_image.specs.Strings.{fieldTexts}
 use Rattle.draft_image.specs.Written.{fieldStart, fieldWords}
-use Rattle.written.proofs.Texts.{in-left, in-right, in-one}
+use Rattle.draft_image.proofs.HeldTexts.{in-left, in-right, in-one}
 use Rattle.draft_image.proofs.Blocks.{w}
 use Rattle.written.proofs.Fields.{Given, old-in, Reads, ReadsAll, reads, start-is}
 use Rattle.written.proofs.Rules.{suits, all-suit, suited}

@@ -25,7 +25,7 @@ use Rattle.promises.specs.Rules.{PayloadRight}
 use Rattle.promises.proofs.Fields.{payload-right, right-text, right-optional}
 use Rattle.promises.proofs.Views.{shown-right}
 use Rattle.promises.proofs.Whole.{part-long, items-are, origins-are, item-word, origin-word}
-use Rattle.written.proofs.Texts.{in-left, in-right, in-one}
+use Rattle.draft_image.proofs.HeldTexts.{in-left, in-right, in-one}
 use Rattle.draft_image.proofs.Blocks.{w}
 use Rattle.written.proofs.Fields.{Given, old-in}
 use Rattle.written.proofs.Payload.{list-right}

@@ -18,7 +18,8 @@ use Rattle.draft_image.specs.Strings.{textIf, offsetOf}
 use Rattle.views.specs.declared.OptionalWord.the-variants as word
 use Rattle.views.specs.View.{span, shown, optionalText, optionalWord}
 use Rattle.written.proofs.Lists.{or-else}
-use Rattle.written.proofs.Texts.{in-one, good-text, good-length}
+use Rattle.draft_image.proofs.HeldTexts.{in-one}
+use Rattle.written.proofs.Texts.{good-text, good-length}
 use Rattle.draft_image.proofs.Blocks.{w}
 use Rattle.written.proofs.Fields.{Given, few, new-is, new-in, old-in, old-new, new-old, new-zero}
 use Rattle.written.proofs.Rules.{good-at, text-at}

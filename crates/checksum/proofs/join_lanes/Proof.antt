@@ -3,8 +3,8 @@ use mathlib.Core.Path.{sym, ap, _∙_}
 use native.Mathlib.Omega.{arith}
 use lib.ListN.{length-take}
 use denote.Ref.{now}
+use Rattle.laws.proofs.Lists.{to-end}
 use Rattle.checksum.specs.Crc.{crcFrom}
-use Rattle.checksum.proofs.Checksums.{to-end}
 use Rattle.checksum.proofs.Lanes.{lanes-end}
 use borrow.Author.Needs.{needs}
 use Rattle.checksum.proofs.join_lanes.Statement.{statement}

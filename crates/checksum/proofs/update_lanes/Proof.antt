@@ -4,9 +4,9 @@ use Prim.Native.Nat.{_+_, _-_, _≤_}
 use native.Mathlib.Omega.{arith}
 use lib.ListN.{length, drop}
 use denote.Ref.{now}
+use Rattle.laws.proofs.Lists.{to-end}
 use Rattle.checksum.specs.Crc.{crcFrom}
 use Rattle.checksum.specs.Lanes.{lanesFrom}
-use Rattle.checksum.proofs.Checksums.{to-end}
 use Rattle.checksum.proofs.Lanes.{lanes-start, lanes-next}
 use borrow.Author.Needs.{needs}
 use Rattle.checksum.proofs.update_lanes.Statement.{statement}

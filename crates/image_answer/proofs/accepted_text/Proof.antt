@@ -3,7 +3,8 @@ use mathlib.Core.List.{[], _∷_}
 use native.Mathlib.Omega.{arith}
 use Rattle.texts.specs.Text.{ascii}
 use Rattle.image_answer.specs.Answer.{acceptedLine}
-use Rattle.image_answer.proofs.Lines.{number-room, begin, onward, line-is}
+use Rattle.texts.proofs.Decimal.{word-length}
+use Rattle.image_answer.proofs.Lines.{begin, onward, line-is}
 use borrow.Author.Needs.{needs}
 use Rattle.image_answer.proofs.accepted_text.Statement.{statement}
 use Rattle.image_answer.proofs.accepted_text.Tie as tie
@@ -23,13 +24,13 @@ slice-aggregate-put-text-2 c = search needs
 put-text-requires-2 : tie.Need-put-text-requires-2
 put-text-requires-2 c κs =
     let to = c .before .before .before .before .before .before .before .before .before .before .before .before .args in
-    let d = number-room (to .version) (search needs) in
+    let d = word-length (to .version) (search needs) in
     omega arith
 
 put-number-requires-2 : tie.Need-put-number-requires-2
 put-number-requires-2 c κs =
     let to = c .before .before .before .before .before .before .before .before .before .before .before .before .before .before .before .before .args in
-    let d = number-room (to .version) (search needs) in
+    let d = word-length (to .version) (search needs) in
     omega arith
 
 slice-aggregate-put-text-3 : tie.Need-slice-aggregate-put-text-3
@@ -38,8 +39,8 @@ slice-aggregate-put-text-3 c = search needs
 put-text-requires-3 : tie.Need-put-text-requires-3
 put-text-requires-3 c κs =
     let to = c .before .before .before .before .before .before .before .before .before .before .before .before .before .before .before .before .before .before .before .before .before .args in
-    let d = number-room (to .version) (search needs) in
-    let e = number-room (to .nodes) (search needs) in
+    let d = word-length (to .version) (search needs) in
+    let e = word-length (to .nodes) (search needs) in
     omega arith
 
 same-length : tie.Need-same-length
@@ -55,8 +56,8 @@ returns c =
     let first = version .before .before .before .before in
     let at = first .before .before .before .before in
     let to = at .args in
-    let d = number-room (to .version) (omega (arith, at .fits .version)) in
-    let e = number-room (to .nodes) (omega (arith, at .fits .nodes)) in
+    let d = word-length (to .version) (omega (arith, at .fits .version)) in
+    let e = word-length (to .nodes) (omega (arith, at .fits .nodes)) in
     let ok = begin (to .out .now) _ (111 ∷ 107 ∷ 32 ∷ []) _ (omega arith) (search needs) (first .put-text .ensures .0) (first .put-text .ensures .1) in
     let ok-version = onward _ _ _ _ _ _ _ ok (omega arith) (version .put-number .ensures .0) (version .put-number .ensures .1) in
     let spaced = onward _ _ _ _ (32 ∷ []) _ _ ok-version (omega arith) (space .put-text2 .ensures .0) (space .put-text2 .ensures .1) in

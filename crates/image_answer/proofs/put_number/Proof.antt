@@ -2,7 +2,8 @@
 use native.Mathlib.Omega.{arith}
 use mathlib.Core.Path.{refl}
 use lib.ListN.{length-take, length-drop}
-use Rattle.image_answer.proofs.Lines.{number-room, part-put}
+use Rattle.texts.proofs.Decimal.{word-length}
+use Rattle.image_answer.proofs.Lines.{part-put}
 use borrow.Author.Needs.{needs}
 use Rattle.image_answer.proofs.put_number.Statement.{statement}
 use Rattle.image_answer.proofs.put_number.Tie as tie
@@ -19,7 +20,7 @@ part-put-decimal-end c = search needs
 put-decimal-requires : tie.Need-put-decimal-requires
 put-decimal-requires c κs =
     let to = c .before .before .args in
-    let d = number-room (to .n) (search needs) in
+    let d = word-length (to .n) (search needs) in
     simp (length-take, length-drop) (omega arith)
 
 decimal-len-requires : tie.Need-decimal-len-requires
@@ -28,7 +29,7 @@ decimal-len-requires c κs = search needs
 add-result : tie.Need-add-result
 add-result c =
     let to = c .before .before .before .before .before .before .args in
-    let d = number-room (to .n) (search needs) in
+    let d = word-length (to .n) (search needs) in
     rw (c .decimal-len .ensures) (search (needs, d))
 
 same-length : tie.Need-same-length

@@ -3,7 +3,8 @@ use mathlib.Core.List.{[], _∷_}
 use native.Mathlib.Omega.{arith}
 use Rattle.texts.specs.Text.{ascii}
 use Rattle.image_answer.specs.Answer.{refusedLine}
-use Rattle.image_answer.proofs.Lines.{number-room, begin, onward, line-is}
+use Rattle.texts.proofs.Decimal.{word-length}
+use Rattle.image_answer.proofs.Lines.{begin, onward, line-is}
 use borrow.Author.Needs.{needs}
 use Rattle.image_answer.proofs.refused_text.Statement.{statement}
 use Rattle.image_answer.proofs.refused_text.Tie as tie
@@ -23,7 +24,7 @@ slice-aggregate-put-text-2 c = search needs
 put-text-requires-2 : tie.Need-put-text-requires-2
 put-text-requires-2 c κs =
     let to = c .before .before .before .before .before .before .before .before .before .before .before .before .args in
-    let d = number-room (to .number) (search needs) in
+    let d = word-length (to .number) (search needs) in
     omega arith
 
 same-length : tie.Need-same-length
@@ -36,7 +37,7 @@ returns c =
     let number = last .before .before .before .before .before in
     let first = number .before .before .before .before in
     let to = first .before .before .before .before .args in
-    let d = number-room (to .number) (search needs) in
+    let d = word-length (to .number) (search needs) in
     let no = begin (to .out .now) _ (110 ∷ 111 ∷ 32 ∷ []) _ (omega arith) (search needs) (first .put-text .ensures .0) (first .put-text .ensures .1) in
     let no-number = onward _ _ _ _ _ _ _ no (omega arith) (number .put-number .ensures .0) (number .put-number .ensures .1) in
     line-is _ _ _ _ (onward _ _ _ _ (10 ∷ []) _ _ no-number (omega arith) (last .put-text2 .ensures .0) (last .put-text2 .ensures .1))

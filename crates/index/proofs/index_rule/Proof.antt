@@ -8,7 +8,8 @@ use Rattle.laws.specs.Refusal.{firstOf}
 use Rattle.index.specs.Index.{indexEntryRule}
 use Rattle.index.specs.Parts.{indexParts}
 use Rattle.index.proofs.Readers.{index-run}
-use Rattle.laws.proofs.RuleRuns.{run-starts, run-stops, run-goes, run-ends}
+use Rattle.laws.proofs.Chains.{first-broken, first-done}
+use Rattle.laws.proofs.RuleRuns.{run-starts, run-goes}
 use Rattle.index.proofs.index_rule.Statement.{statement}
 use Rattle.index.proofs.index_rule.Tie as tie
 
@@ -28,7 +29,7 @@ returns : tie.Need-returns Inv-loop μ-loop
 returns c =
     let at = c .before .before .before .before .before .before .before .args in
     let here = c .before .before .before .loop in
-    run-stops (length (at .index .now) / textEntrySize) (here .j) (c .before .index-entry-rule .result) (indexEntryRule (indexParts (at .version) (at .nodes .now) (at .index .now) (at .strings .now))) (c .before .before .loop-test .taken) (here .inv .1) (c .before .index-entry-rule .ensures) (c .if1 .taken)
+    first-broken (length (at .index .now) / textEntrySize) (here .j) (c .before .index-entry-rule .result) (indexEntryRule (indexParts (at .version) (at .nodes .now) (at .index .now) (at .strings .now))) (c .before .before .loop-test .taken) (here .inv .1) (c .before .index-entry-rule .ensures) (c .if1 .taken)
     ∙ sym (index-run (at .version) (at .nodes .now) (at .index .now) (at .strings .now))
 
 add-j : tie.Need-add-j Inv-loop μ-loop
@@ -46,7 +47,7 @@ loop-again c =
 returns-2 : tie.Need-returns-2 Inv-loop μ-loop
 returns-2 c =
     let at = c .before .before .before .before .before .args in
-    run-ends (length (at .index .now) / textEntrySize) (c .before .loop .j) (indexEntryRule (indexParts (at .version) (at .nodes .now) (at .index .now) (at .strings .now))) (c .before .loop .inv .0) (c .loop-test .left) (c .before .loop .inv .1)
+    first-done (length (at .index .now) / textEntrySize) (c .before .loop .j) (indexEntryRule (indexParts (at .version) (at .nodes .now) (at .index .now) (at .strings .now))) (c .before .loop .inv .0) (c .loop-test .left) (c .before .loop .inv .1)
     ∙ sym (index-run (at .version) (at .nodes .now) (at .index .now) (at .strings .now))
 
 pub index-rule-spec : {M : Type 1} → statement M

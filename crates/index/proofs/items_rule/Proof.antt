@@ -5,7 +5,8 @@ use mathlib.Core.List.{[]}
 use Rattle.laws.specs.Refusal.{firstOf}
 use Rattle.index.specs.Definitions.{itemRuleFrom}
 use Rattle.index.specs.Parts.{definitionParts}
-use Rattle.laws.proofs.RuleRuns.{run-starts, run-stops, run-goes, run-ends}
+use Rattle.laws.proofs.Chains.{first-broken, first-done}
+use Rattle.laws.proofs.RuleRuns.{run-starts, run-goes}
 use borrow.Author.Needs.{needs}
 use Rattle.index.proofs.items_rule.Statement.{statement}
 use Rattle.index.proofs.items_rule.Tie as tie
@@ -26,7 +27,7 @@ returns : tie.Need-returns Inv-loop μ-loop
 returns c =
     let at = c .before .before .before .before .before .before .args in
     let here = c .before .before .before .loop in
-    run-stops (at .count) (here .place) (c .before .item-rule .result) (itemRuleFrom (definitionParts [] (at .items .now) (at .strings .now)) (at .first)) (c .before .before .loop-test .taken) (here .inv .1) (c .before .item-rule .ensures) (c .if1 .taken)
+    first-broken (at .count) (here .place) (c .before .item-rule .result) (itemRuleFrom (definitionParts [] (at .items .now) (at .strings .now)) (at .first)) (c .before .before .loop-test .taken) (here .inv .1) (c .before .item-rule .ensures) (c .if1 .taken)
 
 add-place : tie.Need-add-place Inv-loop μ-loop
 add-place c = search needs
@@ -43,7 +44,7 @@ loop-again c =
 returns-2 : tie.Need-returns-2 Inv-loop μ-loop
 returns-2 c =
     let at = c .before .before .before .before .args in
-    run-ends (at .count) (c .before .loop .place) (itemRuleFrom (definitionParts [] (at .items .now) (at .strings .now)) (at .first)) (c .before .loop .inv .0) (c .loop-test .left) (c .before .loop .inv .1)
+    first-done (at .count) (c .before .loop .place) (itemRuleFrom (definitionParts [] (at .items .now) (at .strings .now)) (at .first)) (c .before .loop .inv .0) (c .loop-test .left) (c .before .loop .inv .1)
 
 pub items-rule-spec : {M : Type 1} → statement M
 items-rule-spec =

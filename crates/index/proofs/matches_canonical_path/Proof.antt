@@ -11,7 +11,7 @@ use Rattle.image.specs.Sections.{Sections}
 use Rattle.index.specs.Paths.{fitsPath, fits}
 use Rattle.index.specs.Parts.{indexParts}
 use Rattle.index.proofs.Suffix.{empty-part}
-use Rattle.index.proofs.Paths.{fitsFrom, whole-fits, pieceBy, Reached, Matched, fits-bound, fits-root, step-short, step-other, step-top, step-none, step-no-dot, step-dot}
+use Rattle.index.proofs.Paths.{fitsFrom, whole-fits, pieceBy, PathReached, Matched, fits-bound, fits-root, step-short, step-other, step-top, step-none, step-no-dot, step-dot}
 use Rattle.index.proofs.Index.{path-node-like}
 use borrow.Author.Needs.{needs}
 use Rattle.index.proofs.matches_canonical_path.Statement.{statement}
@@ -35,7 +35,7 @@ module _ (c : tie.After-path-node Inv-loop μ-loop) where
   abbrev text : List ℕ
   text = here .before .before .before .before .before .args .text .now
 
-  reached : Reached whole text (here .loop .steps - 1) (here .loop .at) (here .loop .end) (c .path-node .result)
+  reached : PathReached whole text (here .loop .steps - 1) (here .loop .at) (here .loop .end) (c .path-node .result)
   reached =
       record {
         away = c .before .before .loop-test .taken;

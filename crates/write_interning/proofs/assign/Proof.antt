@@ -6,7 +6,7 @@ use mathlib.Core.List.{List}
 use native.Mathlib.Omega.{arith}
 use lib.ListN.{getD, drop, length}
 use Rattle.write_text_keys.specs.Keys.{keyOf, keyIn}
-use Rattle.write_sorting.proofs.MergeInPlace.{drop-later}
+use Rattle.laws.proofs.Lists.{drop-more}
 use Rattle.write_interning.specs.Uses.{Firsts}
 use Rattle.write_interning.proofs.OffsetLoop.{Assigning, Bounded, assign-all, assign-none, first-early, assign-next, assign-old, assign-long, assigned-long, assigned-whole}
 use borrow.Author.Needs.{needs}
@@ -31,7 +31,7 @@ version c = c .before .before .before .before .args .source .version
 behind : (c : tie.At-loop Inv-loop μ-loop) → let to = c .before .before .before .before in drop (to .args .layout .at) (c .loop .w) ≡ drop (to .args .layout .at) (to .args .w .now)
 behind c =
     let to = c .before .before .before .before in
-    drop-later (to .args .n + to .args .n) (to .args .layout .at) (c .loop .w) (to .args .w .now) (c .loop .inv .0 .behind) (omega arith)
+    drop-more (to .args .n + to .args .n) (to .args .layout .at) (c .loop .w) (to .args .w .now) (omega arith) (c .loop .inv .0 .behind)
 
 -- the first use of k is not behind it
 early : (c : tie.After-word Inv-loop μ-loop) → c .word .result ≤ c .before .before .before .loop .k

@@ -5,7 +5,7 @@ use native.Mathlib.Omega.{arith}
 use lib.ListN.{take, drop}
 use Rattle.texts.specs.Text.{byKey}
 use Rattle.write_text_keys.specs.Keys.{keyOf, keyIn}
-use Rattle.write_sorting.proofs.MergeInPlace.{drop-later}
+use Rattle.laws.proofs.Lists.{drop-more}
 use Rattle.write_interning.specs.Uses.{headOf}
 use Rattle.write_interning.proofs.Numbers.{Order, order-isort}
 use Rattle.write_interning.proofs.FirstUses.{Marking, mark-none, mark-at, mark-step, mark-done}
@@ -26,7 +26,7 @@ key c = let to = c .before .before .before .before in keyIn (to .args .source .v
 behind : (c : tie.At-loop Inv-loop μ-loop) → let to = c .before .before .before .before in drop (to .args .layout .at) (c .loop .w) ≡ drop (to .args .layout .at) (to .args .w .now)
 behind c =
     let to = c .before .before .before .before in
-    drop-later (to .args .n + to .args .n) (to .args .layout .at) (c .loop .w) (to .args .w .now) (c .loop .inv .behind) (omega arith)
+    drop-more (to .args .n + to .args .n) (to .args .layout .at) (c .loop .w) (to .args .w .now) (omega arith) (c .loop .inv .behind)
 
 order : (c : tie.At-loop Inv-loop μ-loop) → let to = c .before .before .before .before in Order (key c) (to .args .n) (take (to .args .n) (to .args .w .now))
 order c = let to = c .before .before .before .before in rw (to .pre .1) (order-isort (key c) (to .args .n))

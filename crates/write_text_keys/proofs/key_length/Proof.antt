@@ -1,7 +1,8 @@
 -- `write_text_keys::key_length` meets its contract.
 use mathlib.Core.Path.{sym, _∙_}
 use lib.ListN.{drop}
-use Rattle.write_text_keys.proofs.Uses.{tail-part, key-length}
+use Rattle.laws.proofs.Lists.{to-end}
+use Rattle.write_text_keys.proofs.Uses.{key-length}
 use borrow.Author.Needs.{needs}
 use Rattle.write_text_keys.proofs.key_length.Statement.{statement}
 use Rattle.write_text_keys.proofs.key_length.Tie as tie
@@ -24,7 +25,7 @@ length-of-requires c κs = search needs
 returns : tie.Need-returns
 returns c =
     let to = c .before .before .before .before .args in
-    λ version nodes. c .length-of .ensures ∙ rw (tail-part (to .layout .at) (to .w .now)) (sym (key-length version nodes (to .strings .now) (to .layout .texts) (to .layout .paths) (to .layout .lengths) (drop (to .layout .at) (to .w .now)) (to .a)))
+    λ version nodes. c .length-of .ensures ∙ rw (to-end (to .layout .at) (to .w .now)) (sym (key-length version nodes (to .strings .now) (to .layout .texts) (to .layout .paths) (to .layout .lengths) (drop (to .layout .at) (to .w .now)) (to .a)))
 
 pub key-length-spec : {M : Type 1} → statement M
 key-length-spec =

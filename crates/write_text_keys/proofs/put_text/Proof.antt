@@ -5,7 +5,7 @@ use Prim.Native.Nat.{_≤_, _-_}
 use mathlib.Core.Path.{_≡_, refl}
 use mathlib.Core.List.{_++_}
 use lib.ListN.{length, take, drop, length-set}
-use Rattle.write_text_keys.proofs.Copies.{copy-more, copy-end}
+use Rattle.laws.proofs.Lists.{copy-step, copy-end}
 use Rattle.write_text_keys.proofs.put_text.Statement.{statement}
 use Rattle.write_text_keys.proofs.put_text.Tie as tie
 
@@ -34,7 +34,7 @@ loop-again : tie.Need-loop-again Inv-loop μ-loop
 loop-again c =
     let at = c .before .before in
     let to = at .before .args in
-    (omega arith, simp length-set (at .loop .inv .1), copy-more (at .loop .i) (to .text .now) (to .out .now) (at .loop .out) (omega arith) (omega arith) (at .loop .inv .2))
+    (omega arith, simp length-set (at .loop .inv .1), copy-step (to .text .now) (to .out .now) (at .loop .out) (at .loop .i) (at .loop .inv .2) (omega arith) (omega arith))
 
 same-length : tie.Need-same-length Inv-loop μ-loop
 same-length c = search needs
@@ -43,7 +43,7 @@ returns : tie.Need-returns Inv-loop μ-loop
 returns c =
     let at = c .before in
     let to = at .before .args in
-    copy-end (at .loop .i) (to .text .now) (to .out .now) (at .loop .out) (omega arith) (at .loop .inv .2)
+    copy-end (to .text .now) (to .out .now) (at .loop .out) (at .loop .i) (omega arith) (at .loop .inv .2)
 
 pub put-text-spec : {M : Type 1} → statement M
 put-text-spec =

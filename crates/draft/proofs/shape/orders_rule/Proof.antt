@@ -4,7 +4,8 @@ use mathlib.Core.Path.{_≡_}
 use mathlib.Core.List.{[]}
 use borrow.Author.Needs.{needs}
 use Rattle.laws.specs.Refusal.{firstOf}
-use Rattle.laws.proofs.RuleRuns.{run-starts, run-stops, run-goes, run-ends}
+use Rattle.laws.proofs.Chains.{first-broken, first-done}
+use Rattle.laws.proofs.RuleRuns.{run-starts, run-goes}
 use Rattle.draft.specs.Source.{draftOf}
 use Rattle.draft.specs.Draft.{orderRule}
 use Rattle.draft.proofs.shape.orders_rule.Statement.{statement}
@@ -23,7 +24,7 @@ order-rule-requires : tie.Need-order-rule-requires Inv-loop μ-loop
 order-rule-requires c κs = (c .before .before .before .before .before .pre, c .loop-test .taken)
 
 returns : tie.Need-returns Inv-loop μ-loop
-returns c = run-stops _ _ _ _ (c .before .before .loop-test .taken) (c .before .before .before .loop .inv .1) (c .before .order-rule .ensures) (c .if1 .taken)
+returns c = first-broken _ _ _ _ (c .before .before .loop-test .taken) (c .before .before .before .loop .inv .1) (c .before .order-rule .ensures) (c .if1 .taken)
 
 add-d : tie.Need-add-d Inv-loop μ-loop
 add-d c = search needs
@@ -35,7 +36,7 @@ loop-again : tie.Need-loop-again Inv-loop μ-loop
 loop-again c = (search needs, run-goes _ _ _ (c .before .before .before .loop .inv .1) (c .before .order-rule .ensures) (c .if1 .left))
 
 returns-2 : tie.Need-returns-2 Inv-loop μ-loop
-returns-2 c = run-ends _ _ _ (c .before .loop .inv .0) (c .loop-test .left) (c .before .loop .inv .1)
+returns-2 c = first-done _ _ _ (c .before .loop .inv .0) (c .loop-test .left) (c .before .loop .inv .1)
 
 pub orders-rule-spec : {M : Type 1} → statement M
 orders-rule-spec =

@@ -4,7 +4,8 @@ use mathlib.Core.Path.{_≡_}
 use mathlib.Core.List.{[]}
 use borrow.Author.Needs.{needs}
 use Rattle.laws.specs.Refusal.{firstOf}
-use Rattle.laws.proofs.RuleRuns.{run-starts, run-stops, run-goes, run-ends}
+use Rattle.laws.proofs.Chains.{first-broken, first-done}
+use Rattle.laws.proofs.RuleRuns.{run-starts, run-goes}
 use Rattle.draft.specs.Source.{draftOf}
 use Rattle.draft.specs.Draft.{relationRule}
 use Rattle.draft.proofs.NodeCount.{below-count, upto-count, past-count}
@@ -32,7 +33,7 @@ relation-rule-requires c κs =
 returns : tie.Need-returns Inv-loop μ-loop
 returns c =
     let test = c .before .before in
-    run-stops _ _ _ _ (below-count _ _ (test .before .before .node-count .ensures) _ (test .loop-test .taken)) (c .before .before .before .loop .inv .1) (c .before .relation-rule .ensures) (c .if1 .taken)
+    first-broken _ _ _ _ (below-count _ _ (test .before .before .node-count .ensures) _ (test .loop-test .taken)) (c .before .before .before .loop .inv .1) (c .before .relation-rule .ensures) (c .if1 .taken)
 
 add-i : tie.Need-add-i Inv-loop μ-loop
 add-i c = search needs
@@ -46,7 +47,7 @@ loop-again c = (search needs, run-goes _ _ _ (c .before .before .before .loop .i
 returns-2 : tie.Need-returns-2 Inv-loop μ-loop
 returns-2 c =
     let count = c .before .before .node-count .ensures in
-    run-ends _ _ _ (upto-count _ _ count _ (c .before .loop .inv .0)) (past-count _ _ count _ (c .loop-test .left)) (c .before .loop .inv .1)
+    first-done _ _ _ (upto-count _ _ count _ (c .before .loop .inv .0)) (past-count _ _ count _ (c .loop-test .left)) (c .before .loop .inv .1)
 
 pub relations-rule-spec : {M : Type 1} → statement M
 relations-rule-spec =

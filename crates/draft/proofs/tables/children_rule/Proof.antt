@@ -6,7 +6,8 @@ use native.Mathlib.Omega.{arith}
 use lib.ListN.{length}
 use borrow.Author.Needs.{needs}
 use Rattle.laws.specs.Refusal.{firstOf}
-use Rattle.laws.proofs.RuleRuns.{run-starts, run-ends}
+use Rattle.laws.proofs.Chains.{first-done}
+use Rattle.laws.proofs.RuleRuns.{run-starts}
 use Rattle.image.specs.Sections.{nodeWords}
 use Rattle.draft.specs.Source.{draftOf}
 use Rattle.draft.specs.Draft.{draftChildRule}
@@ -57,7 +58,7 @@ loop-again c =
 returns-2 : tie.Need-returns-2 Inv-loop μ-loop
 returns-2 c =
     let passed = c .before .loop .inv in
-    run-ends _ _ _ (passed .0) (c .loop-test .left) (passed .1 _ (c .before .before .node-count .ensures))
+    first-done _ _ _ (passed .0) (c .loop-test .left) (passed .1 _ (c .before .before .node-count .ensures))
 
 pub children-rule-spec : {M : Type 1} → statement M
 children-rule-spec =

@@ -5,7 +5,8 @@ use mathlib.Core.List.{[]}
 use native.Mathlib.Omega.{arith}
 use borrow.Author.Needs.{needs}
 use Rattle.laws.specs.Refusal.{firstOf}
-use Rattle.laws.proofs.RuleRuns.{run-starts, run-ends}
+use Rattle.laws.proofs.Chains.{first-done}
+use Rattle.laws.proofs.RuleRuns.{run-starts}
 use Rattle.draft.specs.Source.{draftOf}
 use Rattle.draft.specs.Draft.{draftItemRule}
 use Rattle.draft.proofs.EntryTables.{item-told, test-stops, test-goes}
@@ -45,7 +46,7 @@ loop-again c = (
 )
 
 returns-2 : tie.Need-returns-2 Inv-loop μ-loop
-returns-2 c = run-ends _ _ _ (c .before .loop .inv .0) (c .loop-test .left) (c .before .loop .inv .1)
+returns-2 c = first-done _ _ _ (c .before .loop .inv .0) (c .loop-test .left) (c .before .loop .inv .1)
 
 pub items-rule-spec : {M : Type 1} → statement M
 items-rule-spec =

@@ -4,7 +4,8 @@ use mathlib.Core.Path.{_≡_}
 use mathlib.Core.List.{[]}
 use borrow.Author.Needs.{needs}
 use Rattle.laws.specs.Refusal.{firstOf}
-use Rattle.laws.proofs.RuleRuns.{run-starts, run-stops, run-goes, run-ends}
+use Rattle.laws.proofs.Chains.{first-broken, first-done}
+use Rattle.laws.proofs.RuleRuns.{run-starts, run-goes}
 use lib.ListN.{length}
 use Rattle.image.specs.Sections.{nodeWords}
 use Rattle.draft.specs.Source.{draftOf}
@@ -38,7 +39,7 @@ returns c =
     let loop = c .before .before .before .before in
     let count = loop .before .node-count .ensures in
     let entry = entry-told _ _ _ _ _ count _ _ _ (c .before .before .entry-at .ensures) (c .before .entry-rule .ensures) in
-    run-stops _ _ _ _ (c .before .before .before .loop-test .taken) (loop .loop .inv .1 _ count) entry (c .if1 .taken)
+    first-broken _ _ _ _ (c .before .before .before .loop-test .taken) (loop .loop .inv .1 _ count) entry (c .if1 .taken)
 
 add-j : tie.Need-add-j Inv-loop μ-loop
 add-j c = search needs
@@ -58,7 +59,7 @@ loop-again c =
 returns-2 : tie.Need-returns-2 Inv-loop μ-loop
 returns-2 c =
     let passed = c .before .loop .inv in
-    run-ends _ _ _ (passed .0) (c .loop-test .left) (passed .1 _ (c .before .before .node-count .ensures))
+    first-done _ _ _ (passed .0) (c .loop-test .left) (passed .1 _ (c .before .before .node-count .ensures))
 
 pub named-rule-spec : {M : Type 1} → statement M
 named-rule-spec =
