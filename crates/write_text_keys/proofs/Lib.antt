@@ -1,5 +1,4 @@
 pub mod Comparison
-pub mod Copies
 pub mod Digits
 pub mod BackwardReads
 pub mod NameRuns

@@ -1,19 +1,19 @@
--- `write_text_keys::put_text` meets its contract. The invariant: the first i bytes are written.
+-- `words::output::put_bytes` meets its contract. The invariant: the first i bytes are written.
 use borrow.Author.Needs.{needs}
 use native.Mathlib.Omega.{arith}
 use Prim.Native.Nat.{_≤_, _-_}
 use mathlib.Core.Path.{_≡_, refl}
 use mathlib.Core.List.{_++_}
 use lib.ListN.{length, take, drop, length-set}
-use Rattle.write_text_keys.proofs.Copies.{copy-more, copy-end}
-use Rattle.write_text_keys.proofs.put_text.Statement.{statement}
-use Rattle.write_text_keys.proofs.put_text.Tie as tie
+use Rattle.words.proofs.Copies.{copy-more, copy-end}
+use Rattle.words.proofs.output.put_bytes.Statement.{statement}
+use Rattle.words.proofs.output.put_bytes.Tie as tie
 
 abbrev Inv-loop : tie.InvT-loop
-Inv-loop text out₀ i₀ out i = (i ≤ length text) × (length out ≡ length out₀) × (out ≡ take i text ++ drop i out₀)
+Inv-loop bytes out₀ i₀ out i = (i ≤ length bytes) × (length out ≡ length out₀) × (out ≡ take i bytes ++ drop i out₀)
 
 abbrev μ-loop : tie.MeasureT-loop
-μ-loop text out₀ i₀ out i = length text - i
+μ-loop bytes out₀ i₀ out i = length bytes - i
 
 loop-holds : tie.Need-loop-holds Inv-loop μ-loop
 loop-holds c = (omega arith, refl, refl)
@@ -34,7 +34,7 @@ loop-again : tie.Need-loop-again Inv-loop μ-loop
 loop-again c =
     let at = c .before .before in
     let to = at .before .args in
-    (omega arith, simp length-set (at .loop .inv .1), copy-more (at .loop .i) (to .text .now) (to .out .now) (at .loop .out) (omega arith) (omega arith) (at .loop .inv .2))
+    (omega arith, simp length-set (at .loop .inv .1), copy-more (at .loop .i) (to .bytes .now) (to .out .now) (at .loop .out) (omega arith) (omega arith) (at .loop .inv .2))
 
 same-length : tie.Need-same-length Inv-loop μ-loop
 same-length c = search needs
@@ -43,10 +43,10 @@ returns : tie.Need-returns Inv-loop μ-loop
 returns c =
     let at = c .before in
     let to = at .before .args in
-    copy-end (at .loop .i) (to .text .now) (to .out .now) (at .loop .out) (omega arith) (at .loop .inv .2)
+    copy-end (at .loop .i) (to .bytes .now) (to .out .now) (at .loop .out) (omega arith) (at .loop .inv .2)
 
-pub put-text-spec : {M : Type 1} → statement M
-put-text-spec =
+pub put-bytes-spec : {M : Type 1} → statement M
+put-bytes-spec =
     tie.close
     (tie.spec
     Inv-loop

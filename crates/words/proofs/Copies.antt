@@ -1,4 +1,4 @@
--- A text copied to the front of a list, byte by byte.
+-- Bytes copied to the front of a list, one by one.
 use Prim.Native.Nat.{ℕ, zero, suc, _+_, _<_}
 use mathlib.Core.Path.{_≡_, refl, ap, _∙_}
 use mathlib.Core.List.{List, [], _∷_, _++_}
