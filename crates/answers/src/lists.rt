@@ -5,7 +5,9 @@ use crate::span_or;
 use crate::unsigned_of;
 use image::ImageView;
 use image::NodeRecord;
+use image::payload;
 use image::refusal::NOT_FOUND;
+use image::tag;
 use lookups::ListItem;
 use lookups::ListItemAnswer;
 use views::DefinitionAnswer;
@@ -34,7 +36,7 @@ pub enum ListPlace {
 fn place_of(node: NodeRecord, payload: usize) -> ListPlace
     ensures { λ r. ⌜ foundListPlace r ≡ listPlaceIn payload node ⌝ }
 {
-    if node.tag != 12 {
+    if node.tag != tag::LIST_VALUE {
         return ListPlace::NotFound;
     }
     if payload < node.f0 as usize + node.f1 as usize {
@@ -161,10 +163,13 @@ pub fn put_list_item(found: ListItemAnswer, answer: &mut [u32]) -> u32
 pub fn put_list_counts(payload: &[u8], answer: &mut [u32]) -> u32
     ensures { λ r. ⌜ Answered (listCountWords (now (payload .entry))) (now (answer .entry)) (now (answer .exit)) r ⌝ }
 {
-    if payload.len() < 8 {
+    if payload.len() < payload::HEAD_BYTES {
         return NOT_FOUND;
     }
-    let words = [words::word(payload, 0), words::word(payload, 4)];
+    let words = [
+        words::word(payload, 0),
+        words::word(payload, payload::ORIGIN_COUNT_AT),
+    ];
     put_answer(&words, answer)
 }
 

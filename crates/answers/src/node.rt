@@ -6,6 +6,7 @@ use image::ImageView;
 use image::NONE;
 use image::NodeRecord;
 use image::refusal::NOT_FOUND;
+use image::tag;
 use names::Number;
 use views::OptionalText;
 use views::Span;
@@ -75,7 +76,7 @@ fn container(node: NodeRecord, strings: usize) -> KindFound
     ensures { λ r. ⌜ wordsFound r ≡ wordsOfKind (containerView strings node) ⌝ }
 {
     let name = span_or(views::view::optional_text(strings, node.f0, node.f1));
-    KindFound::Kind(text_alone(1, name, NONE, 0, node.f2))
+    KindFound::Kind(text_alone(tag::CONTAINER, name, NONE, 0, node.f2))
 }
 
 // Path, variable, target, number of arguments, flags; none where the push type is unknown.
@@ -88,7 +89,7 @@ fn divert(node: NodeRecord, strings: usize) -> KindFound
     let text = span_or(views::view::optional_text(strings, node.f0, node.f1));
     let variable = span_or(views::view::optional_text(strings, node.f3, node.f4));
     KindFound::Kind(KindWords {
-        tag: 4,
+        tag: tag::DIVERT,
         text,
         variable,
         target: node.f2,
@@ -112,7 +113,7 @@ fn list(payload: usize, start: u32, len: u32) -> KindFound
     ensures { λ r. ⌜ wordsFound r ≡ wordsOfKind (listView payload start len) ⌝ }
 {
     if start as usize + len as usize <= payload {
-        KindFound::Kind(text_alone(12, Span { offset: start, len }, NONE, 0, 0))
+        KindFound::Kind(text_alone(tag::LIST_VALUE, Span { offset: start, len }, NONE, 0, 0))
     } else {
         KindFound::NotFound
     }
@@ -125,12 +126,21 @@ fn with_name(tag: u32, f2: u32, f4: u32, name: Span, strings: &[u8]) -> KindFoun
 {
     let text = image::text_part(strings, name.offset, name.len);
     match tag {
-        3 => numbered(3, names::control_command::command_number(text)),
-        6 => numbered(6, names::native_function_call::operator_number(text)),
-        7 | 11 | 13 => KindFound::Kind(text_alone(tag, name, NONE, 0, 0)),
-        14 => KindFound::Kind(text_alone(14, name, NONE, f2, 0)),
-        16 => KindFound::Kind(text_alone(16, name, NONE, 0, f2 % 4)),
-        _ => KindFound::Kind(text_alone(17, name, f4, 0, 0)),
+        tag::COMMAND => numbered(tag::COMMAND, names::control_command::command_number(text)),
+        tag::OPERATOR => numbered(
+            tag::OPERATOR,
+            names::native_function_call::operator_number(text),
+        ),
+        tag::TAG | tag::STRING_VALUE | tag::TARGET_VALUE => KindFound::Kind(text_alone(
+            tag,
+            name,
+            NONE,
+            0,
+            0,
+        )),
+        tag::POINTER_VALUE => KindFound::Kind(text_alone(tag::POINTER_VALUE, name, NONE, f2, 0)),
+        tag::ASSIGNMENT => KindFound::Kind(text_alone(tag::ASSIGNMENT, name, NONE, 0, f2 % 4)),
+        _ => KindFound::Kind(text_alone(tag::REFERENCE, name, f4, 0, 0)),
     }
 }
 
@@ -150,19 +160,33 @@ fn kind_words(node: NodeRecord, payload: usize, strings: &[u8]) -> KindFound
 {
     let tag = node.tag;
     match tag {
-        1 => container(node, strings.len()),
-        2 => KindFound::Kind(text_alone(2, no_span(), node.f2, 0, node.f3)),
-        4 => divert(node, strings.len()),
-        5 => KindFound::Kind(value_alone(5, 0)),
-        3 | 11 | 13 => text_kind(tag, node.f0, node.f1, node.f2, node.f4, strings),
-        6..=7 => text_kind(tag, node.f0, node.f1, node.f2, node.f4, strings),
-        8 => KindFound::Kind(value_alone(8, bit_of(node.f0))),
-        9 => KindFound::Kind(value_alone(9, node.f0)),
-        10 => KindFound::Kind(value_alone(10, node.f0)),
-        12 => list(payload, node.f0, node.f1),
-        14 => text_kind(tag, node.f0, node.f1, node.f2, node.f4, strings),
-        16..=17 => text_kind(tag, node.f0, node.f1, node.f2, node.f4, strings),
-        18 => KindFound::Kind(value_alone(18, 0)),
+        tag::CONTAINER => container(node, strings.len()),
+        tag::CHOICE => KindFound::Kind(text_alone(tag::CHOICE, no_span(), node.f2, 0, node.f3)),
+        tag::DIVERT => divert(node, strings.len()),
+        tag::GLUE => KindFound::Kind(value_alone(tag::GLUE, 0)),
+        tag::COMMAND | tag::STRING_VALUE | tag::TARGET_VALUE => text_kind(
+            tag,
+            node.f0,
+            node.f1,
+            node.f2,
+            node.f4,
+            strings,
+        ),
+        tag::OPERATOR..=tag::TAG => text_kind(tag, node.f0, node.f1, node.f2, node.f4, strings),
+        tag::BOOL_VALUE => KindFound::Kind(value_alone(tag::BOOL_VALUE, bit_of(node.f0))),
+        tag::INT_VALUE => KindFound::Kind(value_alone(tag::INT_VALUE, node.f0)),
+        tag::FLOAT_VALUE => KindFound::Kind(value_alone(tag::FLOAT_VALUE, node.f0)),
+        tag::LIST_VALUE => list(payload, node.f0, node.f1),
+        tag::POINTER_VALUE => text_kind(tag, node.f0, node.f1, node.f2, node.f4, strings),
+        tag::ASSIGNMENT..=tag::REFERENCE => text_kind(
+            tag,
+            node.f0,
+            node.f1,
+            node.f2,
+            node.f4,
+            strings,
+        ),
+        tag::VOID => KindFound::Kind(value_alone(tag::VOID, 0)),
         _ => KindFound::NotFound,
     }
 }

@@ -67,7 +67,7 @@ pub checksum-agree : (s t : List ℕ) → take skipFrom s ≡ take skipFrom t �
 unfolding checksumOf
 checksum-agree s t p q = ap₂ (λ x y. crc32 (x ++ y)) p q
 
--- two lists that agree outside bytes 84 to 87
+-- two lists that agree outside the bytes of the checksum
 pub checksum-outside : (s t : List ℕ)
     → length s ≡ length t
     → ((i : ℕ) → (i < skipFrom) ⊎ (skipTo ≤ i) → getD s i 0 ≡ getD t i 0)

@@ -8,10 +8,10 @@ ghost use lib.Bits.{bitXor};
 ghost use Rattle.checksum.specs.Crc.{shifts, crcTable, byteStep, crcFrom, crc32, checksumOf};
 ghost use Rattle.checksum.specs.Lanes.{laneEntries, littleEndian, lanesFrom};
 
-// Where the checksum's own bytes begin, and where the bytes after them do.
-const SKIP_FROM: usize = 84;
+// Where the checksum's own bytes begin, and where the bytes after them do: `image` takes both from here.
+pub const SKIP_FROM: usize = 84;
 
-const SKIP_TO: usize = 88;
+pub const SKIP_TO: usize = SKIP_FROM + 4;
 
 const ONES: u32 = 0xffffffff;
 

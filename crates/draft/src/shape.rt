@@ -15,7 +15,8 @@ ghost use Rattle.draft.specs.Shown.{rightContainer, namedRight, TreePass
 use crate::source;
 use crate::source::Source;
 use image::ImageView;
-use image::order::comes_before;
+use image::NodeRecord;
+use image::order::texts_rise;
 use image::refusal::DRAFT_SHAPE;
 use image::tag::CONTAINER;
 
@@ -29,10 +30,7 @@ fn entry_rises(entries: &[u32], strings: &[u8], first: usize, place: usize) -> b
     }
     let last = source::entry_at(entries, first + (place - 1));
     let entry = source::entry_at(entries, first + place);
-    comes_before(
-        image::text_bytes(strings, last.offset, last.len),
-        image::text_bytes(strings, entry.offset, entry.len),
-    )
+    texts_rise(strings, last.offset, last.len, entry.offset, entry.len)
 }
 
 // Whether the text of definition `d` comes after that of the definition before it.
@@ -45,9 +43,12 @@ fn definition_rises(definitions: &[u32], strings: &[u8], d: usize) -> bool
     }
     let last = source::definition_at(definitions, d - 1);
     let definition = source::definition_at(definitions, d);
-    comes_before(
-        image::text_bytes(strings, last.offset, last.len),
-        image::text_bytes(strings, definition.offset, definition.len),
+    texts_rise(
+        strings,
+        last.offset,
+        last.len,
+        definition.offset,
+        definition.len,
     )
 }
 
@@ -58,10 +59,10 @@ fn right_child(nodes: &[u32], child: u32, id: usize, place: usize, source: Sourc
     if !image::is_inside(source::node_count(nodes, source), child) {
         return false;
     }
-    if source::node_word(nodes, child as usize, 0, source) as usize != id {
+    if source::node_word(nodes, child as usize, NodeRecord::PARENT, source) as usize != id {
         return false;
     }
-    source::node_word(nodes, child as usize, 1, source) as usize == place
+    source::node_word(nodes, child as usize, NodeRecord::PLACE, source) as usize == place
 }
 
 // Whether all of so many ordered children of container `id`, from `start` on, are right.
@@ -95,7 +96,7 @@ fn right_container(nodes: &[u32], n: u32, id: usize, source: Source) -> bool
     if source::tag_at(nodes, n, source) != CONTAINER {
         return false;
     }
-    source::node_word(nodes, n as usize, 0, source) as usize == id
+    source::node_word(nodes, n as usize, NodeRecord::PARENT, source) as usize == id
 }
 
 // Whether a named entry, the `place`-th from entry `first` on, has its text in order and names a container whose parent is `id`.

@@ -29,7 +29,7 @@ pub fn word(words: &[u32], i: usize) -> u32
 pub fn node_words(source: Source) -> usize
     ensures { λ r. ⌜ r ≡ nodeWords (source .version) ⌝ }
 {
-    image::node_size(source.version) as usize / 4
+    image::node_size(source.version) as usize / ImageView::WORD_BYTES
 }
 
 // How many nodes there are.
@@ -76,19 +76,19 @@ pub fn path_node(nodes: &[u32], n: u32, source: Source) -> PathNode
     ensures { λ r. ⌜ r ≡ pathNode (source .version) (now (nodes .entry)) n ⌝ }
 {
     let at = first_word(n as usize, source);
-    if at + 4 < nodes.len() {
+    if at + NodeRecord::F1 < nodes.len() {
         return PathNode {
             parent: nodes[at],
-            place: nodes[at + 1],
-            offset: nodes[at + 3],
-            len: nodes[at + 4],
+            place: nodes[at + NodeRecord::PLACE],
+            offset: nodes[at + NodeRecord::F0],
+            len: nodes[at + NodeRecord::F1],
         };
     }
     PathNode {
-        parent: word_of(nodes, n, 0, source),
-        place: word_of(nodes, n, 1, source),
-        offset: word_of(nodes, n, 3, source),
-        len: word_of(nodes, n, 4, source),
+        parent: word_of(nodes, n, NodeRecord::PARENT, source),
+        place: word_of(nodes, n, NodeRecord::PLACE, source),
+        offset: word_of(nodes, n, NodeRecord::F0, source),
+        len: word_of(nodes, n, NodeRecord::F1, source),
     }
 }
 
@@ -99,15 +99,15 @@ fn record_at(nodes: &[u32], at: usize) -> NodeRecord
 {
     NodeRecord {
         parent: nodes[at],
-        place: nodes[at + 1],
-        tag: nodes[at + 2],
-        f0: nodes[at + 3],
-        f1: nodes[at + 4],
-        f2: nodes[at + 5],
-        f3: nodes[at + 6],
-        f4: nodes[at + 7],
-        f5: nodes[at + 8],
-        f6: nodes[at + 9],
+        place: nodes[at + NodeRecord::PLACE],
+        tag: nodes[at + NodeRecord::TAG],
+        f0: nodes[at + NodeRecord::F0],
+        f1: nodes[at + NodeRecord::F1],
+        f2: nodes[at + NodeRecord::F2],
+        f3: nodes[at + NodeRecord::F3],
+        f4: nodes[at + NodeRecord::F4],
+        f5: nodes[at + NodeRecord::F5],
+        f6: nodes[at + NodeRecord::F6],
     }
 }
 
@@ -166,7 +166,7 @@ pub fn tag_at(nodes: &[u32], n: u32, source: Source) -> u32
     ensures { λ r. ⌜ r ≡ tagIn (draftOf (source .version) (now (nodes .entry)) [] [] [] [] [] []) n ⌝ }
 {
     if image::is_inside(node_count(nodes, source), n) {
-        node_word(nodes, n as usize, 2, source)
+        node_word(nodes, n as usize, NodeRecord::TAG, source)
     } else {
         0
     }

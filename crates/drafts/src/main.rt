@@ -2,58 +2,52 @@
 // words: ink version, output bytes and work words lent, the lengths of the draft's seven slices; then the slices. A line is printed for
 // each: its place, the number, the length that was written or with 23 is needed, the CRC-32 of the lent output and how many of the lent
 // work words are 0.
+use draft_words::Lengths;
 use draft_words::after;
 use draft_words::first;
 use draft_words::front;
-use draft_words::read_words;
+use draft_words::lengths_of;
+use draft_words::read_tables;
 use image::refusal::NO_ROOM;
 use libc::STDIN_FILENO;
 use libc::STDOUT_FILENO;
 use writer::Encoded;
 ghost use Prim.Native.Nat.{_≤_};
 
-// What a record begins with.
+// What a record begins with, before the lengths of its slices: the ink version, and what is lent.
 struct Head {
     ink: u32,
     out: u32,
     work: u32,
-    nodes: u32,
-    children: u32,
-    named: u32,
-    definitions: u32,
-    items: u32,
-    payload: u32,
-    strings: u32,
 }
 
+// Bytes of these, and of the lengths with them.
+const HEAD_BYTES: usize = 12;
+
+const DRAFT_AT: usize = 40;
+
+// The first three words of a record.
 fn head_of(record: &[u8]) -> Head {
     Head {
         ink: words::get(record, 0),
         out: words::get(record, 4),
         work: words::get(record, 8),
-        nodes: words::get(record, 12),
-        children: words::get(record, 16),
-        named: words::get(record, 20),
-        definitions: words::get(record, 24),
-        items: words::get(record, 28),
-        payload: words::get(record, 32),
-        strings: words::get(record, 36),
     }
 }
 
-// How many words its slices have.
-fn words_in(head: Head) -> usize
+// How many words a draft's tables have.
+fn words_in(lengths: Lengths) -> usize
     ensures { λ r. ⌜ r ≤ 21474836475 ⌝ }
 {
-    let tree = head.nodes as usize + head.children as usize + head.named as usize;
-    tree + head.definitions as usize + head.items as usize
+    let tree = lengths.nodes as usize + lengths.children as usize + lengths.named as usize;
+    tree + lengths.definitions as usize + lengths.items as usize
 }
 
 // How many bytes a record has.
-fn size_of(head: Head) -> usize
+fn size_of(lengths: Lengths) -> usize
     ensures { λ r. ⌜ r ≤ 100000000000 ⌝ }
 {
-    40 + 4 * words_in(head) + head.payload as usize + head.strings as usize
+    DRAFT_AT + 4 * words_in(lengths) + lengths.payload as usize + lengths.strings as usize
 }
 
 // 1 for a word that is 0.
@@ -83,6 +77,7 @@ fn print_line(text: &[u8]) {
     io::write_all(STDOUT_FILENO, text);
 }
 
+// The number of an answer, and its length or 0.
 fn print_answer(answer: Encoded) {
     match answer {
         Encoded::Written(length) => {
@@ -169,33 +164,33 @@ fn write_draft(
 }
 
 // Writes the draft of a record, of which each slice has at most 64 words.
-fn run_record(record: &[u8], head: Head) {
+fn run_record(record: &[u8], lengths: Lengths) {
     let mut nodes = [0u32; 64];
     let mut children = [0u32; 64];
     let mut named = [0u32; 64];
     let mut definitions = [0u32; 64];
     let mut items = [0u32; 64];
-    let from_nodes = after(record, 40);
-    let from_children = after(from_nodes, 4 * head.nodes as usize);
-    let from_named = after(from_children, 4 * head.children as usize);
-    let from_definitions = after(from_named, 4 * head.named as usize);
-    let from_items = after(from_definitions, 4 * head.definitions as usize);
-    let from_payload = after(from_items, 4 * head.items as usize);
-    let from_strings = after(from_payload, head.payload as usize);
-    read_words(from_nodes, &mut nodes);
-    read_words(from_children, &mut children);
-    read_words(from_named, &mut named);
-    read_words(from_definitions, &mut definitions);
-    read_words(from_items, &mut items);
+    let from_payload = read_tables(
+        after(record, DRAFT_AT),
+        lengths,
+        &mut nodes,
+        &mut children,
+        &mut named,
+        &mut definitions,
+        &mut items,
+    );
     write_draft(
-        head,
-        first(&nodes, head.nodes),
-        first(&children, head.children),
-        first(&named, head.named),
-        first(&definitions, head.definitions),
-        first(&items, head.items),
-        front(from_payload, head.payload),
-        front(from_strings, head.strings),
+        head_of(record),
+        first(&nodes, lengths.nodes),
+        first(&children, lengths.children),
+        first(&named, lengths.named),
+        first(&definitions, lengths.definitions),
+        first(&items, lengths.items),
+        front(from_payload, lengths.payload),
+        front(
+            after(from_payload, lengths.payload as usize),
+            lengths.strings,
+        ),
     );
 }
 
@@ -203,14 +198,14 @@ fn run_record(record: &[u8], head: Head) {
 fn run_one(records: &[u8], place: u32) -> usize
     ensures { λ r. ⌜ r ≤ 100000000000 ⌝ }
 {
-    let head = head_of(records);
-    if head.nodes == 0 {
+    let lengths = lengths_of(after(records, HEAD_BYTES));
+    if lengths.nodes == 0 {
         return 0;
     }
     io::print_decimal(STDOUT_FILENO, place as u64);
     io::write_all(STDOUT_FILENO, b":");
-    run_record(records, head);
-    size_of(head)
+    run_record(records, lengths);
+    size_of(lengths)
 }
 
 // Every record, up to 100.

@@ -13,7 +13,7 @@ use Rattle.words.specs.Words.{bytes4, bytesOf, NONE}
 use Rattle.words.proofs.Words.{length-bytes}
 use Rattle.texts.specs.Text.{ascii}
 use Rattle.checksum.specs.Crc.{checksumOf}
-use Rattle.image.specs.Header.{magic, headerLength}
+use Rattle.image.specs.Header.{magic, headerLength, versionAt, checksumAt}
 use Rattle.image.specs.Sections.{Sections, nodeSize, nodeCount, childSize, textEntrySize, definitionSize}
 use Rattle.image.specs.Encoding.{countOf, sectionOut, startOf, bodyOf, headerWith, imageOf}
 use Rattle.words.specs.Output.{over, putAt}
@@ -90,7 +90,7 @@ module _ (long : ℕ) (c : EntryCounts) where
   -- the words behind the magic
   abbrev pub headerWords : ℕ → ℕ → List ℕ
   headerWords version ink =
-      version ∷ ink ∷ start8 ∷ 88 ∷ c .nodes ∷ start1 ∷ c .children ∷ start2 ∷ c .named ∷ start3 ∷ c .definitions ∷ start4 ∷ c .items ∷ start5 ∷ c .index
+      version ∷ ink ∷ start8 ∷ headerLength ∷ c .nodes ∷ start1 ∷ c .children ∷ start2 ∷ c .named ∷ start3 ∷ c .definitions ∷ start4 ∷ c .items ∷ start5 ∷ c .index
       ∷ start6 ∷ c .payload ∷ start7 ∷ c .strings ∷ 0 ∷ []
 
 -- a word can say each count and each start, if it can say how long the image is
@@ -138,21 +138,21 @@ module _ (version long : ℕ) (s : Sections) (c : EntryCounts) (e : long ≡ c .
       ∷ x .7 t ∷ n .7 t ∷ 0 ∷ []
 
   -- magic, then words
-  pub header-put : (ink : ℕ) (out₀ out₁ out₂ : List ℕ) → headerLength ≤ length out₀ → out₁ ≡ over magic out₀ → out₂ ≡ putAt out₁ 8 (headerWords long c version ink)
+  pub header-put : (ink : ℕ) (out₀ out₁ out₂ : List ℕ) → headerLength ≤ length out₀ → out₁ ≡ over magic out₀ → out₂ ≡ putAt out₁ versionAt (headerWords long c version ink)
       → out₂ ≡ over (headerWith ink s 0) out₀
   unfolding headerWith magic ascii bytesOf
   header-put ink out₀ out₁ out₂ h p q =
       front-is (magic ++ bytesOf (headerWords long c version ink)) out₀ out₂
-      (more 0 magic out₀ out₁ (filled-front magic out₀ out₁ (omega arith) p) (bytesOf (headerWords long c version ink)) 8 88 out₂ refl refl h q)
+      (more 0 magic out₀ out₁ (filled-front magic out₀ out₁ (omega arith) p) (bytesOf (headerWords long c version ink)) versionAt headerLength out₂ refl refl h q)
       ∙ ap (λ (ws : List ℕ). over (magic ++ bytesOf ws) out₀) (header-words ink)
 
 -- ---- the checksum
 
 pub sum-put : (ink : ℕ) (s : Sections) (image image′ : List ℕ) (sum : ℕ) → image ≡ headerWith ink s 0 ++ bodyOf s → sum ≡ checksumOf image
-    → image′ ≡ take 84 image ++ bytes4 sum ++ drop (84 + 4) image → image′ ≡ imageOf ink s
+    → image′ ≡ take checksumAt image ++ bytes4 sum ++ drop (checksumAt + 4) image → image′ ≡ imageOf ink s
 unfolding headerWith magic ascii bytesOf joinOf imageOf
 sum-put ink s image image′ sum p q z =
-    z ∙ (λ t. take 84 (p t) ++ bytes4 ((q ∙ ap checksumOf p) t) ++ drop 88 (p t))
+    z ∙ (λ t. take checksumAt (p t) ++ bytes4 ((q ∙ ap checksumOf p) t) ++ drop headerLength (p t))
 
 -- ---- sections one after the other behind the header
 

@@ -15,16 +15,16 @@ use Rattle.laws.specs.Counted.{allOf}
 use Rattle.laws.proofs.Flags.{both-true, all-at, all-of}
 use Rattle.words.specs.Words.{wordAt}
 use Rattle.texts.specs.Text.{same}
-use Rattle.image.specs.Header.{magic, headerLength, versionRight, sectionAt, viewOf, sizes, startBy, sectionRight, laidOut, inkRight, headed, headerRule}
+use Rattle.image.specs.Header.{magic, headerLength, versionRight, sectionAt, viewOf, sizes, startBy, sectionRight, laidOut, inkRight, headed, headerRule, inkVersionAt, lengthAt, versionAt}
 use Rattle.image.proofs.Views.{Within, Inside, SectionCounts, counts}
 use Rattle.image.proofs.Rows.{start-next, headed-by, row-layout}
 
 pub record Opens (bs : List ℕ) : Type 0 where
   pub long : headerLength ≤ length bs
   pub marked : same (take 8 bs) magic ≡ true
-  pub versioned : versionRight (wordAt bs 8) ≡ true
-  pub inked : inkRight (wordAt bs 12) ≡ true
-  pub total : wordAt bs 16 ≡ length bs
+  pub versioned : versionRight (wordAt bs versionAt) ≡ true
+  pub inked : inkRight (wordAt bs inkVersionAt) ≡ true
+  pub total : wordAt bs lengthAt ≡ length bs
   pub begins : (k : ℕ) → k < 8 → sectionAt bs k .offset ≡ startBy bs k
   pub ends : (k : ℕ) → k < 8 → startBy bs (suc k) ≤ length bs
   pub whole : startBy bs 8 ≡ length bs
@@ -34,9 +34,9 @@ pub opens : (bs : List ℕ) → headerRule bs ≡ 0 → Opens bs
 unfolding headerRule laidOut sectionRight
 opens bs h =
     let rows1 = both (unless (headed bs) 1) _ h in
-    let rows2 = both (unless (versionRight (wordAt bs 8)) 2) _ (rows1 .1) in
-    let rows3 = both (unless (inkRight (wordAt bs 12)) 3) _ (rows2 .1) in
-    let rows4 = both (unless (eqb (wordAt bs 16) (length bs)) 4) _ (rows3 .1) in
+    let rows2 = both (unless (versionRight (wordAt bs versionAt)) 2) _ (rows1 .1) in
+    let rows3 = both (unless (inkRight (wordAt bs inkVersionAt)) 3) _ (rows2 .1) in
+    let rows4 = both (unless (eqb (wordAt bs lengthAt) (length bs)) 4) _ (rows3 .1) in
     let head = both-true (leb headerLength (length bs)) (same (take 8 bs) magic) (passed (headed bs) 0 (rows1 .0)) in
     let laid = both-true (allOf 8 (sectionRight bs) && eqb (startBy bs 8) (length bs)) (not (eqb (sectionAt bs 0 .count) 0)) (passed (laidOut bs) 4 (rows4 .1)) in
     let sections = both-true (allOf 8 (sectionRight bs)) (eqb (startBy bs 8) (length bs)) (laid .0) in
@@ -45,9 +45,9 @@ opens bs h =
     record {
       long = leb-true headerLength (length bs) (head .0);
       marked = head .1;
-      versioned = passed (versionRight (wordAt bs 8)) 1 (rows2 .0);
-      inked = passed (inkRight (wordAt bs 12)) 2 (rows3 .0);
-      total = eqb-true (wordAt bs 16) (length bs) (passed (eqb (wordAt bs 16) (length bs)) 3 (rows4 .0));
+      versioned = passed (versionRight (wordAt bs versionAt)) 1 (rows2 .0);
+      inked = passed (inkRight (wordAt bs inkVersionAt)) 2 (rows3 .0);
+      total = eqb-true (wordAt bs lengthAt) (length bs) (passed (eqb (wordAt bs lengthAt) (length bs)) 3 (rows4 .0));
       begins = λ k l. eqb-true (sectionAt bs k .offset) (startBy bs k) (right k l .0);
       ends = λ k l. leb-true (startBy bs (suc k)) (length bs) (right k l .1);
       whole = eqb-true (startBy bs 8) (length bs) (sections .1);
@@ -72,9 +72,9 @@ opens-of bs o =
 
 -- ---- the sections of an image that opens
 
-pub section-within : (bs : List ℕ) → Opens bs → (k : ℕ) → k < 8 → Within bs (sectionAt bs k) (getD (sizes (wordAt bs 8)) k 0)
+pub section-within : (bs : List ℕ) → Opens bs → (k : ℕ) → k < 8 → Within bs (sectionAt bs k) (getD (sizes (wordAt bs versionAt)) k 0)
 section-within bs o k l =
-    let e : sectionAt bs k .offset + sectionAt bs k .count * getD (sizes (wordAt bs 8)) k 0 ≡ startBy bs (suc k) = rw (o .begins k l) (sym (start-next bs k)) in
+    let e : sectionAt bs k .offset + sectionAt bs k .count * getD (sizes (wordAt bs versionAt)) k 0 ≡ startBy bs (suc k) = rw (o .begins k l) (sym (start-next bs k)) in
     omega (arith, o .ends k l)
 
 pub view-inside : (bs : List ℕ) → Opens bs → Inside bs (viewOf bs)

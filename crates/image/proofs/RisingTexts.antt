@@ -49,16 +49,14 @@ module _ (t : ℕ → List ℕ) (n : ℕ) (up : (j : ℕ) → j < n → rising t
 -- ---- entries
 
 -- the texts of an entry and of the one before it
-pub entry-rises : (ws strings : List ℕ) (first place : ℕ) (last entry : TextEntry) (a b : List ℕ) → (place ≡ 0 → ⊥)
+pub entry-rises : (ws strings : List ℕ) (first place : ℕ) (last entry : TextEntry) → (place ≡ 0 → ⊥)
     → last ≡ textEntryOf ws (first + (place - 1)) → entry ≡ textEntryOf ws (first + place)
-    → a ≡ partAt strings (last .offset) (last .len) → b ≡ partAt strings (entry .offset) (entry .len)
-    → before a b ≡ rising (entryTextFrom ws strings first) place
+    → before (partAt strings (last .offset) (last .len)) (partAt strings (entry .offset) (entry .len)) ≡ rising (entryTextFrom ws strings first) place
 unfolding entryTextFrom
-entry-rises ws strings first place last entry a b h p q u v = rw (rising-next (entryTextFrom ws strings first) place h, u, v, p, q)
+entry-rises ws strings first place last entry h p q = rw (rising-next (entryTextFrom ws strings first) place h, p, q)
 
-pub definition-rises : (ws strings : List ℕ) (d : ℕ) (last entry : Definition) (a b : List ℕ) → (d ≡ 0 → ⊥)
+pub definition-rises : (ws strings : List ℕ) (d : ℕ) (last entry : Definition) → (d ≡ 0 → ⊥)
     → last ≡ definitionOf ws (d - 1) → entry ≡ definitionOf ws d
-    → a ≡ partAt strings (last .offset) (last .len) → b ≡ partAt strings (entry .offset) (entry .len)
-    → before a b ≡ rising (definitionTextIn ws strings) d
+    → before (partAt strings (last .offset) (last .len)) (partAt strings (entry .offset) (entry .len)) ≡ rising (definitionTextIn ws strings) d
 unfolding definitionTextIn
-definition-rises ws strings d last entry a b h p q u v = rw (rising-next (definitionTextIn ws strings) d h, u, v, p, q)
+definition-rises ws strings d last entry h p q = rw (rising-next (definitionTextIn ws strings) d h, p, q)

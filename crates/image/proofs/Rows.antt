@@ -17,15 +17,15 @@ use Rattle.texts.specs.Text.{same}
 use Rattle.image.specs.declared.Section.{Section}
 use Rattle.image.specs.declared.ImageView.{ImageView}
 use Rattle.image.specs.declared.Opened.the-variants.{View, Refused}
-use Rattle.image.specs.Header.{magic, headerLength, versionRight, sectionAt, viewOf, sizes, startBy, sectionRight, laidOut, inkRight, headed, headerRule, openedBy, openedOf}
-use Rattle.image.specs.Sections.{nodeWords}
+use Rattle.image.specs.Header.{magic, headerLength, versionAt, inkVersionAt, lengthAt, versionRight, sectionAt, viewOf, sizes, startBy, sectionRight, laidOut, inkRight, headed, headerRule, openedBy, openedOf}
+use Rattle.image.specs.Sections.{nodeWords, mostNodeSize}
 use Rattle.image.proofs.Widths.{width}
 
 -- ---- where sections begin
 
-pub start-next : (bs : List ℕ) (k : ℕ) → startBy bs (suc k) ≡ startBy bs k + sectionAt bs k .count * getD (sizes (wordAt bs 8)) k 0
+pub start-next : (bs : List ℕ) (k : ℕ) → startBy bs (suc k) ≡ startBy bs k + sectionAt bs k .count * getD (sizes (wordAt bs versionAt)) k 0
 unfolding startBy sumOf
-start-next bs k = sym (add-assoc headerLength (sumOf k (λ j. sectionAt bs j .count * getD (sizes (wordAt bs 8)) j 0)) (sectionAt bs k .count * getD (sizes (wordAt bs 8)) k 0))
+start-next bs k = sym (add-assoc headerLength (sumOf k (λ j. sectionAt bs j .count * getD (sizes (wordAt bs versionAt)) j 0)) (sectionAt bs k .count * getD (sizes (wordAt bs versionAt)) k 0))
 
 at-most : ℕ → List ℕ → Bool
 at-most n [] = true
@@ -37,22 +37,22 @@ at-most-at n [] h k = omega arith
 at-most-at n (x ∷ xs) h zero = leb-true x n (both-true (leb x n) (at-most n xs) h .0)
 at-most-at n (x ∷ xs) h (suc k) = at-most-at n xs (both-true (leb x n) (at-most n xs) h .1) k
 
--- no entry has more than 44 bytes
-pub size-bound : (version k : ℕ) → getD (sizes version) k 0 ≤ 44
+-- no entry has more bytes than the widest node
+pub size-bound : (version k : ℕ) → getD (sizes version) k 0 ≤ mostNodeSize
 unfolding sizes at-most
-size-bound version k = at-most-at 44 (sizes version) (rw (le-leb (4 * nodeWords version) 44 (omega (arith, width version .most)))) k
+size-bound version k = at-most-at mostNodeSize (sizes version) (rw (le-leb (4 * nodeWords version) mostNodeSize (omega (arith, width version .most)))) k
 
 -- so the end of a section fits 64 bits
-pub length-bound : (version count k : ℕ) → count ≤ NONE → count * getD (sizes version) k 0 ≤ NONE * 44
+pub length-bound : (version count k : ℕ) → count ≤ NONE → count * getD (sizes version) k 0 ≤ NONE * mostNodeSize
 length-bound version count k h =
-    let first : count * getD (sizes version) k 0 ≤ count * 44 = mul-le-mul-left count (size-bound version k) in
+    let first : count * getD (sizes version) k 0 ≤ count * mostNodeSize = mul-le-mul-left count (size-bound version k) in
     omega arith
 
-pub table-size : (table : List ℕ) (version k : ℕ) → table ≡ sizes version → getD table k 0 ≤ 44
-table-size table version k e = subst (λ (t : List ℕ). getD t k 0 ≤ 44) (sym e) (size-bound version k)
+pub table-size : (table : List ℕ) (version k : ℕ) → table ≡ sizes version → getD table k 0 ≤ mostNodeSize
+table-size table version k e = subst (λ (t : List ℕ). getD t k 0 ≤ mostNodeSize) (sym e) (size-bound version k)
 
-pub table-bound : (table : List ℕ) (version count k : ℕ) → table ≡ sizes version → count ≤ NONE → count * getD table k 0 ≤ NONE * 44
-table-bound table version count k e h = subst (λ (t : List ℕ). count * getD t k 0 ≤ NONE * 44) (sym e) (length-bound version count k h)
+pub table-bound : (table : List ℕ) (version count k : ℕ) → table ≡ sizes version → count ≤ NONE → count * getD table k 0 ≤ NONE * mostNodeSize
+table-bound table version count k e h = subst (λ (t : List ℕ). count * getD t k 0 ≤ NONE * mostNodeSize) (sym e) (length-bound version count k h)
 
 -- one section that is not right spoils the layout
 layout-fails : (bs : List ℕ) (k : ℕ) → k < 8 → sectionRight bs k ≡ false → laidOut bs ≡ false
@@ -71,7 +71,7 @@ unfolding allOf startBy sumOf
 laid-start bs = record { few = omega arith; starts = refl; right = refl }
 
 module _ (bs : List ℕ) (end k : ℕ) (l : Laid bs end k) (s : Section) (e : s ≡ sectionAt bs k) (h : k < 8) where
-  ends : s .offset ≡ end → startBy bs (suc k) ≡ s .offset + s .count * getD (sizes (wordAt bs 8)) k 0
+  ends : s .offset ≡ end → startBy bs (suc k) ≡ s .offset + s .count * getD (sizes (wordAt bs versionAt)) k 0
   ends o =
       let begins : s .offset ≡ startBy bs k = o ∙ l .starts in
       let counted : s .count ≡ sectionAt bs k .count = ap (λ (x : Section). x .count) e in
@@ -84,22 +84,22 @@ module _ (bs : List ℕ) (end k : ℕ) (l : Laid bs end k) (s : Section) (e : s 
       sym (layout-fails bs k h (rw (ne-eqb (sectionAt bs k .offset) (startBy bs k) (λ q. n (ap (λ (x : Section). x .offset) e ∙ q ∙ sym (l .starts))))))
 
   -- the section runs past the end
-  pub laid-past : s .offset ≡ end → length bs < s .offset + s .count * getD (sizes (wordAt bs 8)) k 0 → false ≡ laidOut bs
+  pub laid-past : s .offset ≡ end → length bs < s .offset + s .count * getD (sizes (wordAt bs versionAt)) k 0 → false ≡ laidOut bs
   unfolding laidOut sectionRight
   laid-past o p =
-      sym (layout-fails bs k h (rw (ends, lt-leb (s .offset + s .count * getD (sizes (wordAt bs 8)) k 0) (length bs) p) (and-false (eqb (sectionAt bs k .offset) (startBy bs k)))))
+      sym (layout-fails bs k h (rw (ends, lt-leb (s .offset + s .count * getD (sizes (wordAt bs versionAt)) k 0) (length bs) p) (and-false (eqb (sectionAt bs k .offset) (startBy bs k)))))
 
-  pub laid-next : s .offset ≡ end → s .offset + s .count * getD (sizes (wordAt bs 8)) k 0 ≤ length bs → Laid bs (s .offset + s .count * getD (sizes (wordAt bs 8)) k 0) (k + 1)
+  pub laid-next : s .offset ≡ end → s .offset + s .count * getD (sizes (wordAt bs versionAt)) k 0 ≤ length bs → Laid bs (s .offset + s .count * getD (sizes (wordAt bs versionAt)) k 0) (k + 1)
   unfolding sectionRight
   laid-next o p =
       record {
         few = omega arith;
         starts = rw add-one (sym (ends o));
-        right = all-next k (sectionRight bs) (l .right) (rw (ends, eq-eqb (sectionAt bs k .offset) (startBy bs k) (sym (ap (λ (x : Section). x .offset) e) ∙ o ∙ l .starts), le-leb (s .offset + s .count * getD (sizes (wordAt bs 8)) k 0) (length bs) p));
+        right = all-next k (sectionRight bs) (l .right) (rw (ends, eq-eqb (sectionAt bs k .offset) (startBy bs k) (sym (ap (λ (x : Section). x .offset) e) ∙ o ∙ l .starts), le-leb (s .offset + s .count * getD (sizes (wordAt bs versionAt)) k 0) (length bs) p));
       }
 
   -- the same by the code's table
-  module _ (table : List ℕ) (same-sizes : table ≡ sizes (wordAt bs 8)) (o : s .offset ≡ end) where
+  module _ (table : List ℕ) (same-sizes : table ≡ sizes (wordAt bs versionAt)) (o : s .offset ≡ end) where
     pub table-past : length bs < s .offset + s .count * getD table k 0 → false ≡ laidOut bs
     table-past p = laid-past o (subst (λ (t : List ℕ). length bs < s .offset + s .count * getD t k 0) same-sizes p)
 
@@ -143,25 +143,25 @@ module _ (bs : List ℕ) where
   headed-by h m = rw (le-leb headerLength (length bs) h, m)
 
   module _ (a : headed bs ≡ true) where
-    pub row-version : versionRight (wordAt bs 8) ≡ false → headerRule bs ≡ 2
+    pub row-version : versionRight (wordAt bs versionAt) ≡ false → headerRule bs ≡ 2
     unfolding headerRule unless _▸_
     row-version n = rw (a, n)
 
-    module _ (b : versionRight (wordAt bs 8) ≡ true) where
-      pub row-ink : inkRight (wordAt bs 12) ≡ false → headerRule bs ≡ 3
+    module _ (b : versionRight (wordAt bs versionAt) ≡ true) where
+      pub row-ink : inkRight (wordAt bs inkVersionAt) ≡ false → headerRule bs ≡ 3
       unfolding headerRule unless _▸_
       row-ink n = rw (a, b, n)
 
-      module _ (i : inkRight (wordAt bs 12) ≡ true) where
-        pub row-length : (wordAt bs 16 ≡ length bs → ⊥) → headerRule bs ≡ 4
+      module _ (i : inkRight (wordAt bs inkVersionAt) ≡ true) where
+        pub row-length : (wordAt bs lengthAt ≡ length bs → ⊥) → headerRule bs ≡ 4
         unfolding headerRule unless _▸_
-        row-length n = rw (a, b, i, ne-eqb (wordAt bs 16) (length bs) n)
+        row-length n = rw (a, b, i, ne-eqb (wordAt bs lengthAt) (length bs) n)
 
-        module _ (t : wordAt bs 16 ≡ length bs) where
+        module _ (t : wordAt bs lengthAt ≡ length bs) where
           -- the layout decides
           pub row-layout : headerRule bs ≡ unless (laidOut bs) 5
           unfolding headerRule unless _▸_
-          row-layout = rw (a, b, i, eq-eqb (wordAt bs 16) (length bs) t)
+          row-layout = rw (a, b, i, eq-eqb (wordAt bs lengthAt) (length bs) t)
 
 -- ---- the answer of the constructor
 

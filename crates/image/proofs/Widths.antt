@@ -7,12 +7,12 @@ use native.Mathlib.Nat.{mul-comm, mul-assoc, mul-le-mul-left}
 use lib.ListN.{length}
 use Rattle.words.specs.Words.{wordsOf, NONE}
 use Rattle.words.proofs.Words.{length-words}
-use Rattle.image.specs.Sections.{commonWords, nodeWords, nodeSize}
+use Rattle.image.specs.Sections.{commonWords, mostWords, nodeWords, nodeSize}
 use Rattle.image.proofs.Parts.{entry-inside}
 
 pub record Width (w : ℕ) : Type 0 where
   pub least : commonWords ≤ w
-  pub most : w ≤ commonWords + 1
+  pub most : w ≤ mostWords
 
 pub width : (version : ℕ) → Width (nodeWords version)
 unfolding nodeWords
@@ -41,7 +41,7 @@ pub nodes-fewer : (n version : ℕ) → n + n ≤ n * (4 * nodeWords version)
 nodes-fewer n version = omega (arith, size-words n version, mul-le-mul-left n (words-some version))
 
 -- the words before a node whose number is a word
-pub number-words : (i version : ℕ) → i ≤ NONE → i * nodeWords version ≤ NONE * (commonWords + 1)
+pub number-words : (i version : ℕ) → i ≤ NONE → i * nodeWords version ≤ NONE * mostWords
 unfolding nodeWords
 number-words i version h = omega arith
 
@@ -69,7 +69,7 @@ count-of ws n version e = ap (λ (x : ℕ). x / nodeWords version) e ∙ whole-c
 pub record NodeWithin (ws : List ℕ) (version i : ℕ) : Type 0 where
   pub words : i * nodeWords version + nodeWords version ≤ length ws
   pub least : commonWords ≤ nodeWords version
-  pub most : nodeWords version ≤ commonWords + 1
+  pub most : nodeWords version ≤ mostWords
 
 pub node-within : (ws : List ℕ) (version i : ℕ) → i < length ws / nodeWords version → NodeWithin ws version i
 unfolding nodeWords
@@ -79,7 +79,7 @@ node-within ws version i h = record { words = omega arith; least = omega arith; 
 pub record NodeInside (part : List ℕ) (version i : ℕ) : Type 0 where
   pub bytes : 4 * (i * nodeWords version) + 4 * nodeWords version ≤ length part
   pub least : commonWords ≤ nodeWords version
-  pub most : nodeWords version ≤ commonWords + 1
+  pub most : nodeWords version ≤ mostWords
 
 pub node-inside : (part : List ℕ) (version i : ℕ) → i < length (wordsOf part) / nodeWords version → NodeInside part version i
 node-inside part version i h =

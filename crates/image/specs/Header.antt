@@ -7,6 +7,7 @@ use lib.Dec.{leb, eqb}
 use Rattle.laws.specs.Refusal.{unless, _▸_, refusals}
 use Rattle.laws.specs.Counted.{sumOf, allOf, counted}
 use Rattle.words.specs.Words.{wordAt, wordsOf, words}
+use Rattle.checksum.specs.Crc.{skipFrom, skipTo}
 use Rattle.texts.specs.Text.{ascii, same, texts}
 use Rattle.image.specs.Refusals.{badHeader, badVersion, badInkVersion, badLength, badSections}
 use Rattle.image.specs.declared.Section.{Section}
@@ -18,8 +19,25 @@ use Rattle.image.specs.Sections.{Sections, nodeSize, childSize, textEntr
 unfoldable pub magic : List ℕ
 magic = ascii "BLINKIMG"
 
+-- the checksum ends the header
 abbrev pub headerLength : ℕ
-headerLength = 88
+headerLength = skipTo
+
+-- where the header's words stand behind the magic: of a section, offset and count
+abbrev pub versionAt : ℕ
+versionAt = 8
+
+abbrev pub inkVersionAt : ℕ
+inkVersionAt = 12
+
+abbrev pub lengthAt : ℕ
+lengthAt = 16
+
+abbrev pub sectionsAt : ℕ
+sectionsAt = 20
+
+abbrev pub checksumAt : ℕ
+checksumAt = skipFrom
 
 abbrev pub version : ℕ
 version = 2
@@ -31,13 +49,13 @@ versionRight v = eqb v version
 
 -- offset and count of section k
 abbrev pub sectionAt : List ℕ → ℕ → Section
-sectionAt bs k = record { offset = wordAt bs (20 + 8 * k); count = wordAt bs (24 + 8 * k) }
+sectionAt bs k = record { offset = wordAt bs (sectionsAt + 8 * k); count = wordAt bs (sectionsAt + 4 + 8 * k) }
 
 unfoldable pub viewOf : List ℕ → ImageView
 viewOf bs =
     record {
-      version = wordAt bs 8;
-      «ink_version» = wordAt bs 12;
+      version = wordAt bs versionAt;
+      «ink_version» = wordAt bs inkVersionAt;
       nodes = sectionAt bs 0;
       children = sectionAt bs 1;
       named = sectionAt bs 2;
@@ -81,7 +99,7 @@ sizes v = nodeSize v ∷ childSize ∷ textEntrySize ∷ definitionSize ∷ text
 
 -- where section k begins by the counts before it
 unfoldable pub startBy : List ℕ → ℕ → ℕ
-startBy bs k = headerLength + sumOf k (λ j. sectionAt bs j .count * getD (sizes (wordAt bs 8)) j 0)
+startBy bs k = headerLength + sumOf k (λ j. sectionAt bs j .count * getD (sizes (wordAt bs versionAt)) j 0)
 
 -- section k begins where the one before it ends, and ends in the slice
 unfoldable pub sectionRight : List ℕ → ℕ → Bool
@@ -91,9 +109,16 @@ sectionRight bs k = eqb (sectionAt bs k .offset) (startBy bs k) && leb (startBy 
 unfoldable pub laidOut : List ℕ → Bool
 laidOut bs = allOf 8 (sectionRight bs) && eqb (startBy bs 8) (length bs) && not (eqb (sectionAt bs 0 .count) 0)
 
--- signed, but 18 to 21 on the word are the same numbers
+-- the known ink versions
+abbrev pub firstInkVersion : ℕ
+firstInkVersion = 18
+
+abbrev pub lastInkVersion : ℕ
+lastInkVersion = 21
+
+-- signed, but these on the word are the same numbers
 abbrev pub inkRight : ℕ → Bool
-inkRight v = leb 18 v && leb v 21
+inkRight v = leb firstInkVersion v && leb v lastInkVersion
 
 -- a whole header, with the magic
 abbrev pub headed : List ℕ → Bool
@@ -102,9 +127,9 @@ headed bs = leb headerLength (length bs) && same (take 8 bs) magic
 unfoldable pub headerRule : List ℕ → ℕ
 headerRule bs =
     unless (headed bs) badHeader
-    ▸ unless (versionRight (wordAt bs 8)) badVersion
-    ▸ unless (inkRight (wordAt bs 12)) badInkVersion
-    ▸ unless (eqb (wordAt bs 16) (length bs)) badLength
+    ▸ unless (versionRight (wordAt bs versionAt)) badVersion
+    ▸ unless (inkRight (wordAt bs inkVersionAt)) badInkVersion
+    ▸ unless (eqb (wordAt bs lengthAt) (length bs)) badLength
     ▸ unless (laidOut bs) badSections
 
 -- ---- opening an image

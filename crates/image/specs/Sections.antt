@@ -18,6 +18,10 @@ commonWords = 10
 unfoldable pub nodeWords : ℕ → ℕ
 nodeWords version = commonWords
 
+-- words of the widest node that proofs allow for: no version has more
+abbrev pub mostWords : ℕ
+mostWords = commonWords + 1
+
 -- words a named entry, an item, an index entry
 abbrev pub textEntryWords : ℕ
 textEntryWords = 3
@@ -28,6 +32,9 @@ definitionWords = 4
 -- the same in bytes
 abbrev pub nodeSize : ℕ → ℕ
 nodeSize version = 4 * nodeWords version
+
+abbrev pub mostNodeSize : ℕ
+mostNodeSize = 4 * mostWords
 
 abbrev pub childSize : ℕ
 childSize = 4

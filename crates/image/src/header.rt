@@ -7,14 +7,19 @@ use crate::ImageView;
 use crate::Section;
 use crate::refusal;
 
+// A section's count stands behind its offset.
+const COUNTS_AT: usize = ImageView::SECTIONS_AT + ImageView::WORD_BYTES;
+
+const SECTION_BYTES: usize = 2 * ImageView::WORD_BYTES;
+
 // Offset and count of section `k`.
 fn section_at(bytes: &[u8], k: usize) -> Section
     requires { ⌜ (headerLength ≤ length (now bytes)) × (k < 8) ⌝ }
     ensures { λ r. ⌜ r ≡ sectionAt (now (bytes .entry)) k ⌝ }
 {
     Section {
-        offset: words::word(bytes, ImageView::SECTIONS_AT + 8 * k),
-        count: words::word(bytes, 24 + 8 * k),
+        offset: words::word(bytes, ImageView::SECTIONS_AT + SECTION_BYTES * k),
+        count: words::word(bytes, COUNTS_AT + SECTION_BYTES * k),
     }
 }
 
@@ -44,14 +49,18 @@ fn version_right(version: u32) -> bool
     version == ImageView::VERSION
 }
 
-// Whether an ink version is one that is known: 18 to 21.
+// Whether an ink version is one that is known.
 pub fn ink_right(version: u32) -> bool
     ensures { λ r. ⌜ r ≡ inkRight version ⌝ }
 {
-    if version < 18 {
+    if version < ImageView::FIRST_INK_VERSION {
         return false;
     }
-    if version <= 21 { true } else { false }
+    if version <= ImageView::LAST_INK_VERSION {
+        true
+    } else {
+        false
+    }
 }
 
 // Whether the sections follow each other from the header to the end of the bytes, with a node in the first.

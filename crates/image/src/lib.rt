@@ -58,8 +58,8 @@ impl ImageView {
 
     pub const VERSION: u32 = 2;
 
-    // In bytes.
-    pub const HEADER_LENGTH: usize = 88;
+    // In bytes: the checksum ends the header.
+    pub const HEADER_LENGTH: usize = checksum::SKIP_TO;
 
     // Where the header's words stand behind the magic: of a section, offset and count.
     pub const VERSION_AT: usize = 8;
@@ -70,7 +70,12 @@ impl ImageView {
 
     pub const SECTIONS_AT: usize = 20;
 
-    pub const CHECKSUM_AT: usize = 84;
+    pub const CHECKSUM_AT: usize = checksum::SKIP_FROM;
+
+    // The known ink versions: the first and the last.
+    pub const FIRST_INK_VERSION: u32 = 18;
+
+    pub const LAST_INK_VERSION: u32 = 21;
 
     // Words an entry: a node; a named entry, an item or an index entry; a definition.
     const NODE_WORDS: usize = 10;
@@ -190,7 +195,7 @@ pub fn part_word(part: &[u8], k: usize) -> u32
     requires { ⌜ 4 * k + 4 ≤ length (now part) ⌝ }
     ensures { λ r. ⌜ r ≡ getD (wordsOf (now (part .entry))) k 0 ⌝ }
 {
-    words::word(part, 4 * k)
+    words::word(part, ImageView::WORD_BYTES * k)
 }
 
 // Bytes a node of a format version.
@@ -243,7 +248,10 @@ pub fn node_word_or_zero(part: &[u8], version: u32, i: u32, k: usize) -> u32
     requires { ⌜ k < nodeWords version ⌝ }
     ensures { λ r. ⌜ r ≡ getD (wordsOf (now (part .entry))) (i * nodeWords version + k) 0 ⌝ }
 {
-    words::get(part, 4 * (first_word(version, i as usize) + k))
+    words::get(
+        part,
+        ImageView::WORD_BYTES * (first_word(version, i as usize) + k),
+    )
 }
 
 // Word `k` of node `i` of the nodes' bytes.
@@ -262,15 +270,15 @@ pub fn node_record(part: &[u8], version: u32, i: usize) -> NodeRecord
     let at = first_word(version, i);
     NodeRecord {
         parent: part_word(part, at),
-        place: part_word(part, at + 1),
-        tag: part_word(part, at + 2),
-        f0: part_word(part, at + 3),
-        f1: part_word(part, at + 4),
-        f2: part_word(part, at + 5),
-        f3: part_word(part, at + 6),
-        f4: part_word(part, at + 7),
-        f5: part_word(part, at + 8),
-        f6: part_word(part, at + 9),
+        place: part_word(part, at + NodeRecord::PLACE),
+        tag: part_word(part, at + NodeRecord::TAG),
+        f0: part_word(part, at + NodeRecord::F0),
+        f1: part_word(part, at + NodeRecord::F1),
+        f2: part_word(part, at + NodeRecord::F2),
+        f3: part_word(part, at + NodeRecord::F3),
+        f4: part_word(part, at + NodeRecord::F4),
+        f5: part_word(part, at + NodeRecord::F5),
+        f6: part_word(part, at + NodeRecord::F6),
     }
 }
 

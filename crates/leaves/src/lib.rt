@@ -33,10 +33,5 @@ pub extern "C" fn leaf_equal(a: &[u8], b: &[u8]) -> bool
 pub extern "C" fn leaf_before(a: &[u8], b: &[u8]) -> bool
     ensures { λ r. ⌜ r ≡ before (now (a .entry)) (now (b .entry)) ⌝ }
 {
-    let order = texts::compare(a, b);
-    match order {
-        texts::Order::Less => true,
-        texts::Order::Equal => false,
-        texts::Order::Greater => false,
-    }
+    texts::comes_before(a, b)
 }

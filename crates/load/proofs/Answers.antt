@@ -15,7 +15,7 @@ use Rattle.checksum.specs.Crc.{checksumOf}
 use Rattle.image.specs.declared.ImageView.{ImageView}
 use Rattle.image.specs.declared.Opened.{Opened}
 use Rattle.image.specs.declared.Opened.the-variants as Opened
-use Rattle.image.specs.Header.{headerRule, openedBy, openedOf, viewOf, sectionsBy, sectionsOf}
+use Rattle.image.specs.Header.{headerRule, openedBy, openedOf, viewOf, sectionsBy, sectionsOf, checksumAt}
 use Rattle.image.proofs.OpenedHeader.{Opens, opens, view-counts}
 use Rattle.image.proofs.Views.{SectionCounts}
 use Rattle.load.specs.declared.Loaded.{Loaded}
@@ -126,7 +126,7 @@ module _ (bs : List ℕ) (v : ImageView) (h : headerRule bs ≡ 0) (view : v ≡
       let e : loadWords (sectionsBy bs v) ≡ loadWords (sectionsOf bs) = ap loadWords own-sections in
       rw e (rw needed-is at k)
 
-  module _ (work x y : ℕ) (word : x ≡ wordAt bs 84) (sum : y ≡ checksumOf bs) where
+  module _ (work x y : ℕ) (word : x ≡ wordAt bs checksumAt) (sum : y ≡ checksumOf bs) where
     abbrev rest : ℕ
     rest = unless (leb (loadWords (sectionsOf bs)) work) 7 ▸ sectionsRule (sectionsOf bs)
 
@@ -134,19 +134,19 @@ module _ (bs : List ℕ) (v : ImageView) (h : headerRule bs ≡ 0) (view : v ≡
     unfolding loadRule
     past-header = second (headerRule bs) (checksumRule bs ▸ rest) h
 
-    checked : eqb (wordAt bs 84) (checksumOf bs) ≡ eqb x y
+    checked : eqb (wordAt bs checksumAt) (checksumOf bs) ≡ eqb x y
     checked = rw (word, sum)
 
     pub sum-wrong : (x ≡ y → ⊥) → 6 ≡ loadRule bs work
     unfolding checksumRule
     sum-wrong d =
-        refused (checksumRule bs) rest 6 (sym (fail (eqb (wordAt bs 84) (checksumOf bs)) 6 (checked ∙ ne-eqb x y d))) (λ q. omega arith)
+        refused (checksumRule bs) rest 6 (sym (fail (eqb (wordAt bs checksumAt) (checksumOf bs)) 6 (checked ∙ ne-eqb x y d))) (λ q. omega arith)
         ∙ sym past-header
 
     module _ (right : x ≡ y) where
       past-sum : loadRule bs work ≡ rest
       unfolding checksumRule
-      past-sum = past-header ∙ second (checksumRule bs) rest (pass (eqb (wordAt bs 84) (checksumOf bs)) 6 (checked ∙ eq-eqb x y right))
+      past-sum = past-header ∙ second (checksumRule bs) rest (pass (eqb (wordAt bs checksumAt) (checksumOf bs)) 6 (checked ∙ eq-eqb x y right))
 
       pub too-few : work < loadWords (sectionsOf bs) → 7 ≡ loadRule bs work
       too-few k =

@@ -10,7 +10,7 @@ use Rattle.words.specs.Words.{wordAt}
 use Rattle.checksum.specs.Crc.{checksumOf, crcs}
 use Rattle.image.specs.Sections.{Sections, nodeCount, indexCount}
 use Rattle.image.specs.declared.ImageView.{ImageView}
-use Rattle.image.specs.Header.{headerRule, viewOf, sectionsOf, headers}
+use Rattle.image.specs.Header.{checksumAt, headerRule, viewOf, sectionsOf, headers}
 use Rattle.image.specs.Refusals.{badHeader, badChecksum, tooFewWords, badRoot, leftOver}
 use Rattle.records.specs.Records.{nodeRule, rootRight, usedUp, containersBefore, records}
 use Rattle.tree.specs.Work.{treeWords}
@@ -22,7 +22,7 @@ use Rattle.load.specs.declared.Loaded.the-variants.{View, Refused}
 
 -- row 6
 unfoldable pub checksumRule : List ℕ → ℕ
-checksumRule bs = unless (eqb (wordAt bs 84) (checksumOf bs)) badChecksum
+checksumRule bs = unless (eqb (wordAt bs checksumAt) (checksumOf bs)) badChecksum
 
 -- row 13
 unfoldable pub leftoverRule : Sections → ℕ

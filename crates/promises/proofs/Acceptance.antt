@@ -12,7 +12,7 @@ use Rattle.laws.proofs.Flags.{both-true}
 use Rattle.words.specs.Words.{wordAt}
 use Rattle.texts.proofs.Text.{same-equal, equal-same}
 use Rattle.image.specs.Sections.{Sections, nodeCount, indexCount, tagOf, inside}
-use Rattle.image.specs.Header.{headerRule, sectionsOf}
+use Rattle.image.specs.Header.{headerRule, sectionsOf, firstInkVersion, inkVersionAt, lastInkVersion}
 use Rattle.image.proofs.OpenedHeader.{Opens, opens, opens-of, view-counts, view-node}
 use Rattle.records.specs.Records.{containersBefore, nodeRule, parentRule, fieldsRule, rootRight, usedUp}
 use Rattle.records.proofs.PassedRules.{root, used-up, used-up-of}
@@ -157,7 +157,7 @@ module _ (s : Sections) where
 module _ (bs : List ℕ) where
   header-right : Opens bs → HeaderRight bs
   header-right o =
-      let ink = both-true (leb 18 (wordAt bs 12)) _ (o .inked) in
+      let ink = both-true (leb firstInkVersion (wordAt bs inkVersionAt)) _ (o .inked) in
       record {
         long = o .long;
         magic-first = same-equal _ _ (o .marked);
@@ -177,7 +177,7 @@ module _ (bs : List ℕ) where
         long = r .long;
         marked = equal-same _ _ (r .magic-first);
         versioned = eq-eqb _ _ (r .versioned);
-        inked = rw (le-leb 18 (wordAt bs 12) (r .ink-least), le-leb (wordAt bs 12) 21 (r .ink-most));
+        inked = rw (le-leb firstInkVersion (wordAt bs inkVersionAt) (r .ink-least), le-leb (wordAt bs inkVersionAt) lastInkVersion (r .ink-most));
         total = r .total;
         begins = r .begins;
         ends = r .ends;

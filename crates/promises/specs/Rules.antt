@@ -10,7 +10,7 @@ use Rattle.texts.specs.Text.{holds, rising}
 use Rattle.names.specs.Names.{commands, operators}
 use Rattle.checksum.specs.Crc.{checksumOf}
 use Rattle.image.specs.Sections.{Sections, listHeadSize, listItemSize, listOriginSize, goodBytes, nodeCount, childCount, namedCount, definitionCount, itemCount, indexCount, parentOf, placeOf, tagOf, f, definitionWord, itemWord, indexWord, textAt}
-use Rattle.image.specs.Header.{magic, headerLength, version, sectionAt, startBy, sectionsOf}
+use Rattle.image.specs.Header.{magic, headerLength, versionAt, inkVersionAt, lengthAt, checksumAt, firstInkVersion, lastInkVersion, version, sectionAt, startBy, sectionsOf}
 use Rattle.image.specs.Tags.{containerTag}
 use Rattle.records.specs.Fields.{Field, text, optional, command, operator, node, optionalNode, container, optionalContainer, plain, atMost, children, named, payload, wrong}
 use Rattle.records.specs.Records.{fieldsAt, numberOfChildren, numberOfNamed, childrenBefore, namedBefore, payloadBefore, containersBefore, listItems, listOrigins, listItemWord, listOriginWord}
@@ -131,10 +131,10 @@ pub record SectionsRight (s : Sections) : Type 0 where
 pub record HeaderRight (bs : List ℕ) : Type 0 where
   pub long : headerLength ≤ length bs
   pub magic-first : take 8 bs ≡ magic
-  pub versioned : wordAt bs 8 ≡ version
-  pub ink-least : 18 ≤ wordAt bs 12
-  pub ink-most : wordAt bs 12 ≤ 21
-  pub total : wordAt bs 16 ≡ length bs
+  pub versioned : wordAt bs versionAt ≡ version
+  pub ink-least : firstInkVersion ≤ wordAt bs inkVersionAt
+  pub ink-most : wordAt bs inkVersionAt ≤ lastInkVersion
+  pub total : wordAt bs lengthAt ≡ length bs
   -- each section begins where the one before it ends, and ends in the bytes; the last ends with them
   pub begins : (k : ℕ) → k < 8 → sectionAt bs k .offset ≡ startBy bs k
   pub ends : (k : ℕ) → k < 8 → startBy bs (suc k) ≤ length bs
@@ -144,7 +144,7 @@ pub record HeaderRight (bs : List ℕ) : Type 0 where
 -- rows 1 to 6, and the rest
 pub record BreaksNone (bs : List ℕ) : Type 0 where
   pub header : HeaderRight bs
-  pub checksum : wordAt bs 84 ≡ checksumOf bs
+  pub checksum : wordAt bs checksumAt ≡ checksumOf bs
   pub sections : SectionsRight (sectionsOf bs)
 
 -- ---- acceptance

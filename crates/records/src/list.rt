@@ -1,7 +1,11 @@
 // A list's payload: how many items and origins it has, the items (optional origin, name, value), the origins.
 use image::payload::HEAD_BYTES;
 use image::payload::ITEM_BYTES;
+use image::payload::NAME_AT;
+use image::payload::NAME_LENGTH_AT;
 use image::payload::ORIGIN_BYTES;
+use image::payload::ORIGIN_COUNT_AT;
+use image::payload::ORIGIN_LENGTH_AT;
 use image::refusal::BAD_RANGE;
 use image::refusal::BAD_TEXT;
 ghost use mathlib.Core.Path.{_≡_};
@@ -19,9 +23,9 @@ fn item(payload: &[u8], strings: &[u8], at: usize, j: usize) -> u32
 {
     let first = at + HEAD_BYTES + j * ITEM_BYTES;
     let origin = words::word(payload, first);
-    let origin_len = words::word(payload, first + 4);
-    let name = words::word(payload, first + 8);
-    let name_len = words::word(payload, first + 12);
+    let origin_len = words::word(payload, first + ORIGIN_LENGTH_AT);
+    let name = words::word(payload, first + NAME_AT);
+    let name_len = words::word(payload, first + NAME_LENGTH_AT);
     if !image::good_optional(strings, origin, origin_len) {
         return BAD_TEXT;
     }
@@ -55,7 +59,7 @@ fn origin(payload: &[u8], strings: &[u8], at: usize, items: usize, j: usize) -> 
 {
     let first = at + HEAD_BYTES + items * ITEM_BYTES + j * ORIGIN_BYTES;
     let text = words::word(payload, first);
-    let len = words::word(payload, first + 4);
+    let len = words::word(payload, first + ORIGIN_LENGTH_AT);
     if !image::good_text(strings, text, len) {
         return BAD_TEXT;
     }
@@ -92,7 +96,7 @@ pub fn payload_rule(payload: &[u8], strings: &[u8], start: u32, len: u32) -> u32
         return BAD_RANGE;
     }
     let items = words::word(payload, at) as usize;
-    let origins = words::word(payload, at + 4) as usize;
+    let origins = words::word(payload, at + ORIGIN_COUNT_AT) as usize;
     if size != HEAD_BYTES + items * ITEM_BYTES + origins * ORIGIN_BYTES {
         return BAD_RANGE;
     }

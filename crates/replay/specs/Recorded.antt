@@ -9,7 +9,7 @@ use Rattle.words.specs.Words.{wordIn, wordsOf}
 use Rattle.texts.specs.Text.{same}
 use Rattle.image.specs.declared.Section.{Section}
 use Rattle.image.specs.Header.{sectionBytes}
-use Rattle.image.specs.Refusals.{notFound, draftShape}
+use Rattle.image.specs.Refusals.{notFound, draftShape, noRoom}
 use Rattle.load.specs.declared.Loaded.{Loaded}
 use Rattle.promises.specs.Answers.{ofLoaded}
 use Rattle.writer.specs.declared.Encoded.{Encoded}
@@ -32,5 +32,5 @@ refusedAlike ours theirs = cond (eqb theirs 0) false (cond (eqb theirs draftShap
 -- whether a draft's answer and output are as recorded: the number 0 and the image, or a refusal
 unfoldable pub sameWritten : Encoded → List ℕ → ℕ → List ℕ → Bool
 sameWritten (Written n) out number image = cond (eqb number 0) (same (take n out) image) false
-sameWritten (Short n) out number image = refusedAlike 23 number
+sameWritten (Short n) out number image = refusedAlike noRoom number
 sameWritten (Refused ours) out number image = refusedAlike ours number

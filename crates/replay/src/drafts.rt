@@ -6,43 +6,20 @@ ghost use Rattle.replay.specs.Recorded.{refusedAlike, sameWritten};
 use draft_words::after;
 use draft_words::first;
 use draft_words::front;
-use draft_words::read_words;
+use draft_words::lengths_of;
+use draft_words::read_tables;
+use image::refusal::DRAFT_SHAPE;
 use image::refusal::NO_ROOM;
 use writer::Encoded;
 
-// What a record begins with.
-struct Head {
-    ink: u32,
-    number: u32,
-    nodes: u32,
-    children: u32,
-    named: u32,
-    definitions: u32,
-    items: u32,
-    payload: u32,
-    strings: u32,
-    image: u32,
-}
+// Where the words of a record stand: its first is the ink version. The draft follows them.
+const NUMBER_AT: usize = 4;
 
-fn head_of(fields: &[u8]) -> Head {
-    Head {
-        ink: words::get(fields, 0),
-        number: words::get(fields, 4),
-        nodes: words::get(fields, 8),
-        children: words::get(fields, 12),
-        named: words::get(fields, 16),
-        definitions: words::get(fields, 20),
-        items: words::get(fields, 24),
-        payload: words::get(fields, 28),
-        strings: words::get(fields, 32),
-        image: words::get(fields, 36),
-    }
-}
+const LENGTHS_AT: usize = 8;
 
-// The bytes behind so many words.
-fn behind_words(bytes: &[u8], count: u32) -> &[u8] {
-    after(bytes, 4 * count as usize)
-}
+const IMAGE_LENGTH_AT: usize = 36;
+
+const DRAFT_AT: usize = 40;
 
 // The bytes behind so many, which are filled up to whole words.
 fn behind_bytes(bytes: &[u8], count: u32) -> &[u8] {
@@ -56,7 +33,7 @@ fn refused_alike(ours: u32, theirs: u32) -> bool
     if theirs == 0 {
         return false;
     }
-    if theirs == 21 {
+    if theirs == DRAFT_SHAPE {
         return true;
     }
     ours == theirs
@@ -80,7 +57,7 @@ fn same(answer: Encoded, out: &[u8], number: u32, image: &[u8]) -> bool
 
 // Whether writing the draft gives what was recorded.
 fn write_agrees(
-    head: Head,
+    ink: u32,
     nodes: &[u32],
     children: &[u32],
     named: &[u32],
@@ -88,6 +65,7 @@ fn write_agrees(
     items: &[u32],
     payload: &[u8],
     strings: &[u8],
+    number: u32,
     image: &[u8],
 ) -> bool {
     let mut bytes = [0u8; 512];
@@ -95,7 +73,7 @@ fn write_agrees(
     let out: &mut [u8] = &mut bytes;
     let work: &mut [u32] = &mut words;
     let answer = writer::encode(
-        head.ink,
+        ink,
         nodes,
         children,
         named,
@@ -106,39 +84,38 @@ fn write_agrees(
         out,
         work,
     );
-    same(answer, out, head.number, image)
+    same(answer, out, number, image)
 }
 
 // A draft of which each section has at most 256 words, and its image at most 512 bytes.
 pub fn draft_agrees(fields: &[u8]) -> bool {
-    let head = head_of(fields);
+    let lengths = lengths_of(after(fields, LENGTHS_AT));
     let mut nodes = [0u32; 256];
     let mut children = [0u32; 256];
     let mut named = [0u32; 256];
     let mut definitions = [0u32; 256];
     let mut items = [0u32; 256];
-    let from_nodes = behind_words(fields, 10);
-    let from_children = behind_words(from_nodes, head.nodes);
-    let from_named = behind_words(from_children, head.children);
-    let from_definitions = behind_words(from_named, head.named);
-    let from_items = behind_words(from_definitions, head.definitions);
-    let from_payload = behind_words(from_items, head.items);
-    let from_strings = behind_bytes(from_payload, head.payload);
-    let from_image = behind_bytes(from_strings, head.strings);
-    read_words(from_nodes, &mut nodes);
-    read_words(from_children, &mut children);
-    read_words(from_named, &mut named);
-    read_words(from_definitions, &mut definitions);
-    read_words(from_items, &mut items);
+    let from_payload = read_tables(
+        after(fields, DRAFT_AT),
+        lengths,
+        &mut nodes,
+        &mut children,
+        &mut named,
+        &mut definitions,
+        &mut items,
+    );
+    let from_strings = behind_bytes(from_payload, lengths.payload);
+    let from_image = behind_bytes(from_strings, lengths.strings);
     write_agrees(
-        head,
-        first(&nodes, head.nodes),
-        first(&children, head.children),
-        first(&named, head.named),
-        first(&definitions, head.definitions),
-        first(&items, head.items),
-        front(from_payload, head.payload),
-        front(from_strings, head.strings),
-        front(from_image, head.image),
+        words::get(fields, 0),
+        first(&nodes, lengths.nodes),
+        first(&children, lengths.children),
+        first(&named, lengths.named),
+        first(&definitions, lengths.definitions),
+        first(&items, lengths.items),
+        front(from_payload, lengths.payload),
+        front(from_strings, lengths.strings),
+        words::get(fields, NUMBER_AT),
+        front(from_image, words::get(fields, IMAGE_LENGTH_AT)),
     )
 }

@@ -5,10 +5,8 @@ ghost use lib.ListN.{length};
 ghost use Rattle.load.specs.Load.{loadedOf};
 ghost use Rattle.promises.specs.Answers.{ofLoaded};
 ghost use Rattle.replay.specs.Recorded.{recordedLoad};
+use image::ImageView;
 use load::Loaded;
-
-// Where the checksum stands in an image.
-const CHECKSUM_AT: usize = 84;
 
 // What a load answers, as a number.
 fn number_with(bytes: &[u8], work: &mut [u32]) -> u32
@@ -80,7 +78,7 @@ fn copy(image: &[u8], room: &mut [u8]) -> u32 {
 fn put_word(room: &mut [u8], n: u32, at: u32, word: u32) {
     words::put(room, at as usize, word);
     let sum = checksum::checksum(image::text_part(room, 0, n));
-    words::put(room, CHECKSUM_AT, sum);
+    words::put(room, ImageView::CHECKSUM_AT, sum);
 }
 
 // The byte with one of its bits turned.

@@ -210,6 +210,7 @@ fn ends(data: &[u8], at: u32) -> bool {
     false
 }
 
+// Every record of a sample, of which this program knows the form; then the counts.
 fn replay(data: &[u8]) {
     if words::get(data, 0) != MAGIC {
         return print(b"no sample\n");

@@ -97,6 +97,7 @@ fn payload<'r, 'i>(fields: &'r [u8], image: &'i [u8], view: ImageView) -> &'i [u
     )
 }
 
+// The bytes of an image's strings.
 fn strings(image: &[u8], view: ImageView) -> &[u8] {
     image::section_part(image, view.strings, ImageView::STRINGS_SIZE)
 }

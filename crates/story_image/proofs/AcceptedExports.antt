@@ -15,7 +15,7 @@ use Rattle.laws.proofs.Flags.{both-true}
 use Rattle.words.specs.Words.{NONE, wordAt}
 use Rattle.image.specs.declared.ImageView.{ImageView}
 use Rattle.image.specs.Sections.{Sections, definitionCount, itemCount, present}
-use Rattle.image.specs.Header.{version, headerRule, viewOf, sectionsBy, sectionsOf}
+use Rattle.image.specs.Header.{version, headerRule, viewOf, sectionsBy, sectionsOf, versionAt}
 use Rattle.image.proofs.OpenedHeader.{Opens, opens, view-inside, view-counts, length-word}
 use Rattle.index.specs.Definitions.{firstItem, numberOfItems}
 use Rattle.load.specs.Load.{loadRule}
@@ -139,7 +139,7 @@ answering k exported inner e size =
 
 right-version : (bs : List ℕ) → Opens bs → viewOf bs .version ≡ version
 unfolding viewOf
-right-version bs o = eqb-true (wordAt bs 8) version (o .versioned)
+right-version bs o = eqb-true (wordAt bs versionAt) version (o .versioned)
 
 module _ (bs view : List ℕ) (versioned : viewOf bs .version ≡ version) (v : ViewOf bs view) where
   view-long : viewLength ≤ length view

@@ -4,26 +4,14 @@ use image::refusal::NOT_FOUND;
 use names::Name;
 use names::control_command::Command;
 use names::native_function_call::Operator;
+use words::output::put_bytes;
 ghost use mathlib.Core.Option.{some};
 ghost use Prim.Native.Nat.{_≤_};
 ghost use mathlib.Core.Path.{_≡_};
-ghost use mathlib.Core.List.{_++_};
-ghost use lib.ListN.{length, drop};
+ghost use lib.ListN.{length};
 ghost use Rattle.names.specs.Names.{commands, operators};
 ghost use Rattle.names.specs.Spelling.{spelled, elementAt};
 ghost use Rattle.story_image.specs.Spelling.{Spelled};
-
-// Writes bytes at the start of a slice that holds them.
-fn put_bytes(bytes: &[u8], out: &mut [u8])
-    requires { ⌜ length (now bytes) ≤ length (now out) ⌝ }
-    ensures { λ _. ⌜ now (out .exit) ≡ now (bytes .entry) ++ drop (length (now (bytes .entry))) (now (out .entry)) ⌝ }
-{
-    let mut i = 0;
-    while i < bytes.len() {
-        out[i] = bytes[i];
-        i += 1;
-    }
-}
 
 // Writes a name at the start of the text and its length as the first of the words that are lent for it.
 fn put_name(name: Name, text: &mut [u8], size: &mut [u32]) -> u32

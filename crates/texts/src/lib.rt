@@ -5,7 +5,7 @@ ghost use Prim.Native.Nat.{_+_, min, _<_, _≤_};
 ghost use lib.Dec.{eqb};
 ghost use lib.ListN.{length, drop, getD};
 ghost use Rattle.laws.specs.Counted.{allOf};
-ghost use Rattle.texts.specs.Text.{orderOf, same};
+ghost use Rattle.texts.specs.Text.{orderOf, before, same};
 ghost use Rattle.texts.specs.Blocks.{Alike, numberFrom, WordAt};
 ghost use Rattle.texts.specs.Dots.{firstDot};
 ghost use Rattle.texts.specs.Decimal.{digit, decimal};
@@ -211,4 +211,16 @@ pub fn put_decimal(out: &mut [u8], n: u32)
         left = left / 10;
     }
     out[0] = digit_of(left);
+}
+
+// Whether the first text comes before the second.
+pub fn comes_before(first: &[u8], second: &[u8]) -> bool
+    ensures { λ r. ⌜ r ≡ before (now (first .entry)) (now (second .entry)) ⌝ }
+{
+    let order = compare(first, second);
+    match order {
+        Order::Less => true,
+        Order::Equal => false,
+        Order::Greater => false,
+    }
 }

@@ -21,7 +21,12 @@ use crate::view::signed_of;
 use image::ImageView;
 use image::payload::HEAD_BYTES;
 use image::payload::ITEM_BYTES;
+use image::payload::NAME_AT;
+use image::payload::NAME_LENGTH_AT;
 use image::payload::ORIGIN_BYTES;
+use image::payload::ORIGIN_COUNT_AT;
+use image::payload::ORIGIN_LENGTH_AT;
+use image::payload::VALUE_AT;
 
 // The payload of a list value, empty where it is not inside.
 pub fn list_payload(bytes: &[u8], view: ImageView, list: Span) -> &[u8]
@@ -45,17 +50,17 @@ pub fn list_entry(payload: &[u8], strings: &[u8], j: u32) -> EntryAnswer
     if words::word(payload, 0) <= j {
         return EntryAnswer::NotFound;
     }
-    let offset = words::word(payload, at + 8);
-    let len = words::word(payload, at + 12);
+    let offset = words::word(payload, at + NAME_AT);
+    let len = words::word(payload, at + NAME_LENGTH_AT);
     if !is_shown(strings.len(), offset, len) {
         return EntryAnswer::NotFound;
     }
     let origin = optional_text(
         strings.len(),
         words::word(payload, at),
-        words::word(payload, at + 4),
+        words::word(payload, at + ORIGIN_LENGTH_AT),
     );
-    let value = signed_of(words::word(payload, at + 16));
+    let value = signed_of(words::word(payload, at + VALUE_AT));
     EntryAnswer::Entry(ListEntry {
         origin,
         name: Span { offset, len },
@@ -88,11 +93,11 @@ pub fn list_origin(payload: &[u8], strings: &[u8], j: u32) -> TextAnswer
     if payload.len() < at + ORIGIN_BYTES {
         return TextAnswer::NotFound;
     }
-    if words::word(payload, 4) <= j {
+    if words::word(payload, ORIGIN_COUNT_AT) <= j {
         return TextAnswer::NotFound;
     }
     let offset = words::word(payload, at);
-    let len = words::word(payload, at + 4);
+    let len = words::word(payload, at + ORIGIN_LENGTH_AT);
     if is_shown(strings.len(), offset, len) {
         TextAnswer::Text(Span { offset, len })
     } else {

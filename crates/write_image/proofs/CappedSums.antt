@@ -8,7 +8,7 @@ use native.Mathlib.Decide.{decLt}
 use lib.Dec.{leb}
 use borrow.Author.Tests.{le-leb, lt-leb}
 use Rattle.words.specs.Words.{NONE}
-use Rattle.image.specs.Sections.{textEntrySize}
+use Rattle.image.specs.Sections.{textEntrySize, mostNodeSize}
 use Rattle.image.specs.declared.EntryCounts.{EntryCounts}
 use Rattle.image.specs.Counted.{lengthBy}
 use Rattle.write_image.specs.declared.size.Size.the-variants.{Bytes, TooLong}
@@ -72,7 +72,7 @@ size-many n r e h = side (decLt n 4294967296)
 
 -- ---- a section of few or of many entries
 
-pub product-few : (size count : ℕ) → size ≤ 44 → count < 4294967296 → count * size ≤ 188978561024
+pub product-few : (size count : ℕ) → size ≤ mostNodeSize → count < 4294967296 → count * size ≤ 4294967296 * mostNodeSize
 product-few size count h k = let l : count ≤ 4294967296 = omega arith in mul-le-mul l h
 
 pub product-many : (size count : ℕ) → 0 < size → 4294967296 ≤ count → 4294967296 ≤ count * size

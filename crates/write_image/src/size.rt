@@ -1,6 +1,7 @@
 // How long an image is, by the counts of its sections.
 ghost use mathlib.Core.Path.{_≡_};
 ghost use Prim.Native.Nat.{_+_, _*_, _≤_, _<_};
+ghost use Rattle.image.specs.Sections.{mostNodeSize};
 ghost use Rattle.image.specs.Counted.{lengthBy};
 ghost use Rattle.write_image.specs.Length.{capped, frontBy, sizeOf};
 use draft::source::Source;
@@ -24,7 +25,7 @@ const STRINGS_SIZE: usize = ImageView::STRINGS_SIZE as usize;
 
 // Adds a section to a number of bytes: no entry has more bytes than the widest node.
 fn add(sum: usize, count: usize, size: usize) -> usize
-    requires { ⌜ (sum ≤ 4294967296) × (0 < size) × (size ≤ 44) ⌝ }
+    requires { ⌜ (sum ≤ 4294967296) × (0 < size) × (size ≤ mostNodeSize) ⌝ }
     ensures { λ r. ⌜ r ≡ capped (sum + count * size) ⌝ }
 {
     if MORE <= count {

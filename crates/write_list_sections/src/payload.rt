@@ -19,7 +19,11 @@ use draft::source::word;
 use image::NodeRecord;
 use image::payload::HEAD_BYTES;
 use image::payload::ITEM_BYTES;
+use image::payload::NAME_LENGTH_AT;
 use image::payload::ORIGIN_BYTES;
+use image::payload::ORIGIN_COUNT_AT;
+use image::payload::ORIGIN_LENGTH_AT;
+use image::payload::VALUE_AT;
 use image::tag;
 use words::output::put_words;
 use write_tree_sections::kinds::optional_offset;
@@ -52,10 +56,10 @@ fn put_list_items(
         let name = k + text_count(origin);
         let words = [
             optional_offset(w, k, origin),
-            payload_get(payload, item + 4),
+            payload_get(payload, item + ORIGIN_LENGTH_AT),
             word(w, name),
-            payload_get(payload, item + 12),
-            payload_get(payload, item + 16),
+            payload_get(payload, item + NAME_LENGTH_AT),
+            payload_get(payload, item + VALUE_AT),
         ];
         put_words(out, place, &words);
         k = name + 1;
@@ -87,7 +91,7 @@ fn put_list_origins(
     while j < all {
         let origin = first + j * ORIGIN_BYTES;
         let offset = word(w, text + j);
-        let len = payload_get(payload, origin + 4);
+        let len = payload_get(payload, origin + ORIGIN_LENGTH_AT);
         let words = [offset, len];
         put_words(out, place, &words);
         place += ORIGIN_BYTES;
@@ -103,7 +107,7 @@ fn put_list(payload: &[u8], start: u32, w: &[u32], text: usize, out: &mut [u8], 
 {
     let first = start as usize;
     let items = payload_get(payload, first);
-    let origins = payload_get(payload, first + 4);
+    let origins = payload_get(payload, first + ORIGIN_COUNT_AT);
     let head = [items, origins];
     put_words(out, at, &head);
     let behind = put_list_items(payload, start, items, w, text, out, at + HEAD_BYTES);

@@ -77,7 +77,7 @@ fn list_containers(
     let mut j = 0;
     while j < count {
         let node = source::word(w, order + j);
-        if source::word_of(nodes, node, 2, source) == CONTAINER {
+        if source::word_of(nodes, node, NodeRecord::TAG, source) == CONTAINER {
             w[paths + found] = node;
             found += 1;
         }

@@ -15,8 +15,10 @@ ghost use Rattle.write_text_keys.specs.Keys.{nameLeft, longOf, keyOf, ke
 use draft::layout::Layout;
 use draft::source;
 use draft::source::Source;
-use image::order::comes_before;
+use image::NodeRecord;
 use texts::Order;
+use texts::comes_before;
+use words::output::put_bytes;
 
 // Where a text lies in the strings.
 struct Part {
@@ -44,9 +46,9 @@ fn digit_count(place: u32) -> u32
 fn piece_length(nodes: &[u32], x: u32, source: Source) -> u32
     ensures { λ r. ⌜ r ≡ pieceLength (source .version) (now (nodes .entry)) x ⌝ }
 {
-    let len = source::word_of(nodes, x, 4, source);
-    if index::no_name(source::word_of(nodes, x, 3, source), len) {
-        return digit_count(source::word_of(nodes, x, 1, source));
+    let len = source::word_of(nodes, x, NodeRecord::F1, source);
+    if index::no_name(source::word_of(nodes, x, NodeRecord::F0, source), len) {
+        return digit_count(source::word_of(nodes, x, NodeRecord::PLACE, source));
     }
     len
 }
@@ -445,18 +447,6 @@ pub fn key_length(strings: &[u8], w: &[u32], layout: Layout, a: u32) -> usize
     length_of(strings, &w[at..], layout, a)
 }
 
-// Writes a text at the front of the output.
-fn put_text(text: &[u8], out: &mut [u8])
-    requires { ⌜ length (now text) ≤ length (now out) ⌝ }
-    ensures { λ r. ⌜ now (out .exit) ≡ now (text .entry) ++ drop (length (now (text .entry))) (now (out .entry)) ⌝ }
-{
-    let mut i = 0;
-    while i < text.len() {
-        out[i] = text[i];
-        i += 1;
-    }
-}
-
 // Writes the `n` bytes before a cursor at the front of the output, the last one first.
 fn put_read(nodes: &[u32], strings: &[u8], c: Cursor, n: usize, out: &mut [u8], source: Source)
     requires { ⌜ n ≤ length (now out) ⌝ }
@@ -490,7 +480,7 @@ pub fn put_key(
     let at = layout.at;
     let tab = &w[at..];
     if (a as usize) < layout.texts {
-        put_text(text_of(strings, tab, a), out);
+        put_bytes(text_of(strings, tab, a), out);
         return;
     }
     let x = node_of(tab, layout, a);
@@ -516,7 +506,7 @@ pub fn path_length(nodes: &[u32], tab: &[u32], lengths: usize, x: u32, source: S
         return 0;
     }
     let piece = piece_length(nodes, x, source) as usize;
-    let above = source::word_of(nodes, x, 0, source);
+    let above = source::word_of(nodes, x, NodeRecord::PARENT, source);
     if above == 0 {
         return piece;
     }

@@ -20,7 +20,11 @@ use image::ImageView;
 use image::NONE;
 use image::payload::HEAD_BYTES;
 use image::payload::ITEM_BYTES;
+use image::payload::NAME_AT;
+use image::payload::NAME_LENGTH_AT;
 use image::payload::ORIGIN_BYTES;
+use image::payload::ORIGIN_COUNT_AT;
+use image::payload::ORIGIN_LENGTH_AT;
 use image::tag;
 
 // Whether both words of a text say that it is absent.
@@ -62,9 +66,9 @@ fn put_list_item(payload: &[u8], start: usize, j: usize, w: &mut [u32], at: usiz
 {
     let item = start + (HEAD_BYTES + j * ITEM_BYTES);
     let origin = payload_word(payload, item);
-    let origin_len = payload_word(payload, item + 4);
-    let name = payload_word(payload, item + 8);
-    let name_len = payload_word(payload, item + 12);
+    let origin_len = payload_word(payload, item + ORIGIN_LENGTH_AT);
+    let name = payload_word(payload, item + NAME_AT);
+    let name_len = payload_word(payload, item + NAME_LENGTH_AT);
     let behind = put_optional(w, at, origin, origin_len);
     put_use(w, behind, name, name_len)
 }
@@ -94,7 +98,7 @@ fn put_list_origins(payload: &[u8], first: usize, count: usize, w: &mut [u32], a
     let mut j = 0;
     while j < count {
         let offset = payload_word(payload, first + j * ORIGIN_BYTES);
-        let len = payload_word(payload, first + j * ORIGIN_BYTES + 4);
+        let len = payload_word(payload, first + j * ORIGIN_BYTES + ORIGIN_LENGTH_AT);
         k = put_use(w, k, offset, len);
         j += 1;
     }
@@ -108,7 +112,7 @@ fn put_list(payload: &[u8], start: usize, w: &mut [u32], at: usize) -> usize
     ensures { λ r. ⌜ Put (listPairs (payloadOnly (now (payload .entry))) start) (now (w .entry)) at (now (w .exit)) r ⌝ }
 {
     let items = payload_word(payload, start) as usize;
-    let origins = payload_word(payload, start + 4) as usize;
+    let origins = payload_word(payload, start + ORIGIN_COUNT_AT) as usize;
     let behind = put_list_items(payload, start, items, w, at);
     put_list_origins(
         payload,

@@ -7,6 +7,7 @@ use draft::source::payload_get;
 use image::NodeRecord;
 use image::payload::HEAD_BYTES;
 use image::payload::ITEM_BYTES;
+use image::payload::ORIGIN_COUNT_AT;
 use image::tag;
 
 // How many texts the list has whose payload starts at `start`: a name an item, a text an origin, and the origins that items have.
@@ -15,7 +16,7 @@ fn list_texts(payload: &[u8], start: u32) -> usize
 {
     let at = start as usize;
     let items = payload_get(payload, at) as usize;
-    let origins = payload_get(payload, at + 4) as usize;
+    let origins = payload_get(payload, at + ORIGIN_COUNT_AT) as usize;
     let mut present = 0;
     let mut j = 0;
     while j < items {

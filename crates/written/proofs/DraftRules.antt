@@ -16,7 +16,7 @@ use Rattle.words.specs.Words.{NONE, isNone}
 use Rattle.texts.specs.Text.{same}
 use Rattle.texts.proofs.Text.{same-equal, equal-same}
 use Rattle.image.specs.Sections.{Sections, nodeWords, textEntryWords, definitionWords, nodeCount, childCount, namedCount, definitionCount, itemCount, parentOf, placeOf, tagOf, childWord, namedWord, inside, isContainer}
-use Rattle.image.specs.Header.{inkRight}
+use Rattle.image.specs.Header.{inkRight, firstInkVersion, lastInkVersion}
 use Rattle.records.specs.Records.{parentRule, fieldsRule, rootRight, usedUp}
 use Rattle.records.proofs.PassedRules.{root, used-up, used-up-of}
 use Rattle.tree.specs.Tree.{childAt, namedAt, entriesRule, allSeen, readWalk}
@@ -245,7 +245,7 @@ module _ (ink : ℕ) (s : Sections) (work room : ℕ) where
       let after-words = both _ _ (after-tables .1) in
       let after-reach = both _ _ (after-words .1) in
       let after-shape = both _ _ (after-reach .1) in
-      let versions = both-true (leb 18 ink) _ (passed _ 2 (after-ink .0)) in
+      let versions = both-true (leb firstInkVersion ink) _ (passed _ 2 (after-ink .0)) in
       let fit = both-true (leb (length (imageFor ink s)) room) _ (passed _ 22 (d .1)) in
       record {
         ink-least = leb-true _ _ (versions .0);
@@ -261,7 +261,7 @@ module _ (ink : ℕ) (s : Sections) (work room : ℕ) where
   right-encode r =
       let d = drafts-exactly s .1 (r .draft) in
       then _ _
-      (then _ _ (pass _ 3 (rw (le-leb 18 ink (r .ink-least), le-leb ink 21 (r .ink-most))))
+      (then _ _ (pass _ 3 (rw (le-leb firstInkVersion ink (r .ink-least), le-leb ink lastInkVersion (r .ink-most))))
       (then _ _ (d .0)
       (then _ _ (pass _ 7 (le-leb (writeWords s) work (r .words))) (then _ _ (d .1) (then _ _ (d .2) (d .3))))))
       (pass _ 23 (rw (le-leb (length (imageFor ink s)) room (r .room-enough), le-leb (length (imageFor ink s)) NONE (r .length-fits))))

@@ -8,6 +8,7 @@ use native.Mathlib.Nat.{mul-le-mul-left}
 use lib.ListN.{length, getD, replicate, List·getD-append}
 use lib.Dec.{eqb, ltb}
 use borrow.Author.Tests.{eqb-true, ne-eqb, lt-ltb, ltb-true}
+use Rattle.image.specs.Header.{headerLength}
 use Rattle.laws.specs.Counted.{sumOf}
 use Rattle.laws.specs.Lists.{placeIn}
 use Rattle.laws.proofs.Flags.{both-true}
@@ -32,19 +33,19 @@ use Rattle.draft_image.proofs.Blocks.{w, put-length, nodes-length, node-count, 
 
 -- the bytes of each section fit an image
 pub record Room (v : Sections) : Type 0 where
-  pub nodes : 4 * length (v .nodes) + 88 ≤ NONE
-  pub children : 4 * length (v .children) + 88 ≤ NONE
-  pub named : 4 * length (v .named) + 88 ≤ NONE
-  pub definitions : 4 * length (v .definitions) + 88 ≤ NONE
-  pub items : 4 * length (v .items) + 88 ≤ NONE
-  pub index : 4 * length (v .index) + 88 ≤ NONE
-  pub payload : length (v .payload) + 88 ≤ NONE
-  pub strings : length (v .strings) + 88 ≤ NONE
+  pub nodes : 4 * length (v .nodes) + headerLength ≤ NONE
+  pub children : 4 * length (v .children) + headerLength ≤ NONE
+  pub named : 4 * length (v .named) + headerLength ≤ NONE
+  pub definitions : 4 * length (v .definitions) + headerLength ≤ NONE
+  pub items : 4 * length (v .items) + headerLength ≤ NONE
+  pub index : 4 * length (v .index) + headerLength ≤ NONE
+  pub payload : length (v .payload) + headerLength ≤ NONE
+  pub strings : length (v .strings) + headerLength ≤ NONE
 
 pub roomy : (ink : ℕ) (v : Sections) → length (imageOf ink v) ≤ NONE → Room v
 unfolding startOf sectionOut
 roomy ink v h =
-    let at : (k : ℕ) → k < 8 → length (sectionOut v k) + 88 ≤ NONE = λ k q. omega (arith, image-length ink v, sum-below k 8 (λ j. length (sectionOut v j)) q) in
+    let at : (k : ℕ) → k < 8 → length (sectionOut v k) + headerLength ≤ NONE = λ k q. omega (arith, image-length ink v, sum-below k 8 (λ j. length (sectionOut v j)) q) in
     record {
       nodes = omega (arith, at 0 (omega arith), length-bytes (v .nodes));
       children = omega (arith, at 1 (omega arith), length-bytes (v .children));

@@ -19,7 +19,7 @@ use Rattle.texts.specs.Text.{ascii, orderOf, same}
 use Rattle.checksum.specs.Crc.{checksumOf}
 use Rattle.checksum.proofs.Checksums.{checksum-lt}
 use Rattle.image.specs.Sections.{Sections, nodeWords, textEntryWords, definitionWords, partAt, nodeCount, namedCount, definitionCount, itemCount, indexCount}
-use Rattle.image.specs.Header.{magic, headerLength, version, sectionAt, viewOf, sectionBytes, sectionsBy, sectionsOf, sizes, startBy, sectionRight, laidOut, inkRight, headerRule}
+use Rattle.image.specs.Header.{magic, headerLength, version, sectionAt, viewOf, sectionBytes, sectionsBy, sectionsOf, sizes, startBy, sectionRight, laidOut, inkRight, headerRule, checksumAt, inkVersionAt, lengthAt, versionAt}
 use Rattle.image.specs.Encoding.{countOf, sectionOut, startOf, bodyOf, headerWith, imageOf}
 use Rattle.image.proofs.Widths.{words-some, size-words}
 use Rattle.load.specs.Load.{checksumRule}
@@ -120,7 +120,7 @@ module _ (ink : ℕ) (s : Sections) (o : WholeSections s) (small : ink < 2 ^ 32)
 
     -- magic, version, ink version, total length, checksum
     words-with : c < 2 ^ 32
-        → (same (take 8 bytes) magic ≡ true) × (wordAt bytes 8 ≡ s .version) × (wordAt bytes 12 ≡ ink) × (wordAt bytes 16 ≡ startOf s 8) × (wordAt bytes 84 ≡ c)
+        → (same (take 8 bytes) magic ≡ true) × (wordAt bytes versionAt ≡ s .version) × (wordAt bytes inkVersionAt ≡ ink) × (wordAt bytes lengthAt ≡ startOf s 8) × (wordAt bytes 84 ≡ c)
     unfolding wordAt headerWith magic ascii bytesOf joinOf orderOf same
     words-with q = (refl, word-back (s .version) (omega (arith, o .versioned)), word-back ink small, word-back (startOf s 8) (o .fits), word-back c q)
 
@@ -147,7 +147,7 @@ module _ (ink : ℕ) (s : Sections) (o : WholeSections s) (small : ink < 2 ^ 32)
   count-is k h = count-with _ (bodyOf s) k h
 
   image-words : (same (take 8 (imageOf ink s)) magic ≡ true) × (wordAt (imageOf ink s) 8 ≡ s .version) × (wordAt (imageOf ink s) 12 ≡ ink)
-      × (wordAt (imageOf ink s) 16 ≡ startOf s 8) × (wordAt (imageOf ink s) 84 ≡ checksumOf (imageOf ink s))
+      × (wordAt (imageOf ink s) lengthAt ≡ startOf s 8) × (wordAt (imageOf ink s) checksumAt ≡ checksumOf (imageOf ink s))
   unfolding imageOf
   image-words =
       let c = checksumOf (headerWith ink s 0 ++ bodyOf s) in

@@ -13,7 +13,7 @@ use Rattle.laws.proofs.Members.{and-true}
 use Rattle.words.specs.Words.{NONE}
 use Rattle.texts.specs.Dots.{dot}
 use Rattle.image.specs.Sections.{Sections, nodeCount}
-use Rattle.image.specs.Header.{version, inkRight, headerRule, sectionsOf}
+use Rattle.image.specs.Header.{version, inkRight, headerRule, sectionsOf, firstInkVersion, lastInkVersion}
 use Rattle.image.specs.Encoding.{imageOf}
 use Rattle.records.specs.Records.{nodeRule}
 use Rattle.index.specs.Paths.{canonicalPath}
@@ -86,7 +86,7 @@ module _ (ink : ℕ) (s : Sections) (work room : ℕ) (two : s .version ≡ vers
   right = ink-taken ink s work room p
 
   small : ink < 2 ^ 32
-  small = omega (arith, leb-true ink 21 (both-true (leb 18 ink) (leb ink 21) right .1))
+  small = omega (arith, leb-true ink lastInkVersion (both-true (leb firstInkVersion ink) (leb ink lastInkVersion) right .1))
 
   all-whole : WholeSections (w s order kept)
   all-whole = whole given two (omega (arith, image-length ink (w s order kept), fits))

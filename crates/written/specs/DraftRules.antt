@@ -9,6 +9,7 @@ use Rattle.words.specs.Words.{NONE}
 use Rattle.texts.specs.Text.{rising}
 use Rattle.image.specs.Sections.{Sections, nodeWords, textEntryWords, definitionWords, nodeCount, childCount, namedCount, definitionCount, itemCount, parentOf, placeOf, tagOf, childWord, namedWord, definitionWord, itemWord, isContainer}
 use Rattle.image.specs.Tags.{containerTag}
+use Rattle.image.specs.Header.{firstInkVersion, lastInkVersion}
 use Rattle.records.specs.Fields.{Field}
 use Rattle.records.specs.Records.{fieldsAt, numberOfChildren, numberOfNamed, childrenBefore, namedBefore, payloadBefore}
 use Rattle.tree.specs.Reach.{Reached}
@@ -77,8 +78,8 @@ pub record DraftRight (s : Sections) : Type 0 where
 -- ---- all of the writer's rules: the ink version (3), the draft, work words enough (7), room for an image whose length a word can say (23)
 
 pub record EncodeRight (ink : ℕ) (s : Sections) (work room : ℕ) : Type 0 where
-  pub ink-least : 18 ≤ ink
-  pub ink-most : ink ≤ 21
+  pub ink-least : firstInkVersion ≤ ink
+  pub ink-most : ink ≤ lastInkVersion
   pub draft : DraftRight s
   pub words : writeWords s ≤ work
   pub room-enough : length (imageFor ink s) ≤ room

@@ -3,7 +3,7 @@ use Prim.Native.Nat.{ℕ, _+_, _*_, _≤_, _<_}
 use mathlib.Core.Path.{sym, _∙_, ap}
 use native.Mathlib.Omega.{arith}
 use Rattle.words.specs.Words.{NONE}
-use Rattle.image.specs.Sections.{nodeWords}
+use Rattle.image.specs.Sections.{mostWords, nodeWords}
 use Rattle.image.proofs.Parts.{word-get}
 use Rattle.image.proofs.Widths.{width, number-words}
 use borrow.Author.Needs.{needs}
@@ -12,8 +12,8 @@ use Rattle.image.proofs.node_word_or_zero.Tie as tie
 
 -- the word's number is far below 64 bits
 pub record Bound (s : tie.Start) : Type 0 where
-  pub words : s .args .i * nodeWords (s .args .version) ≤ NONE * 11
-  pub inside : s .args .k < 11
+  pub words : s .args .i * nodeWords (s .args .version) ≤ NONE * mostWords
+  pub inside : s .args .k < mostWords
 
 bound : (s : tie.Start) → Bound s
 bound s =

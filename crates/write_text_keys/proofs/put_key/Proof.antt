@@ -22,8 +22,8 @@ part-tab-end c = search needs
 text-of-requires : tie.Need-text-of-requires
 text-of-requires c κs = search needs
 
-put-text-requires : tie.Need-put-text-requires
-put-text-requires c κs =
+put-bytes-requires : tie.Need-put-bytes-requires
+put-bytes-requires c κs =
     let to = c .before .before .before .before .before .before .before .before .before .args in
     let key = text-written (to .source .version) (to .nodes .now) (to .strings .now) (to .layout .texts) (to .layout .paths) (to .layout .lengths) (to .layout .at) (to .w .now) (c .before .text-of .result .now) (to .a) (c .before .before .if1 .taken) (c .before .text-of .ensures) in
     omega (arith, ap length key, c .before .before .before .before .before .before .before .before .before .pre .1)
@@ -35,7 +35,7 @@ returns : tie.Need-returns
 returns c =
     let to = c .before .before .before .before .before .before .before .before .before .before .before .before .args in
     let key = text-written (to .source .version) (to .nodes .now) (to .strings .now) (to .layout .texts) (to .layout .paths) (to .layout .lengths) (to .layout .at) (to .w .now) (c .before .before .before .before .text-of .result .now) (to .a) (c .before .before .before .before .before .if1 .taken) (c .before .before .before .before .text-of .ensures) in
-    c .before .before .put-text .ensures ∙ rw (← key)
+    c .before .before .put-bytes .ensures ∙ rw (← key)
 
 node-of-requires : tie.Need-node-of-requires
 node-of-requires c κs = search needs
@@ -76,7 +76,7 @@ put-key-spec =
     part-tab-start
     part-tab-end
     text-of-requires
-    put-text-requires
+    put-bytes-requires
     same-length
     returns
     node-of-requires

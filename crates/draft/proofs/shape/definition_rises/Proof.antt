@@ -17,21 +17,13 @@ definition-at-requires c κs = search needs
 definition-at-requires-2 : tie.Need-definition-at-requires-2
 definition-at-requires-2 c κs = search needs
 
-text-bytes-requires : tie.Need-text-bytes-requires
-text-bytes-requires c κs = search needs
-
-text-bytes-requires-2 : tie.Need-text-bytes-requires-2
-text-bytes-requires-2 c κs = search needs
-
-comes-before-requires : tie.Need-comes-before-requires
-comes-before-requires c κs = search needs
+texts-rise-requires : tie.Need-texts-rise-requires
+texts-rise-requires c κs = search needs
 
 returns-2 : tie.Need-returns-2
 returns-2 c =
-    let read = c .before .before .before in
-    c .comes-before .ensures
-    ∙ definition-rises _ _ _ _ _ _ _ (read .before .before .if1 .left) (read .before .definition-at .ensures) (read .definition-at2 .ensures) (c .before .before .text-bytes .ensures)
-    (c .before .text-bytes2 .ensures)
+    let read = c .before in
+    c .texts-rise .ensures ∙ definition-rises _ _ _ _ _ (read .before .before .if1 .left) (read .before .definition-at .ensures) (read .definition-at2 .ensures)
 
 pub definition-rises-spec : {M : Type 1} → statement M
 definition-rises-spec =
@@ -41,7 +33,5 @@ definition-rises-spec =
     sub-definition-at
     definition-at-requires
     definition-at-requires-2
-    text-bytes-requires
-    text-bytes-requires-2
-    comes-before-requires
+    texts-rise-requires
     returns-2)

@@ -23,21 +23,13 @@ add-entry-at-2 c = search needs
 entry-at-requires-2 : tie.Need-entry-at-requires-2
 entry-at-requires-2 c κs = search needs
 
-text-bytes-requires : tie.Need-text-bytes-requires
-text-bytes-requires c κs = search needs
-
-text-bytes-requires-2 : tie.Need-text-bytes-requires-2
-text-bytes-requires-2 c κs = search needs
-
-comes-before-requires : tie.Need-comes-before-requires
-comes-before-requires c κs = search needs
+texts-rise-requires : tie.Need-texts-rise-requires
+texts-rise-requires c κs = search needs
 
 returns-2 : tie.Need-returns-2
 returns-2 c =
-    let read = c .before .before .before in
-    c .comes-before .ensures
-    ∙ entry-rises _ _ _ _ _ _ _ _ (read .before .before .if1 .left) (read .before .entry-at .ensures) (read .entry-at2 .ensures) (c .before .before .text-bytes .ensures)
-    (c .before .text-bytes2 .ensures)
+    let read = c .before in
+    c .texts-rise .ensures ∙ entry-rises _ _ _ _ _ _ (read .before .before .if1 .left) (read .before .entry-at .ensures) (read .entry-at2 .ensures)
 
 pub entry-rises-spec : {M : Type 1} → statement M
 entry-rises-spec =
@@ -49,7 +41,5 @@ entry-rises-spec =
     entry-at-requires
     add-entry-at-2
     entry-at-requires-2
-    text-bytes-requires
-    text-bytes-requires-2
-    comes-before-requires
+    texts-rise-requires
     returns-2)

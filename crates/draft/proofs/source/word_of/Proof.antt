@@ -5,12 +5,12 @@ use native.Mathlib.Omega.{arith}
 use native.Mathlib.Nat.{mul-le-mul-left}
 use lib.ListN.{getD}
 use borrow.Author.Needs.{needs}
-use Rattle.image.specs.Sections.{nodeWords}
+use Rattle.image.specs.Sections.{mostWords, nodeWords}
 use Rattle.image.proofs.Widths.{width}
 use Rattle.draft.proofs.source.word_of.Statement.{statement}
 use Rattle.draft.proofs.source.word_of.Tie as tie
 
-few : (n version : ℕ) → n * nodeWords version ≤ n * 11
+few : (n version : ℕ) → n * nodeWords version ≤ n * mostWords
 few n version = mul-le-mul-left n (width version .most)
 
 first-word-requires : tie.Need-first-word-requires

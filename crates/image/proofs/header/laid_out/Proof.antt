@@ -4,13 +4,13 @@ use native.Mathlib.Omega.{arith}
 use borrow.Author.Needs.{needs}
 use Rattle.words.specs.Words.{NONE, wordAt}
 use mathlib.Core.Path.{_≡_, ap, _∙_}
-use Rattle.image.specs.Header.{sizes}
+use Rattle.image.specs.Header.{sizes, versionAt}
 use Rattle.image.proofs.Rows.{Laid, laid-start, laid-elsewhere, laid-more, laid-empty, laid-right, table-size, table-bound, table-past, table-next}
 use Rattle.image.proofs.header.laid_out.Statement.{statement}
 use Rattle.image.proofs.header.laid_out.Tie as tie
 
 abbrev Inv-loop : tie.InvT-loop
-Inv-loop bytes table end₀ k₀ end k = (table ≡ sizes (wordAt bytes 8)) × Laid bytes end k
+Inv-loop bytes table end₀ k₀ end k = (table ≡ sizes (wordAt bytes versionAt)) × Laid bytes end k
 
 abbrev μ-loop : tie.MeasureT-loop
 μ-loop bytes table end₀ k₀ end k = 8 - k

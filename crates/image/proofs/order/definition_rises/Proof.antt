@@ -18,22 +18,14 @@ definition-at-requires c κs = search needs
 definition-at-requires-2 : tie.Need-definition-at-requires-2
 definition-at-requires-2 c κs = search needs
 
-text-bytes-requires : tie.Need-text-bytes-requires
-text-bytes-requires c κs = search needs
-
-text-bytes-requires-2 : tie.Need-text-bytes-requires-2
-text-bytes-requires-2 c κs = search needs
-
-comes-before-requires : tie.Need-comes-before-requires
-comes-before-requires c κs = search needs
+texts-rise-requires : tie.Need-texts-rise-requires
+texts-rise-requires c κs = search needs
 
 returns-2 : tie.Need-returns-2
 returns-2 c =
-    let at = c .before .before .before .before .before .before .before .before .args in
-    c .comes-before .ensures
-    ∙ definition-rises (wordsOf (at .definitions .now)) (at .strings .now) (at .d) _ _ _ _ (c .before .before .before .before .before .if1 .left)
-    (c .before .before .before .before .definition-at .ensures) (c .before .before .before .definition-at2 .ensures) (c .before .before .text-bytes .ensures)
-    (c .before .text-bytes2 .ensures)
+    let at = c .before .before .before .before .before .before .args in
+    c .texts-rise .ensures
+    ∙ definition-rises (wordsOf (at .definitions .now)) (at .strings .now) (at .d) _ _ (c .before .before .before .if1 .left) (c .before .before .definition-at .ensures) (c .before .definition-at2 .ensures)
 
 pub definition-rises-spec : {M : Type 1} → statement M
 definition-rises-spec =
@@ -43,7 +35,5 @@ definition-rises-spec =
     sub-definition-at
     definition-at-requires
     definition-at-requires-2
-    text-bytes-requires
-    text-bytes-requires-2
-    comes-before-requires
+    texts-rise-requires
     returns-2)

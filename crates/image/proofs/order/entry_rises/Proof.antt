@@ -25,22 +25,14 @@ add-text-entry-2 c = search needs
 text-entry-requires-2 : tie.Need-text-entry-requires-2
 text-entry-requires-2 c κs = search needs
 
-text-bytes-requires : tie.Need-text-bytes-requires
-text-bytes-requires c κs = search needs
-
-text-bytes-requires-2 : tie.Need-text-bytes-requires-2
-text-bytes-requires-2 c κs = search needs
-
-comes-before-requires : tie.Need-comes-before-requires
-comes-before-requires c κs = search needs
+texts-rise-requires : tie.Need-texts-rise-requires
+texts-rise-requires c κs = search needs
 
 returns-2 : tie.Need-returns-2
 returns-2 c =
-    let at = c .before .before .before .before .before .before .before .before .args in
-    c .comes-before .ensures
-    ∙ entry-rises (wordsOf (at .entries .now)) (at .strings .now) (at .first) (at .place) _ _ _ _ (c .before .before .before .before .before .if1 .left)
-    (c .before .before .before .before .text-entry .ensures) (c .before .before .before .text-entry2 .ensures) (c .before .before .text-bytes .ensures)
-    (c .before .text-bytes2 .ensures)
+    let at = c .before .before .before .before .before .before .args in
+    c .texts-rise .ensures
+    ∙ entry-rises (wordsOf (at .entries .now)) (at .strings .now) (at .first) (at .place) _ _ (c .before .before .before .if1 .left) (c .before .before .text-entry .ensures) (c .before .text-entry2 .ensures)
 
 pub entry-rises-spec : {M : Type 1} → statement M
 entry-rises-spec =
@@ -52,7 +44,5 @@ entry-rises-spec =
     text-entry-requires
     add-text-entry-2
     text-entry-requires-2
-    text-bytes-requires
-    text-bytes-requires-2
-    comes-before-requires
+    texts-rise-requires
     returns-2)

@@ -1,13 +1,13 @@
--- `story_image::spelling::put_bytes` meets its contract: after i turns the first i words are written.
+-- `words::output::put_bytes` meets its contract. The invariant: the first i bytes are written.
+use borrow.Author.Needs.{needs}
+use native.Mathlib.Omega.{arith}
 use Prim.Native.Nat.{_≤_, _-_}
 use mathlib.Core.Path.{_≡_, refl}
 use mathlib.Core.List.{_++_}
-use native.Mathlib.Omega.{arith}
-use lib.ListN.{length, length-set, take, drop}
-use borrow.Author.Needs.{needs}
+use lib.ListN.{length, take, drop, length-set}
 use Rattle.laws.proofs.Lists.{copy-step, copy-end}
-use Rattle.story_image.proofs.spelling.put_bytes.Statement.{statement}
-use Rattle.story_image.proofs.spelling.put_bytes.Tie as tie
+use Rattle.words.proofs.output.put_bytes.Statement.{statement}
+use Rattle.words.proofs.output.put_bytes.Tie as tie
 
 abbrev Inv-loop : tie.InvT-loop
 Inv-loop bytes out₀ i₀ out i = (i ≤ length bytes) × (length out ≡ length out₀) × (out ≡ take i bytes ++ drop i out₀)
@@ -16,7 +16,7 @@ abbrev μ-loop : tie.MeasureT-loop
 μ-loop bytes out₀ i₀ out i = length bytes - i
 
 loop-holds : tie.Need-loop-holds Inv-loop μ-loop
-loop-holds c = (search needs, refl, refl)
+loop-holds c = (omega arith, refl, refl)
 
 shared-slice-read-out : tie.Need-shared-slice-read-out Inv-loop μ-loop
 shared-slice-read-out c = search needs
@@ -32,14 +32,18 @@ loop-less c = search needs
 
 loop-again : tie.Need-loop-again Inv-loop μ-loop
 loop-again c =
-    let l = c .before .before in
-    (search needs, simp length-set (l .loop .inv .1), copy-step _ _ (l .loop .out) (l .loop .i) (l .loop .inv .2) (omega arith) (omega arith))
+    let at = c .before .before in
+    let to = at .before .args in
+    (omega arith, simp length-set (at .loop .inv .1), copy-step (to .bytes .now) (to .out .now) (at .loop .out) (at .loop .i) (at .loop .inv .2) (omega arith) (omega arith))
 
 same-length : tie.Need-same-length Inv-loop μ-loop
 same-length c = search needs
 
 returns : tie.Need-returns Inv-loop μ-loop
-returns c = copy-end _ _ (c .before .loop .out) (c .before .loop .i) (omega arith) (c .before .loop .inv .2)
+returns c =
+    let at = c .before in
+    let to = at .before .args in
+    copy-end (to .bytes .now) (to .out .now) (at .loop .out) (at .loop .i) (omega arith) (at .loop .inv .2)
 
 pub put-bytes-spec : {M : Type 1} → statement M
 put-bytes-spec =

@@ -1,8 +1,8 @@
--- The answer of `compare`, arm by arm.
+-- `texts::comes_before` meets its contract.
+use Rattle.texts.specs.Text.{before}
 use borrow.Author.Needs.{needs}
-use Rattle.texts.specs.Text.{before}
-use Rattle.leaves.proofs.leaf_before.Statement.{statement}
-use Rattle.leaves.proofs.leaf_before.Tie as tie
+use Rattle.texts.proofs.comes_before.Statement.{statement}
+use Rattle.texts.proofs.comes_before.Tie as tie
 
 compare-requires : tie.Need-compare-requires
 compare-requires c κs = search needs
@@ -28,7 +28,7 @@ returns-3 : tie.Need-returns-3
 unfolding before
 returns-3 c = rw (← c .before .before .compare .ensures, c .enum-told3 .given .1)
 
-pub leaf-before-spec : {M : Type 1} → statement M
-leaf-before-spec =
+pub comes-before-spec : {M : Type 1} → statement M
+comes-before-spec =
     tie.close
     (tie.spec compare-requires enum-told enum-told-2 enum-told-3 returns returns-2 returns-3)
