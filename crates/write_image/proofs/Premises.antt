@@ -43,7 +43,7 @@ use Rattle.write_list_sections.proofs.PayloadLoop.{pay-room}
 use Rattle.write_text_keys.specs.Keys.{keyIn}
 use Rattle.write_interning.specs.Uses.{textsOf, storedOf, textsJoined, Offsets}
 use Rattle.write_image.specs.Length.{imageLength}
-use Rattle.write_image.specs.Given.{Told, Indexed, Keyed, TreeReady, ListsReady, TextsReady, treeOut, listsOut, textsOut, definitionsAt}
+use Rattle.write_image.specs.Given.{DraftPlanned, Indexed, Keyed, TreeReady, ListsReady, TextsReady, treeOut, listsOut, textsOut, definitionsAt}
 use Rattle.write_image.proofs.SectionLengths.{Sized, sized, once}
 
 -- the first of a list's texts, one by one
@@ -92,7 +92,7 @@ pub uses-fewer : (s : Sections) → tablesRule s ≡ 0 → reachRule s ≡ 0 →
 uses-fewer s p q =
     omega (arith, uses-bound s (numbering s) p (once s p q), uses-length s (numbering s), nodes-fewer (nodeCount s) (s .version))
 
-module _ (s : Sections) (w : List ℕ) (l : Layout) (t : Told s w l) where
+module _ (s : Sections) (w : List ℕ) (l : Layout) (t : DraftPlanned s w l) where
   abbrev order : List ℕ
   order = numbering s
 
@@ -188,7 +188,7 @@ module _ (version : ℕ) (nodes children named definitions items payload strings
   abbrev s : Sections
   s = draftOf version nodes children named definitions items payload strings
 
-  module _ (t : Told s w l) where
+  module _ (t : DraftPlanned s w l) where
     pub children-sum : childrenInOrder version nodes w (l .order) (length nodes / nodeWords version) ≡ length children
     unfolding numberOfChildren nodeWord
     children-sum = sum-words s w l t (numberOfChildren s) ∙ used-up s (tables s (t .tables) .used) .children
@@ -280,7 +280,7 @@ module _ (version : ℕ) (nodes children named definitions items payload strings
 
 -- ---- what a section's writer gives, of a draft of which all is known
 
-module _ (version : ℕ) (nodes children named definitions items payload strings w : List ℕ) (l : Layout) (out₀ out : List ℕ) (t : Told (draftOf version nodes children named definitions items payload strings) w l) where
+module _ (version : ℕ) (nodes children named definitions items payload strings w : List ℕ) (l : Layout) (out₀ out : List ℕ) (t : DraftPlanned (draftOf version nodes children named definitions items payload strings) w l) where
   abbrev d : Sections
   d = draftOf version nodes children named definitions items payload strings
 
@@ -354,7 +354,7 @@ texts-room version nodes payload strings w l room r =
 
 -- of whatever draft has this payload and these texts
 pub texts-fit : (version : ℕ) (nodes payload strings w : List ℕ) (l : Layout) (room : ℕ) → TextsReady version nodes payload strings w l room
-    → (children named definitions items : List ℕ) (t : Told (draftOf version nodes children named definitions items payload strings) w l)
+    → (children named definitions items : List ℕ) (t : DraftPlanned (draftOf version nodes children named definitions items payload strings) w l)
     → Keyed (draftOf version nodes children named definitions items payload strings) w l
     → length payload + length (storedBytes (draftOf version nodes children named definitions items payload strings)) ≤ room
 texts-fit version nodes payload strings w l room r children named definitions items t q =

@@ -22,7 +22,7 @@ use Rattle.write_image.specs.Length.{placesBy, imageLength}
 
 -- rules 19 to 21 are kept, a word can say how long the image is, and the work words hold the numbers of the nodes and the offsets of
 -- the texts in use, of which the paths come last
-pub record Told (s : Sections) (w : List ℕ) (l : Layout) : Type 0 where
+pub record DraftPlanned (s : Sections) (w : List ℕ) (l : Layout) : Type 0 where
   pub tables : tablesRule s ≡ 0
   pub reach : reachRule s ≡ 0
   pub shape : shapeRule s ≡ 0
@@ -46,7 +46,7 @@ pub record TreeReady (version : ℕ) (nodes children named payload w : List ℕ)
   pub definitions : List ℕ
   pub items : List ℕ
   pub strings : List ℕ
-  pub told : Told (draftOf version nodes children named definitions items payload strings) w l
+  pub told : DraftPlanned (draftOf version nodes children named definitions items payload strings) w l
   pub fits : length (treeOut (draftOf version nodes children named definitions items payload strings)) ≤ room
 
 -- the word at which the offsets of the definitions' texts begin
@@ -73,7 +73,7 @@ pub record ListsReady (definitions items w : List ℕ) (l : Layout) (text count 
   pub named : List ℕ
   pub payload : List ℕ
   pub strings : List ℕ
-  pub told : Told (draftOf version nodes children named definitions items payload strings) w l
+  pub told : DraftPlanned (draftOf version nodes children named definitions items payload strings) w l
   pub at : text ≡ definitionsAt (draftOf version nodes children named definitions items payload strings) l
   pub indexed : Indexed (draftOf version nodes children named definitions items payload strings) w l count
   pub fits : length (listsOut (draftOf version nodes children named definitions items payload strings)) ≤ room
@@ -95,7 +95,7 @@ pub record TextsReady (version : ℕ) (nodes payload strings w : List ℕ) (l : 
   pub named : List ℕ
   pub definitions : List ℕ
   pub items : List ℕ
-  pub told : Told (draftOf version nodes children named definitions items payload strings) w l
+  pub told : DraftPlanned (draftOf version nodes children named definitions items payload strings) w l
   pub keyed : Keyed (draftOf version nodes children named definitions items payload strings) w l
   pub fits : length (textsOut (draftOf version nodes children named definitions items payload strings)) ≤ room
 
@@ -103,14 +103,14 @@ pub record TextsReady (version : ℕ) (nodes payload strings w : List ℕ) (l : 
 
 -- of the texts and tables: all is known of the draft, its index and the texts in use
 pub record Ready (s : Sections) (w : List ℕ) (l : Layout) (c : EntryCounts) : Type 0 where
-  pub told : Told s w l
+  pub told : DraftPlanned s w l
   pub counts : c ≡ imageCounts s
   pub indexed : Indexed s w l (c .index)
   pub keyed : Keyed s w l
 
 -- the same for the sections, with the room that they take
 pub record Sectioned (s : Sections) (w : List ℕ) (l : Layout) (count : ℕ) (q : Places) (room : ℕ) : Type 0 where
-  pub told : Told s w l
+  pub told : DraftPlanned s w l
   pub indexed : Indexed s w l count
   pub keyed : Keyed s w l
   pub places : q ≡ placesBy (s .version) (imageCounts s)

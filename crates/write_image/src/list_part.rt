@@ -5,7 +5,7 @@ ghost use Prim.Native.Nat.{ℕ};
 ghost use lib.ListN.{length};
 ghost use Rattle.draft.specs.Source.{draftOf};
 ghost use Rattle.words.specs.Output.{over};
-ghost use Rattle.write_image.specs.Given.{Told, definitionsAt, Indexed, ListsReady, listsOut};
+ghost use Rattle.write_image.specs.Given.{DraftPlanned, definitionsAt, Indexed, ListsReady, listsOut};
 use draft::layout::Layout;
 use image::ImageView;
 use write_list_sections::definitions::put_definitions;
@@ -25,7 +25,7 @@ pub fn put_lists(
     requires { ⌜ ListsReady (now definitions) (now items) (now work) layout text count (length (now out)) ⌝ }
     ensures { λ r. ⌜ ((version : ℕ) (nodes children named payload strings : List ℕ) → let s =
         draftOf version nodes children named (now (definitions .entry)) (now (items .entry)) payload strings in
-        Told s (now (work .entry)) layout → text ≡ definitionsAt s layout → Indexed s (now (work .entry)) layout count
+        DraftPlanned s (now (work .entry)) layout → text ≡ definitionsAt s layout → Indexed s (now (work .entry)) layout count
         → now (out .exit) ≡ over (listsOut s) (now (out .entry))) ⌝ }
 {
     put_definitions(definitions, work, text, out);

@@ -5,7 +5,7 @@ ghost use Prim.Native.Nat.{ℕ};
 ghost use lib.ListN.{length};
 ghost use Rattle.draft.specs.Source.{draftOf};
 ghost use Rattle.words.specs.Output.{over};
-ghost use Rattle.write_image.specs.Given.{Told, Keyed, TextsReady, textsOut};
+ghost use Rattle.write_image.specs.Given.{DraftPlanned, Keyed, TextsReady, textsOut};
 use draft::layout::Layout;
 use draft::source::Source;
 use write_interning::emit;
@@ -24,7 +24,7 @@ pub fn put_texts(
     requires { ⌜ TextsReady (source .version) (now nodes) (now payload) (now strings) (now work) layout (length (now out)) ⌝ }
     ensures { λ r. ⌜ ((children named definitions items : List ℕ) → let s =
         draftOf (source .version) (now (nodes .entry)) children named definitions items (now (payload .entry)) (now (strings .entry)) in
-        Told s (now (work .entry)) layout → Keyed s (now (work .entry)) layout → now (out .exit) ≡ over (textsOut s) (now (out .entry))) ⌝ }
+        DraftPlanned s (now (work .entry)) layout → Keyed s (now (work .entry)) layout → now (out .exit) ≡ over (textsOut s) (now (out .entry))) ⌝ }
 {
     put_payload(nodes, payload, work, layout, out, source);
     let at_strings = payload.len();

@@ -5,7 +5,7 @@ ghost use Prim.Native.Nat.{ℕ};
 ghost use lib.ListN.{length};
 ghost use Rattle.draft.specs.Source.{draftOf};
 ghost use Rattle.words.specs.Output.{over};
-ghost use Rattle.write_image.specs.Given.{Told, TreeReady, treeOut, definitionsAt};
+ghost use Rattle.write_image.specs.Given.{DraftPlanned, TreeReady, treeOut, definitionsAt};
 use draft::layout::Layout;
 use draft::source::Source;
 use draft::source::node_count;
@@ -29,7 +29,7 @@ pub fn put_tree(
     requires { ⌜ TreeReady (source .version) (now nodes) (now children) (now named) (now payload) (now work) layout (length (now out)) ⌝ }
     ensures { λ r. ⌜ ((definitions items strings : List ℕ) → let s =
         draftOf (source .version) (now (nodes .entry)) (now (children .entry)) (now (named .entry)) definitions items (now (payload .entry)) strings in
-        Told s (now (work .entry)) layout → (now (out .exit) ≡ over (treeOut s) (now (out .entry))) × (r ≡ definitionsAt s layout)) ⌝ }
+        DraftPlanned s (now (work .entry)) layout → (now (out .exit) ≡ over (treeOut s) (now (out .entry))) × (r ≡ definitionsAt s layout)) ⌝ }
 {
     let text = put_nodes(nodes, payload, work, layout, out, source);
     let at_children = nodes_length(source.version, node_count(nodes, source));

@@ -32,7 +32,7 @@ use Rattle.write_list_sections.specs.Entered.{nodeListWords, payloadWord
 use Rattle.write_list_sections.proofs.ListWords.{node-written}
 
 -- j nodes are passed: the next list goes to `at`, and the offset of the next node's first text is word `text`
-pub record Paying (version : ℕ) (nodes payload w : List ℕ) (order offsets : ℕ) (out₀ out : List ℕ) (text at j : ℕ) : Type 0 where
+pub record ListsSoFar (version : ℕ) (nodes payload w : List ℕ) (order offsets : ℕ) (out₀ out : List ℕ) (text at j : ℕ) : Type 0 where
   pub long : length out ≡ length out₀
   pub fits : PayloadFits version nodes payload w order offsets
   pub word : text ≡ offsets + usedBy version nodes w order payload j
@@ -40,7 +40,7 @@ pub record Paying (version : ℕ) (nodes payload w : List ℕ) (order offsets : 
 
 module _ (version : ℕ) (nodes payload w : List ℕ) (order offsets : ℕ) (out₀ : List ℕ) where
   pub pay-start : PayloadFits version nodes payload w order offsets → 4 * length (joinOf (length nodes / nodeWords version) (payloadWords version nodes payload w order offsets)) ≤ length out₀
-      → Paying version nodes payload w order offsets out₀ out₀ offsets 0 0
+      → ListsSoFar version nodes payload w order offsets out₀ out₀ offsets 0 0
   pay-start p h =
       record {
         long = refl;
@@ -49,7 +49,7 @@ module _ (version : ℕ) (nodes payload w : List ℕ) (order offsets : ℕ) (out
         running = run-start 0 (length nodes / nodeWords version) (payloadWords version nodes payload w order offsets) out₀ (omega arith) 0 refl;
       }
 
-  module _ (out : List ℕ) (text at j : ℕ) (p : Paying version nodes payload w order offsets out₀ out text at j) (h : j < length nodes / nodeWords version) where
+  module _ (out : List ℕ) (text at j : ℕ) (p : ListsSoFar version nodes payload w order offsets out₀ out text at j) (h : j < length nodes / nodeWords version) where
     pub pay-order : order + j < length w
     pay-order = omega (arith, p .fits .order-end)
 
@@ -79,7 +79,7 @@ module _ (version : ℕ) (nodes payload w : List ℕ) (order offsets : ℕ) (out
       )
 
       pub pay-next : (out′ : List ℕ) (at′ : ℕ) → PutAsBytes (nodeListWords payload w text r) out out′ at at′ → (c : ℕ) → c ≡ textsBy payload r (kindOf (r .tag))
-          → Paying version nodes payload w order offsets out₀ out′ (text + c) at′ (j + 1)
+          → ListsSoFar version nodes payload w order offsets out₀ out′ (text + c) at′ (j + 1)
       pay-next out′ at′ z c y =
           let next = run-next 0 (length nodes / nodeWords version) (payloadWords version nodes payload w order offsets) out₀ out j at (p .running) (nodeListWords payload w text r) out′ at′ h
           words-here (z .is) (z .end) in
@@ -129,7 +129,7 @@ module _ (s : Sections) (version : ℕ) (nodes payload w : List ℕ) (order offs
       tablesRule x ≡ 0 → OldsAt olds w (nodeCount x) order → OffsetsAt kept (nodeUses x olds) w offsets
       → out ≡ over (joinOf (nodeCount x) (λ j. payloadOut x olds kept (oldOf olds j))) out₀
 
-  pub pay-end : (out₀ out : List ℕ) (text at j : ℕ) → Paying version nodes payload w order offsets out₀ out text at j → length nodes / nodeWords version ≤ j
+  pub pay-end : (out₀ out : List ℕ) (text at j : ℕ) → ListsSoFar version nodes payload w order offsets out₀ out text at j → length nodes / nodeWords version ≤ j
       → s .nodes ≡ nodes → s .version ≡ version → s .payload ≡ payload → Paid out₀ out s
   pay-end out₀ out text at j g h e d b =
       subst (Paid out₀ out) (sym (told s version nodes (s .children) (s .named) payload d e refl refl b))

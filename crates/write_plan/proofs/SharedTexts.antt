@@ -10,7 +10,7 @@ use lib.Seq.{getD-drop, getD-set-same, getD-set-other}
 use lib.Dec.{ltb, eqb}
 use borrow.Author.Tests.{ltb-true, ltb-false, eqb-true, eqb-false}
 use Rattle.image.specs.Sections.{textOrEmpty}
-use Rattle.write_text_keys.specs.Keys.{textIn, nodeOf, longOf, keyOf, atEnd, readBack}
+use Rattle.write_text_keys.specs.Keys.{usedText, nodeOf, longOf, keyOf, atEnd, readBack}
 use Rattle.write_plan.specs.Shared.{SameTexts}
 
 -- ---- from step to step
@@ -27,7 +27,7 @@ same-next strings at texts w₀ w₁ w₂ p q =
 pub same-kept : (strings : List ℕ) (at texts : ℕ) (w₀ w : List ℕ) → drop at w ≡ drop at w₀ → SameTexts strings at texts w₀ w
 same-kept strings at texts w₀ w e =
     record {
-      text = λ a h. ap (λ (tab : List ℕ). textIn strings tab a) e;
+      text = λ a h. ap (λ (tab : List ℕ). usedText strings tab a) e;
       behind =
           λ i h.
           let back : at + (i - at) ≡ i = omega arith in
@@ -51,7 +51,7 @@ module _ (strings : List ℕ) (at texts : ℕ) (w : List ℕ) (i : ℕ) (below :
   other : (k : ℕ) → (k ≡ there → ⊥) → getD w′ k 0 ≡ getD w k 0
   other k h = getD-set-other w there k offset 0 h
 
-  text-kept : (a : ℕ) (b : Bool) → eqb a i ≡ b → textIn strings (drop at w′) a ≡ textIn strings (drop at w) a
+  text-kept : (a : ℕ) (b : Bool) → eqb a i ≡ b → usedText strings (drop at w′) a ≡ usedText strings (drop at w) a
   text-kept a true e =
       let same : a ≡ i = eqb-true a i e in
       let first : getD (drop at w′) (a + a) 0 ≡ offset = read w′ (a + a) ∙ ap (λ (k : ℕ). getD w′ k 0) (omega (arith, same)) ∙ getD-set-same w there offset 0 (omega arith) in
@@ -100,7 +100,7 @@ module _ (strings : List ℕ) (at texts paths lengths : ℕ) (w₀ w : List ℕ)
           ap (λ (x : ℕ). readBack (longOf lengths (drop at w) x) version nodes strings (atEnd version nodes x)) node
           ∙ ap (λ (n : ℕ). readBack n version nodes strings (atEnd version nodes (nodeOf texts paths (drop at w₀) a))) (long-same (nodeOf texts paths (drop at w₀) a))
 
-      by : (b : Bool) → ltb a texts ≡ b → cond b (textIn strings (drop at w) a) (path (drop at w)) ≡ cond b (textIn strings (drop at w₀) a) (path (drop at w₀))
+      by : (b : Bool) → ltb a texts ≡ b → cond b (usedText strings (drop at w) a) (path (drop at w)) ≡ cond b (usedText strings (drop at w₀) a) (path (drop at w₀))
       by true e = s .text a (ltb-true a texts e)
       by false e = path-same
 

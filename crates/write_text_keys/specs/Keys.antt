@@ -84,19 +84,19 @@ abbrev pub longOf : ℕ → List ℕ → ℕ → ℕ
 longOf lengths tab x = getD tab (lengths + x + x) 0 + 2 ^ 32 * getD tab (lengths + x + x + 1) 0
 
 -- the text of text use a
-abbrev pub textIn : List ℕ → List ℕ → ℕ → List ℕ
-textIn strings tab a = textOrEmpty strings (getD tab (a + a) 0) (getD tab (a + a + 1) 0)
+abbrev pub usedText : List ℕ → List ℕ → ℕ → List ℕ
+usedText strings tab a = textOrEmpty strings (getD tab (a + a) 0) (getD tab (a + a + 1) 0)
 
 -- the text of use a, by the tables of uses
 unfoldable pub keyOf : ℕ → List ℕ → List ℕ → ℕ → ℕ → ℕ → List ℕ → ℕ → List ℕ
 keyOf version nodes strings texts paths lengths tab a =
-    cond (ltb a texts) (textIn strings tab a)
+    cond (ltb a texts) (usedText strings tab a)
     (readBack (longOf lengths tab (nodeOf texts paths tab a)) version nodes strings (atEnd version nodes (nodeOf texts paths tab a)))
 
 -- how long that text is
 unfoldable pub keyLength : List ℕ → ℕ → ℕ → ℕ → List ℕ → ℕ → ℕ
 keyLength strings texts paths lengths tab a =
-    cond (ltb a texts) (length (textIn strings tab a)) (longOf lengths tab (nodeOf texts paths tab a))
+    cond (ltb a texts) (length (usedText strings tab a)) (longOf lengths tab (nodeOf texts paths tab a))
 
 -- the cursor at its end: a text is one name, with nothing above that is ever read
 unfoldable pub endOf : ℕ → List ℕ → ℕ → ℕ → List ℕ → ℕ → Cursor

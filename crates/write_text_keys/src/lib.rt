@@ -11,7 +11,7 @@ ghost use Rattle.texts.specs.Decimal.{decimal};
 ghost use Rattle.image.specs.Sections.{textOrEmpty};
 ghost use Rattle.draft.specs.Source.{wordOf};
 ghost use Rattle.write_text_keys.specs.Keys.{pieceLength, atEnd, lastByte, stepBack, readBack, back, decided, alike, nodeOf};
-ghost use Rattle.write_text_keys.specs.Keys.{nameLeft, longOf, keyOf, keyLength, endOf, keyIn, textIn, Placed, lengthBelow};
+ghost use Rattle.write_text_keys.specs.Keys.{nameLeft, longOf, keyOf, keyLength, endOf, keyIn, usedText, Placed, lengthBelow};
 use draft::layout::Layout;
 use draft::source;
 use draft::source::Source;
@@ -302,7 +302,7 @@ fn part_bytes(strings: &[u8], part: Part) -> &[u8]
 
 // The bytes of text use `a`.
 fn text_of<'s, 't>(strings: &'s [u8], tab: &'t [u32], a: u32) -> &'s [u8]
-    ensures { λ r. ⌜ now r ≡ textIn (now (strings .entry)) (now (tab .entry)) a ⌝ }
+    ensures { λ r. ⌜ now r ≡ usedText (now (strings .entry)) (now (tab .entry)) a ⌝ }
 {
     part_bytes(strings, part_of(tab, a))
 }
@@ -368,7 +368,7 @@ fn parts_below(strings: &[u8], p: Part, q: Part) -> bool
 
 // Whether the text of text use `a` comes before that of text use `b`.
 fn texts_below(strings: &[u8], tab: &[u32], a: u32, b: u32) -> bool
-    ensures { λ r. ⌜ (let text = textIn (now (strings .entry)) (now (tab .entry)) in r ≡ before (text a) (text b)) ⌝ }
+    ensures { λ r. ⌜ (let text = usedText (now (strings .entry)) (now (tab .entry)) in r ≡ before (text a) (text b)) ⌝ }
 {
     parts_below(strings, part_of(tab, a), part_of(tab, b))
 }

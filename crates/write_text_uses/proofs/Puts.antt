@@ -61,7 +61,7 @@ filled-behind at ws w₀ w f k h =
 -- ---- a loop of runs
 
 -- j of n runs are written, and the next one goes to k
-pub record Going (n : ℕ) (g : ℕ → List ℕ) (w₀ : List ℕ) (at : ℕ) (w : List ℕ) (k j : ℕ) : Type 0 where
+pub record RunsSoFar (n : ℕ) (g : ℕ → List ℕ) (w₀ : List ℕ) (at : ℕ) (w : List ℕ) (k j : ℕ) : Type 0 where
   pub within : j ≤ n
   pub room : at + length (joinOf n g) ≤ length w₀
   pub end : k ≡ at + length (joinOf j g)
@@ -69,11 +69,11 @@ pub record Going (n : ℕ) (g : ℕ → List ℕ) (w₀ : List ℕ) (at : ℕ) (
   pub filled : Filled at (joinOf j g) w₀ w
 
 module _ (n : ℕ) (g : ℕ → List ℕ) (w₀ : List ℕ) (at : ℕ) where
-  pub going-start : Room (joinOf n g) w₀ at → Going n g w₀ at w₀ at 0
+  pub going-start : Room (joinOf n g) w₀ at → RunsSoFar n g w₀ at w₀ at 0
   unfolding joinOf
   going-start h = record { within = omega arith; room = h .fits; end = omega arith; long = refl; filled = start at w₀ (omega (arith, h .fits)) }
 
-  module _ (w : List ℕ) (k j : ℕ) (p : Going n g w₀ at w k j) where
+  module _ (w : List ℕ) (k j : ℕ) (p : RunsSoFar n g w₀ at w k j) where
     pub going-room : j < n → Room (g j) w k
     going-room h = record { fits = omega (arith, p .room, p .end, p .long, join-within n j g h) }
 
@@ -84,7 +84,7 @@ module _ (n : ℕ) (g : ℕ → List ℕ) (w₀ : List ℕ) (at : ℕ) where
     pub going-behind : (m : ℕ) → at + length (joinOf n g) ≤ m → j < n → getD w m 0 ≡ getD w₀ m 0
     going-behind m h q = filled-behind at (joinOf j g) w₀ w (p .filled) m (omega (arith, join-within n j g q))
 
-    pub going-next : (next w′ : List ℕ) (k′ : ℕ) → j < n → next ≡ g j → Put next w k w′ k′ → Going n g w₀ at w′ k′ (j + 1)
+    pub going-next : (next w′ : List ℕ) (k′ : ℕ) → j < n → next ≡ g j → Put next w k w′ k′ → RunsSoFar n g w₀ at w′ k′ (j + 1)
     unfolding joinOf
     going-next next w′ k′ h e q =
         let both = length-append (joinOf j g) (g j) in
@@ -152,7 +152,7 @@ pub record RunsPut (n : ℕ) (g : ℕ → List ℕ) (w₀ : List ℕ) (order at 
   pub numbers : order + n ≤ length w₀
   pub below : at + length (joinOf n (λ m. g (oldOf (wordsFrom w₀ order n) m))) ≤ order
   pub long : length w ≡ length w₀
-  pub going : Going n (λ m. g (oldOf (wordsFrom w₀ order n) m)) w₀ at w k j
+  pub going : RunsSoFar n (λ m. g (oldOf (wordsFrom w₀ order n) m)) w₀ at w k j
 
 module _ (n : ℕ) (g : ℕ → List ℕ) (w₀ : List ℕ) (order at : ℕ) where
   abbrev runs : ℕ → List ℕ

@@ -153,14 +153,14 @@ module _ (s : Sections) (version : ℕ) (nodes named : List ℕ) (order w : List
           (offsets-part kept w offsets (nodeCount r) (λ k. namedTexts r (oldOf order k)) u j h)))
           ∙ ap (namedOut r order kept) (o j h)
 
-  abbrev Told : List ℕ → List ℕ → ℕ → ℕ → Sections → Type 0
-  Told out₀ out m offsets x =
+  abbrev NamedSection : List ℕ → List ℕ → ℕ → ℕ → Sections → Type 0
+  NamedSection out₀ out m offsets x =
       tablesRule x ≡ 0 → OldsAt order w (nodeCount x) m → NewsAt order w (nodeCount x) (l .new) → OffsetsAt kept (namedUses x order) w offsets
       → out ≡ over (bytesOf (joinOf (nodeCount x) (λ j. namedOut x order kept (oldOf order j)))) out₀
 
   pub finish : (offsets : ℕ) (fit : NamedFit version nodes w l offsets) (out₀ out : List ℕ) (text at j : ℕ) → Naming version nodes named w l offsets out₀ out text at j → length nodes / nodeWords version ≤ j
-      → s .nodes ≡ nodes → s .version ≡ version → s .named ≡ named → Told out₀ out (l .order) offsets s
+      → s .nodes ≡ nodes → s .version ≡ version → s .named ≡ named → NamedSection out₀ out (l .order) offsets s
   finish offsets fit out₀ out text at j g h e d c =
-      subst (Told out₀ out (l .order) offsets) (sym (told s version nodes (s .children) named (s .payload) d e refl c refl))
+      subst (NamedSection out₀ out (l .order) offsets) (sym (told s version nodes (s .children) named (s .payload) d e refl c refl))
       (λ p o q u. subst (λ (ws : List ℕ). out ≡ over (bytesOf ws) out₀) (all (l .order) offsets p (fit .order .olds) o q u)
       (run-front (length nodes / nodeWords version) (entry version nodes named w (l .order) (l .new) offsets) out₀ out j at (g .running) h))

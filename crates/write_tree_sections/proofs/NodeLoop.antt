@@ -78,13 +78,13 @@ recordAt version nodes payload w l j =
 abbrev pub entry : ℕ → List ℕ → List ℕ → List ℕ → Layout → ℕ → List ℕ
 entry version nodes payload w l j = recordWords version (recordAt version nodes payload w l j)
 
-pub record Going (version : ℕ) (nodes payload w : List ℕ) (l : Layout) (out₀ out : List ℕ) (text : ℕ) (st : Starts) (at j : ℕ) : Type 0 where
+pub record NodesSoFar (version : ℕ) (nodes payload w : List ℕ) (l : Layout) (out₀ out : List ℕ) (text : ℕ) (st : Starts) (at j : ℕ) : Type 0 where
   pub running : Running 0 (length nodes / nodeWords version) (entry version nodes payload w l) out₀ out j at
   pub texts : text ≡ l .offsets + usedBy version nodes w (l .order) payload j
   pub starts : st ≡ startsBy version nodes w (l .order) j
 
 module _ (version : ℕ) (nodes payload w : List ℕ) (l : Layout) (fit : NodesFit version nodes payload w l) (out₀ : List ℕ) where
-  pub begin : length nodes / nodeWords version * nodeSize version ≤ length out₀ → Going version nodes payload w l out₀ out₀ (l .offsets) (record { children = 0; named = 0; payload = 0 }) 0 0
+  pub begin : length nodes / nodeWords version * nodeSize version ≤ length out₀ → NodesSoFar version nodes payload w l out₀ out₀ (l .offsets) (record { children = 0; named = 0; payload = 0 }) 0 0
   unfolding sumOf
   begin h =
       record {
@@ -99,7 +99,7 @@ module _ (version : ℕ) (nodes payload w : List ℕ) (l : Layout) (fit : NodesF
         starts = refl;
       }
 
-  module _ (out : List ℕ) (text : ℕ) (st : Starts) (at j : ℕ) (g : Going version nodes payload w l out₀ out text st at j) (h : j < length nodes / nodeWords version) where
+  module _ (out : List ℕ) (text : ℕ) (st : Starts) (at j : ℕ) (g : NodesSoFar version nodes payload w l out₀ out text st at j) (h : j < length nodes / nodeWords version) where
     -- the record's words fit
     pub step-room : at + nodeSize version ≤ length out
     step-room =
@@ -170,7 +170,7 @@ module _ (version : ℕ) (nodes payload w : List ℕ) (l : Layout) (fit : NodesF
       -- the next node
       pub step-next : (d : NodeRecord) → d ≡ recordByKind w (l .new) text st r (kindOf (r .tag)) → (out′ : List ℕ) → out′ ≡ putAt out at (recordWords version d)
           → (count : ℕ) → count ≡ textsBy payload r (kindOf (r .tag)) → (st′ : Starts) → st′ ≡ startsAfter st r
-          → (at′ : ℕ) → at′ ≡ at + nodeSize version → Going version nodes payload w l out₀ out′ (text + count) st′ at′ (j + 1)
+          → (at′ : ℕ) → at′ ≡ at + nodeSize version → NodesSoFar version nodes payload w l out₀ out′ (text + count) st′ at′ (j + 1)
       unfolding sumOf
       step-next d made out′ z count q st′ a at′ b =
           record {
@@ -237,16 +237,16 @@ module _ (s : Sections) (version : ℕ) (nodes payload w : List ℕ) (l : Layout
           ∙ ap (λ (l : List ℕ). putFields r order kept i (replicate 7 NONE) (fieldsAt r i) ++ l) (sym (more-none r order kept i)))
 
   -- what the section's writer says of sections that have these nodes and this payload
-  abbrev Told : List ℕ → List ℕ → ℕ → Sections → Type 0
-  Told out₀ out text x =
+  abbrev NodeSection : List ℕ → List ℕ → ℕ → Sections → Type 0
+  NodeSection out₀ out text x =
       tablesRule x ≡ 0 → shapeRule x ≡ 0 → ((j : ℕ) → j < nodeCount x → placeIn order (oldOf order j) ≡ j) → OldsAt order w (nodeCount x) (l .order)
       → NewsAt order w (nodeCount x) (l .new) → OffsetsAt kept (nodeUses x order) w (l .offsets)
       → (out ≡ over (bytesOf (joinOf (nodeCount x) (λ j. nodeOut x order kept (oldOf order j)))) out₀) × (text ≡ l .offsets + length (nodeUses x order))
 
-  pub finish : (fit : NodesFit version nodes payload w l) (out₀ out : List ℕ) (text : ℕ) (st : Starts) (at j : ℕ) → Going version nodes payload w l out₀ out text st at j
-      → length nodes / nodeWords version ≤ j → s .nodes ≡ nodes → s .version ≡ version → s .payload ≡ payload → Told out₀ out text s
+  pub finish : (fit : NodesFit version nodes payload w l) (out₀ out : List ℕ) (text : ℕ) (st : Starts) (at j : ℕ) → NodesSoFar version nodes payload w l out₀ out text st at j
+      → length nodes / nodeWords version ≤ j → s .nodes ≡ nodes → s .version ≡ version → s .payload ≡ payload → NodeSection out₀ out text s
   finish fit out₀ out text st at j g h e d b =
-      subst (Told out₀ out text) (sym (told s version nodes (s .children) (s .named) payload d e refl refl b))
+      subst (NodeSection out₀ out text) (sym (told s version nodes (s .children) (s .named) payload d e refl refl b))
       (λ p q place olds news offs. (
         subst (λ (ws : List ℕ). out ≡ over (bytesOf ws) out₀)
             (join-same (nodeCount r) _ _ (λ m k. entry-is (fit .order .olds) p q place olds news offs m k))

@@ -20,7 +20,7 @@ use Rattle.write_plan.specs.Planned.{layoutOf, plannedLayout, planRule, Prepare
 use Rattle.write_plan.proofs.Premises.{once}
 use Rattle.write_plan.proofs.UseTexts.{boxes-long, uses-long}
 use Rattle.write_image.specs.Length.{imageLength}
-use Rattle.write_image.specs.Given.{Told, Ready}
+use Rattle.write_image.specs.Given.{DraftPlanned, Ready}
 
 module _ (s : Sections) (p : tablesRule s ≡ 0) (e : planRule s ≡ 0) where
   -- the rules that the plan tests, one by one
@@ -51,7 +51,7 @@ module _ (s : Sections) (p : tablesRule s ≡ 0) (e : planRule s ≡ 0) where
         )
 
     module _ (fitsOutput : imageLength s ≤ NONE) where
-      told : Told s w (plannedLayout s)
+      told : DraftPlanned s w (plannedLayout s)
       told =
           record {
             tables = p;

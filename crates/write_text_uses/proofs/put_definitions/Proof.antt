@@ -3,13 +3,13 @@ use Prim.Native.Nat.{_-_, _/_}
 use mathlib.Core.Path.{refl}
 use lib.ListN.{length}
 use Rattle.write_text_uses.specs.Uses.{definitionPairs, allDefinitionPairs, definitionsOnly}
-use Rattle.write_text_uses.proofs.Puts.{Going, going-start, going-room, going-next, going-end}
+use Rattle.write_text_uses.proofs.Puts.{RunsSoFar, going-start, going-room, going-next, going-end}
 use borrow.Author.Needs.{needs}
 use Rattle.write_text_uses.proofs.put_definitions.Statement.{statement}
 use Rattle.write_text_uses.proofs.put_definitions.Tie as tie
 
 abbrev Inv-loop : tie.InvT-loop
-Inv-loop definitions items w₀ at count k₀ d₀ w k d = Going (length definitions / 4) (definitionPairs (definitionsOnly definitions items)) w₀ at w k d
+Inv-loop definitions items w₀ at count k₀ d₀ w k d = RunsSoFar (length definitions / 4) (definitionPairs (definitionsOnly definitions items)) w₀ at w k d
 
 abbrev μ-loop : tie.MeasureT-loop
 μ-loop definitions items w₀ at count k₀ d₀ w k d = length definitions / 4 - d

@@ -1,14 +1,14 @@
 -- `write_text_uses::put_entries` meets its contract.
 use Prim.Native.Nat.{_-_}
 use Rattle.write_text_uses.specs.Uses.{entryPairs}
-use Rattle.write_text_uses.proofs.Puts.{Going, going-start, going-words, going-next, going-end}
+use Rattle.write_text_uses.proofs.Puts.{RunsSoFar, going-start, going-words, going-next, going-end}
 use Rattle.write_text_uses.proofs.DraftReads.{entry-is}
 use borrow.Author.Needs.{needs}
 use Rattle.write_text_uses.proofs.put_entries.Statement.{statement}
 use Rattle.write_text_uses.proofs.put_entries.Tie as tie
 
 abbrev Inv-loop : tie.InvT-loop
-Inv-loop entries first count w₀ at start end k₀ j₀ w k j = Going count (entryPairs entries first) w₀ at w k j
+Inv-loop entries first count w₀ at start end k₀ j₀ w k j = RunsSoFar count (entryPairs entries first) w₀ at w k j
 
 abbrev μ-loop : tie.MeasureT-loop
 μ-loop entries first count w₀ at start end k₀ j₀ w k j = count - j

@@ -2,13 +2,13 @@
 use Prim.Native.Nat.{_-_}
 use mathlib.Core.Path.{refl}
 use Rattle.write_text_uses.specs.Uses.{listItemPairs, payloadOnly}
-use Rattle.write_text_uses.proofs.Puts.{Going, going-start, going-room, going-next, going-end}
+use Rattle.write_text_uses.proofs.Puts.{RunsSoFar, going-start, going-room, going-next, going-end}
 use borrow.Author.Needs.{needs}
 use Rattle.write_text_uses.proofs.put_list_items.Statement.{statement}
 use Rattle.write_text_uses.proofs.put_list_items.Tie as tie
 
 abbrev Inv-loop : tie.InvT-loop
-Inv-loop payload start count w₀ at k₀ j₀ w k j = Going count (listItemPairs (payloadOnly payload) start) w₀ at w k j
+Inv-loop payload start count w₀ at k₀ j₀ w k j = RunsSoFar count (listItemPairs (payloadOnly payload) start) w₀ at w k j
 
 abbrev μ-loop : tie.MeasureT-loop
 μ-loop payload start count w₀ at k₀ j₀ w k j = count - j

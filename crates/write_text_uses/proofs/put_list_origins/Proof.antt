@@ -1,14 +1,14 @@
 -- `write_text_uses::put_list_origins` meets its contract.
 use Prim.Native.Nat.{_-_}
 use Rattle.write_text_uses.specs.Uses.{originPairs}
-use Rattle.write_text_uses.proofs.Puts.{Going, going-start, going-words, going-next, going-end}
+use Rattle.write_text_uses.proofs.Puts.{RunsSoFar, going-start, going-words, going-next, going-end}
 use Rattle.write_text_uses.proofs.DraftReads.{origin-is}
 use borrow.Author.Needs.{needs}
 use Rattle.write_text_uses.proofs.put_list_origins.Statement.{statement}
 use Rattle.write_text_uses.proofs.put_list_origins.Tie as tie
 
 abbrev Inv-loop : tie.InvT-loop
-Inv-loop payload first count w₀ at k₀ j₀ w k j = Going count (originPairs payload first) w₀ at w k j
+Inv-loop payload first count w₀ at k₀ j₀ w k j = RunsSoFar count (originPairs payload first) w₀ at w k j
 
 abbrev μ-loop : tie.MeasureT-loop
 μ-loop payload first count w₀ at k₀ j₀ w k j = count - j

@@ -3,13 +3,13 @@ use Prim.Native.Nat.{_-_, _/_}
 use native.Mathlib.Omega.{arith}
 use lib.ListN.{length}
 use Rattle.image.specs.Sections.{nodeWords}
-use Rattle.write_list_sections.proofs.PayloadLoop.{Paying, pay-start, pay-order, pay-node, pay-asked, pay-texts, pay-next, pay-end}
+use Rattle.write_list_sections.proofs.PayloadLoop.{ListsSoFar, pay-start, pay-order, pay-node, pay-asked, pay-texts, pay-next, pay-end}
 use borrow.Author.Needs.{needs}
 use Rattle.write_list_sections.proofs.payload.put_payload.Statement.{statement}
 use Rattle.write_list_sections.proofs.payload.put_payload.Tie as tie
 
 abbrev Inv-loop : tie.InvT-loop
-Inv-loop nodes payload w out₀ source order count text₀ at₀ j₀ out text at j = Paying (source .version) nodes payload w order text₀ out₀ out text at j
+Inv-loop nodes payload w out₀ source order count text₀ at₀ j₀ out text at j = ListsSoFar (source .version) nodes payload w order text₀ out₀ out text at j
 
 abbrev μ-loop : tie.MeasureT-loop
 μ-loop nodes payload w out₀ source order count text₀ at₀ j₀ out text at j = length nodes / nodeWords (source .version) - j

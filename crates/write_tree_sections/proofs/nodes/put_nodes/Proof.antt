@@ -5,14 +5,14 @@ use Rattle.image.specs.Sections.{nodeWords}
 use mathlib.Core.Path.{refl}
 use native.Mathlib.Omega.{arith}
 use Rattle.image.proofs.Widths.{width}
-use Rattle.write_tree_sections.proofs.NodeLoop.{Going, begin, step-room, step-text, step-texts, step-starts, step-next, finish}
+use Rattle.write_tree_sections.proofs.NodeLoop.{NodesSoFar, begin, step-room, step-text, step-texts, step-starts, step-next, finish}
 use borrow.Author.Needs.{needs}
 use Rattle.write_tree_sections.proofs.nodes.put_nodes.Statement.{statement}
 use Rattle.write_tree_sections.proofs.nodes.put_nodes.Tie as tie
 
 abbrev Inv-loop : tie.InvT-loop
 Inv-loop nodes payload work layout out₀ source order count size next-text₀ starts₀ at₀ j₀ out next-text starts at j =
-    Going (source .version) nodes payload work layout out₀ out next-text starts at j
+    NodesSoFar (source .version) nodes payload work layout out₀ out next-text starts at j
 
 abbrev μ-loop : tie.MeasureT-loop
 μ-loop nodes payload work layout out₀ source order count size next-text₀ starts₀ at₀ j₀ out next-text starts at j = length nodes / nodeWords (source .version) - j
