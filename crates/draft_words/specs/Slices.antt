@@ -10,6 +10,19 @@ use Rattle.draft_words.specs.declared.Lengths.{Lengths}
 unfoldable pub BeginWith : ℕ → List ℕ → List ℕ → Type 0
 BeginWith n bs ws = (k : ℕ) → k < n → getD ws k 0 ≡ wordIn bs (4 * k)
 
+-- the lengths that bytes begin with, a word each; one that is not there is 0
+abbrev pub lengthsIn : List ℕ → Lengths
+lengthsIn bs =
+    record {
+      nodes = wordIn bs 0;
+      children = wordIn bs 4;
+      named = wordIn bs 8;
+      definitions = wordIn bs 12;
+      items = wordIn bs 16;
+      payload = wordIn bs 20;
+      strings = wordIn bs 24;
+    }
+
 -- the bytes behind so many words
 abbrev pub behindWords : ℕ → List ℕ → List ℕ
 behindWords n bs = drop (4 * n) bs

@@ -1,7 +1,7 @@
 // The slices of a recorded draft, out of the bytes of its record.
 ghost use mathlib.Core.Path.{_≡_};
 ghost use lib.ListN.{length, take, drop};
-ghost use Rattle.draft_words.specs.Slices.{BeginWith, behindWords, behindNodes, behindChildren, behindNamed, behindDefinitions, behindItems};
+ghost use Rattle.draft_words.specs.Slices.{BeginWith, lengthsIn, behindWords, behindNodes, behindChildren, behindNamed, behindDefinitions, behindItems};
 
 // The bytes behind the first n; none where there are no more.
 pub fn after(bytes: &[u8], n: usize) -> &[u8]
@@ -52,8 +52,10 @@ pub struct Lengths {
     pub strings: u32,
 }
 
-// Those that bytes begin with.
-pub fn lengths_of(bytes: &[u8]) -> Lengths {
+// Those that bytes begin with; one that is not there is 0.
+pub fn lengths_of(bytes: &[u8]) -> Lengths
+    ensures { λ r. ⌜ r ≡ lengthsIn (now (bytes .entry)) ⌝ }
+{
     Lengths {
         nodes: words::get(bytes, 0),
         children: words::get(bytes, 4),

@@ -19,14 +19,14 @@ use Rattle.load.specs.declared.Loaded.the-variants as Loaded
 use Rattle.load.proofs.Answers.{needed-is}
 use Rattle.image_answer.specs.declared.Answer.{Answer}
 use Rattle.image_answer.specs.declared.Answer.the-variants.{Accepted, Refused, Long}
-use Rattle.image_answer.specs.Answer.{limit, mostWords, imageRule, answerBy, answerOf}
+use Rattle.image_answer.specs.Answer.{limit, mostWorkWords, imageRule, answerBy, answerOf}
 
 -- there is a node
 node-due : (bs : List ℕ) → headerRule bs ≡ 0 → 0 < viewOf bs .nodes .count
 unfolding viewOf
 node-due bs h = opens bs h .node
 
-words-enough : (bs : List ℕ) → length bs ≤ limit → headerRule bs ≡ 0 → loadWords (sectionsOf bs) ≤ mostWords
+words-enough : (bs : List ℕ) → length bs ≤ limit → headerRule bs ≡ 0 → loadWords (sectionsOf bs) ≤ mostWorkWords
 words-enough bs l h =
     let o = opens bs h in
     let e = o .ends 2 (omega arith) in
@@ -35,7 +35,7 @@ words-enough bs l h =
     let d = node-due bs h in
     omega arith
 
-enough : (bs : List ℕ) (work : ℕ) → length bs ≤ limit → mostWords ≤ work → loadRule bs work ≡ imageRule bs
+enough : (bs : List ℕ) (work : ℕ) → length bs ≤ limit → mostWorkWords ≤ work → loadRule bs work ≡ imageRule bs
 unfolding loadRule imageRule
 enough bs work l w = by (headerRule bs) refl
   where
@@ -66,12 +66,12 @@ refused-by : (r k : ℕ) (v : ImageView) → loadedBy r v ≡ Loaded.Refused k �
 refused-by zero k v e = let z : _≡_ {A = ℕ} 0 1 = cc in absurd (omega arith)
 refused-by (suc r) k v e = let q : suc r ≡ k = cc in rw q refl
 
-by-image : (bs : List ℕ) (work : ℕ) (a : Loaded) → length bs ≤ limit → mostWords ≤ work → a ≡ loadedOf bs work → loadedBy (imageRule bs) (viewOf bs) ≡ a
+by-image : (bs : List ℕ) (work : ℕ) (a : Loaded) → length bs ≤ limit → mostWorkWords ≤ work → a ≡ loadedOf bs work → loadedBy (imageRule bs) (viewOf bs) ≡ a
 unfolding loadedOf
 by-image bs work a l w e = ap (λ (r : ℕ). loadedBy r (viewOf bs)) (sym (enough bs work l w)) ∙ sym e
 
-pub viewed : (bs : List ℕ) (work : ℕ) (a : Loaded) (u : ImageView) → length bs ≤ limit → mostWords ≤ work → a ≡ loadedOf bs work → a ≡ Loaded.View u → Accepted (u .«ink_version») (u .nodes .count) ≡ answerOf bs
+pub viewed : (bs : List ℕ) (work : ℕ) (a : Loaded) (u : ImageView) → length bs ≤ limit → mostWorkWords ≤ work → a ≡ loadedOf bs work → a ≡ Loaded.View u → Accepted (u .«ink_version») (u .nodes .count) ≡ answerOf bs
 viewed bs work a u l w e q = viewed-by (imageRule bs) u (viewOf bs) (by-image bs work a l w e ∙ q) ∙ sym (short bs l)
 
-pub refused : (bs : List ℕ) (work : ℕ) (a : Loaded) (k : ℕ) → length bs ≤ limit → mostWords ≤ work → a ≡ loadedOf bs work → a ≡ Loaded.Refused k → Refused k ≡ answerOf bs
+pub refused : (bs : List ℕ) (work : ℕ) (a : Loaded) (k : ℕ) → length bs ≤ limit → mostWorkWords ≤ work → a ≡ loadedOf bs work → a ≡ Loaded.Refused k → Refused k ≡ answerOf bs
 refused bs work a k l w e q = refused-by (imageRule bs) k (viewOf bs) (by-image bs work a l w e ∙ q) ∙ sym (short bs l)

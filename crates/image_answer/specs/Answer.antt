@@ -19,8 +19,8 @@ limit = 65536
 
 -- the most work words that an image of at most that length can need: after the header one node is due, and children take the least
 -- bytes a work word, so 1 node, 16,352 children and 1
-abbrev pub mostWords : ℕ
-mostWords = 16354
+abbrev pub mostWorkWords : ℕ
+mostWorkWords = 16354
 
 -- rows 1 to 6 and 8 to 17: all that a load with enough work words asks
 unfoldable pub imageRule : List ℕ → ℕ

@@ -4,7 +4,7 @@ ghost use Prim.Native.Nat.{_+_, _≤_};
 ghost use lib.ListN.{length};
 ghost use Rattle.words.specs.Output.{over};
 ghost use Rattle.texts.specs.Decimal.{decimal};
-ghost use Rattle.image_answer.specs.Answer.{answerOf, mostWords, putBytes, acceptedLine, refusedLine, longLine, lineOf};
+ghost use Rattle.image_answer.specs.Answer.{answerOf, mostWorkWords, putBytes, acceptedLine, refusedLine, longLine, lineOf};
 use libc::STDOUT_FILENO;
 use load::Loaded;
 use texts::decimal_len;
@@ -28,7 +28,7 @@ fn work_words() -> [u32; 16354]
 
 // The answer of a load that is lent these work words.
 fn answer_with(bytes: &[u8], work: &mut [u32]) -> Answer
-    requires { ⌜ mostWords ≤ length (now work) ⌝ }
+    requires { ⌜ mostWorkWords ≤ length (now work) ⌝ }
     ensures { λ r. ⌜ r ≡ answerOf (now (bytes .entry)) ⌝ }
 {
     if bytes.len() > LIMIT {
