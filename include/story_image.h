@@ -364,6 +364,13 @@ uint32_t story_image_node_view(const uint8_t *bytes, size_t length, const uint32
 uint32_t story_image_text(const uint8_t *bytes, size_t length, const uint32_t *view, size_t view_length,
                           uint32_t offset, uint32_t text_length, uint32_t *answer, size_t answer_length);
 
+/* STORY_IMAGE_COUNT_WORDS words: the depth of a node, exactly the number of parent steps from it to node 0; node 0
+ * itself has depth 0. 18 for a node outside, STORY_IMAGE_NONE among them. On accepted bytes every node below the node
+ * count has a depth, smaller than the node count. On other bytes 18 also where parents lead outside or in a circle. The
+ * call takes as many steps as it counts, never more than there are nodes. */
+uint32_t story_image_depth(const uint8_t *bytes, size_t length, const uint32_t *view, size_t view_length, uint32_t node,
+                           uint32_t *answer, size_t answer_length);
+
 /* STORY_IMAGE_COUNT_WORDS words: how many ordered, how many named children a container has. 18 for a node that is no
  * container. */
 uint32_t story_image_child_count(const uint8_t *bytes, size_t length, const uint32_t *view, size_t view_length,

@@ -35,6 +35,16 @@ unsafe extern "C" {
         answer_length: usize,
     ) -> u32;
 
+    pub fn story_image_depth(
+        bytes: *const u8,
+        length: usize,
+        view: *const u32,
+        view_length: usize,
+        node: u32,
+        answer: *mut u32,
+        answer_length: usize,
+    ) -> u32;
+
     pub fn story_image_child_count(
         bytes: *const u8,
         length: usize,

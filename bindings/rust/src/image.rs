@@ -141,6 +141,24 @@ impl<'a> Image<'a> {
         (0..self.node_count()).map_while(|node| self.node_view(node))
     }
 
+    /// The depth of a node: exactly the number of parent steps from it to node 0. Every node below the node count has one,
+    /// smaller than the node count; nothing for a node outside. The call takes as many steps as it counts.
+    ///
+    /// ```
+    /// # use story_image::{Image, load_words};
+    /// # let bytes = include_bytes!(concat!(env!("CARGO_MANIFEST_DIR"), "/../../samples/step.image"));
+    /// # let image = Image::load(bytes, &mut vec![0; load_words(bytes)])?;
+    /// assert_eq!(image.depth(0), Some(0));
+    /// for child in image.children(0) {
+    ///     assert_eq!(image.depth(child), Some(1));
+    /// }
+    /// assert_eq!(image.depth(image.node_count()), None);
+    /// # Ok::<(), story_image::Refusal>(())
+    /// ```
+    pub fn depth(&self, node: u32) -> Option<u32> {
+        self.asked.depth(node)
+    }
+
     /// How many ordered children a container has; nothing for another node.
     pub fn child_count(&self, node: u32) -> Option<u32> {
         self.asked.child_count(node)

@@ -182,6 +182,11 @@ impl<'a> Queries<'a> {
         ask!(self, story_image_node_view, node => |words| Some(*words))
     }
 
+    /// The number of parent steps to node 0; nothing for a node outside, and where parents lead outside or in a circle.
+    pub fn depth(&self, node: u32) -> Option<u32> {
+        ask!(self, story_image_depth, node => word)
+    }
+
     pub fn child_count(&self, node: u32) -> Option<u32> {
         ask!(self, story_image_child_count, node => word)
     }
