@@ -5,11 +5,13 @@ use mathlib.Core.Logic.{_≢_}
 use mathlib.Core.Bool.{Bool, true, false, cond}
 use native.Mathlib.Omega.{arith}
 use native.Mathlib.Decide.{ℕ-discrete}
-use borrow.Author.Tests.{eq-eqb, ne-eqb, lt-ltb}
+use borrow.Author.Tests.{eq-eqb, ne-eqb, lt-ltb, le-ltb}
 use Rattle.laws.proofs.Flags.{both-true}
 use Rattle.words.specs.Words.{NONE}
 use Rattle.image.specs.Sections.{Sections, nodeCount, childCount, namedCount, definitionCount, itemCount, definitionWord, itemWord, parentOf, placeOf, tagOf, f, inside, isContainer, insideContainer}
 use Rattle.image.specs.declared.ImageView.{ImageView}
+use Rattle.image.specs.Refusals.{notFound}
+use Rattle.image.proofs.Tests.{inside-true}
 use Rattle.image.specs.Header.{viewOf, sectionsBy}
 use Rattle.load.specs.declared.Loaded.the-variants.{View}
 use Rattle.load.specs.Load.{loadRule, loadedBy, loadedOf}
@@ -23,10 +25,13 @@ use Rattle.views.specs.declared.Count.the-variants as count
 use Rattle.views.specs.View.{signed, span, optionalWord, nodeView}
 use Rattle.views.specs.Children.{childCountOf, namedCountOf, childQuery, namedEntry, namedQuery}
 use Rattle.views.specs.Lists.{definitionQuery, itemEntry, itemQuery}
-use Rattle.promises.specs.Readers.{stepUp, ascend, ChildRead, NamedRead, Reads, NumberedItemRead, DefinitionItemRead, DefinitionRead, ImageReads, AcceptedReads}
+use Rattle.depth.specs.Depth.{depthOf, StepsToRoot}
+use Rattle.depth.proofs.Steps.{of-same, climb-next, steps-parent, depth-counted, outside-none}
+use Rattle.promises.specs.Promises.{ReachesRoot}
+use Rattle.promises.specs.Readers.{stepUp, ascend, DepthRead, ChildRead, NamedRead, Reads, NumberedItemRead, DefinitionItemRead, DefinitionRead, ImageReads, AcceptedReads}
 use Rattle.promises.specs.Rules.{TextRight}
 use Rattle.promises.proofs.Answers.{given-equal, given-refused, loaded-given}
-use Rattle.promises.specs.Answers.{given, ofNode, ofCount, ofLoaded}
+use Rattle.promises.specs.Answers.{given, refused, ofNode, ofCount, ofLoaded}
 use Rattle.promises.proofs.Fields.{right-node}
 use Rattle.promises.proofs.Views.{Seen, seen, shown-right}
 use Rattle.promises.proofs.Nodes.{reaches, child-range, named-range, child-right, named-right}
@@ -87,6 +92,51 @@ module _ (s : Sections) (g : Kept s) where
         | no d ↦ ap (ascend s k) (step-up i h d) ∙ ascends-to m (parentOf s i) (g .rules .parents i h (omega arith) .container .node .below) e k (omega arith)
       ]
 
+  -- ---- depth
+
+  node-inside : (i : ℕ) → i < nodeCount s → inside s i ≡ true
+  node-inside i h = right-node s i (a-node g i h)
+
+  -- the steps that are promised are the depth: node 0 has no parent to go on to
+  promised-steps : (i : ℕ) → i < nodeCount s → (r : ReachesRoot s i) → StepsToRoot s i (r .steps)
+  unfolding climb
+  promised-steps i h r = record { arrives = r .arrives; before = before; nodes = nodes }
+    where
+      before : (k : ℕ) → k < r .steps → climb s k i ≡ 0 → ⊥
+      before k l e =
+          let up : climb s (suc k) i ≡ NONE = climb-next s k i ∙ ap (parentOf s) e ∙ g .rules .root-parent in
+          omega (arith, up, r .inside k l, g .nodes)
+
+      nodes : (k : ℕ) → k ≤ r .steps → inside s (climb s k i) ≡ true
+      nodes zero l = node-inside i h
+      nodes (suc k) l = node-inside (climb s (suc k) i) (r .inside k (omega arith))
+
+  -- as long as node 0 is not reached, a step by views goes to the parent word
+  ascend-climb : (k d i : ℕ) → StepsToRoot s i d → k ≤ d → ascend s k i ≡ climb s k i
+  unfolding climb ascend
+  ascend-climb zero d i t l = refl
+  ascend-climb (suc k) zero i t l = absurd (omega arith)
+  ascend-climb (suc k) (suc d) i t l =
+      let below : i < nodeCount s = inside-true (nodeCount s) i (t .nodes 0 (omega arith)) .0 in
+      ap (ascend s k) (step-up i below (t .before 0 (omega arith))) ∙ ascend-climb k d (parentOf s i) (steps-parent s i d t) (omega arith)
+
+  depth-read : (i : ℕ) → i < nodeCount s → DepthRead s i
+  depth-read i h =
+      let r = reaches s g i h in
+      let t = promised-steps i h r in
+      record {
+        depth = r .steps;
+        found = ap ofCount (depth-counted s i (r .steps) t);
+        few = r .few;
+        arrives = ascend-climb (r .steps) (r .steps) i t (omega arith) ∙ t .arrives;
+        before = λ k l e. t .before k l (sym (ascend-climb k (r .steps) i t (omega arith)) ∙ e);
+        promised = λ q. of-same (q .steps) (r .steps) (sym (depth-counted s i (q .steps) (promised-steps i h q)) ∙ depth-counted s i (r .steps) t);
+      }
+
+  no-depth : (i : ℕ) → nodeCount s ≤ i → ofCount (depthOf s i) ≡ refused notFound
+  unfolding depthOf
+  no-depth i h = ap ofCount (outside-none s (nodeCount s) i (rw (le-ltb i (nodeCount s) h)))
+
   -- ---- children
 
   module _ (i : ℕ) (h : i < nodeCount s) where
@@ -144,6 +194,7 @@ module _ (s : Sections) (g : Kept s) where
             | yes z ↦ z
             | no d ↦ absurd (apart (parentOf s i) (sym (word-given (parentOf s i) (g .rules .parents i h (omega arith) .container .node .given)) ∙ e))
           ];
+          depth = depth-read i h;
           child-count = λ c. rw (container-inside i h c);
           named-count = λ c. rw (container-inside i h c);
           child = λ n e j k.
@@ -190,7 +241,7 @@ module _ (s : Sections) (g : Kept s) where
       }
 
   pub image-reads : ImageReads s
-  image-reads = record { nodes = reads s g; definitions = definition-read; items = each-item }
+  image-reads = record { nodes = reads s g; no-depth = no-depth s g; definitions = definition-read; items = each-item }
 
 -- ---- after a load
 

@@ -9,6 +9,7 @@ use Rattle.words.specs.Words.{wordAt}
 use Rattle.image.specs.Sections.{Sections, goodBytes, nodeCount, definitionCount, itemCount, f, isContainer}
 use Rattle.image.specs.declared.ImageView.{ImageView}
 use Rattle.image.specs.Header.{sectionsBy}
+use Rattle.image.specs.Refusals.{notFound}
 use Rattle.load.specs.Load.{loadedOf}
 use Rattle.views.specs.declared.Span.{Span}
 use Rattle.views.specs.declared.OptionalText.{OptionalText}
@@ -29,7 +30,9 @@ use Rattle.views.specs.declared.ItemView.{ItemView}
 use Rattle.views.specs.View.{nodeView}
 use Rattle.views.specs.Children.{childCountOf, namedCountOf, childQuery, namedQuery, textQuery, shownText}
 use Rattle.views.specs.Lists.{listPart, listEntry, listOrigin, definitionQuery, itemEntry, itemQuery}
-use Rattle.promises.specs.Answers.{given, ofLoaded, ofNode, ofFound, ofCount, ofNamed, ofText, ofEntry, ofDefinition, ofItem}
+use Rattle.depth.specs.Depth.{depthOf}
+use Rattle.promises.specs.Promises.{ReachesRoot}
+use Rattle.promises.specs.Answers.{given, refused, ofLoaded, ofNode, ofFound, ofCount, ofNamed, ofText, ofEntry, ofDefinition, ofItem}
 
 -- ---- texts
 
@@ -125,6 +128,18 @@ unfoldable pub ascend : Sections → ℕ → ℕ → ℕ
 ascend s zero i = i
 ascend s (suc k) i = ascend s k (stepUp i (nodeView s i))
 
+-- ---- depth
+
+-- the depth is found and is fewer than the nodes; so many steps by views lead to node 0 and no fewer do; they are those that `ReachesRoot`
+-- promises
+pub record DepthRead (s : Sections) (i : ℕ) : Type 0 where
+  pub depth : ℕ
+  pub found : ofCount (depthOf s i) ≡ given depth
+  pub few : depth < nodeCount s
+  pub arrives : ascend s depth i ≡ 0
+  pub before : (k : ℕ) → k < depth → ascend s k i ≡ 0 → ⊥
+  pub promised : (r : ReachesRoot s i) → r .steps ≡ depth
+
 -- ---- children
 
 -- ordered child j is found, and its view names the node and the place
@@ -155,6 +170,7 @@ pub record Reads (s : Sections) (i : ℕ) : Type 0 where
   -- fewer steps than nodes lead to node 0, which alone has no parent
   pub ascends : (k : ℕ) → nodeCount s ≤ suc k → ascend s k i ≡ 0
   pub parentless : view .parent ≡ word.Absent → i ≡ 0
+  pub depth : DepthRead s i
   -- a container has both counts; below them no child is missing
   pub child-count : isContainer s i ≡ true → ofCount (childCountOf s i) ≡ given (f s i 4)
   pub named-count : isContainer s i ≡ true → ofCount (namedCountOf s i) ≡ given (f s i 6)
@@ -186,6 +202,8 @@ pub record DefinitionRead (s : Sections) (d : ℕ) : Type 0 where
 
 pub record ImageReads (s : Sections) : Type 0 where
   pub nodes : (i : ℕ) → i < nodeCount s → Reads s i
+  -- past the last node there is no depth
+  pub no-depth : (i : ℕ) → nodeCount s ≤ i → ofCount (depthOf s i) ≡ refused notFound
   pub definitions : (d : ℕ) → d < definitionCount s → DefinitionRead s d
   pub items : (k : ℕ) → k < itemCount s → NumberedItemRead s k
 

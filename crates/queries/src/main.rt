@@ -1,13 +1,17 @@
-// Runs FORMAT.md's examples of list items by name and of a relative walk through the code. Standard input holds three images,
-// each behind its length: one with the definitions red and size, which both hold low; one whose root has a glue as its child; and that
-// one with a bit of its checksum turned, which is refused.
+// Runs FORMAT.md's examples of list items by name, of a relative walk and of depths through the code. Standard input holds seven images,
+// each behind its length. Of the first three all but depths is asked: one with the definitions red and size, which both hold low; one whose
+// root has a glue as its child; and that one with a bit of its checksum turned, which is refused. Of the others the depths of nodes: the
+// smallest; one whose nodes 1 and 2 are each the other's parent, which is refused; one with a container that is only a named child; and
+// a chain of six containers, the last of which is node 1.
 ghost use Prim.Native.Nat.{_≤_};
 use image::ImageView;
+use image::Opened;
 use image::Section;
 use libc::STDIN_FILENO;
 use libc::STDOUT_FILENO;
 use load::Loaded;
 use lookups::ListItemAnswer;
+use views::Count;
 use views::Found;
 
 fn print(text: &[u8]) {
@@ -82,6 +86,48 @@ fn print_refusal(number: u32) {
     print(b"\n");
 }
 
+// The depth of a node, or 18.
+fn print_depth(bytes: &[u8], view: ImageView, node: u32) {
+    match depth::depth(bytes, view, node) {
+        Count::Of(steps) => {
+            print(b" ");
+            print_number(steps as u64);
+        }
+        Count::NotFound => {
+            print(b" no-18");
+        }
+    }
+}
+
+// The depths of nodes 0 to 6 and of NONE.
+fn print_depths(bytes: &[u8], view: ImageView) {
+    print(b"depths:");
+    let mut node = 0;
+    while node < 7 {
+        print_depth(bytes, view, node);
+        node += 1;
+    }
+    print_depth(bytes, view, image::NONE);
+    print(b"\n");
+}
+
+// What a load says of an image, and depths in it, also where the load refuses it.
+fn depths(name: &[u8], bytes: &[u8]) {
+    print(name);
+    let mut work = [7u32; 64];
+    match load::load(bytes, &mut work) {
+        Loaded::View(_) => print(b": accepted\n"),
+        Loaded::Refused(wrong) => {
+            print(b": ");
+            print_refusal(wrong);
+        }
+    }
+    match ImageView::new(bytes) {
+        Opened::View(view) => print_depths(bytes, view),
+        Opened::Refused(wrong) => print_refusal(wrong),
+    }
+}
+
 // Loads an image and asks it, or prints why it is refused.
 fn run(bytes: &[u8]) {
     let mut work = [7u32; 64];
@@ -115,4 +161,8 @@ fn main() {
     run(second);
     let third = part(&buffer[..n], 398);
     run(third);
+    depths(b"smallest", part(&buffer[..n], 586));
+    depths(b"circle", part(&buffer[..n], 730));
+    depths(b"named child", part(&buffer[..n], 1030));
+    depths(b"chain", part(&buffer[..n], 1341));
 }

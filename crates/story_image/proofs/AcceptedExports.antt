@@ -40,6 +40,7 @@ use Rattle.views.specs.View.{span, shown, nodeView}
 use Rattle.views.specs.Children.{childCountOf, namedCountOf, childQuery, namedQuery, textQuery}
 use Rattle.views.specs.Lists.{listPart, listEntry, listOrigin, definitionQuery, itemQuery}
 use Rattle.walks.specs.Walk.{components, resolve}
+use Rattle.depth.specs.Depth.{depthOf}
 use Rattle.lookups.specs.declared.ListItem.{ListItem}
 use Rattle.lookups.specs.declared.ListItemAnswer.{ListItemAnswer}
 use Rattle.lookups.specs.declared.ListItemAnswer.the-variants as listed
@@ -281,6 +282,7 @@ module _ (bs view : List ℕ) (o : Opens bs) (short : length bs < 2 ^ 32) (v : V
   exports =
       record {
         node-view = λ i. answering 10 _ _ (asked-as bs view (right-version bs o) v _) (node-size (nodeView s i));
+        depth = λ i. answering 1 _ _ (asked-as bs view (right-version bs o) v _) (count-size (depthOf s i));
         text = λ at len. answering 2 _ _ (asked-as bs view (right-version bs o) v _ ∙ text-whole bs o short (span at len)) (text-size _ (textQuery s (span at len)));
         child-count = λ i. answering 1 _ _ (asked-as bs view (right-version bs o) v _) (count-size (childCountOf s i));
         child = λ i j. answering 1 _ _ (asked-as bs view (right-version bs o) v _) (found-size (childQuery s i j));

@@ -22,10 +22,11 @@ use Rattle.lookups.specs.declared.ListItemAnswer.{ListItemAnswer}
 use Rattle.lookups.specs.declared.ListItemAnswer.the-variants as listed
 use Rattle.lookups.specs.Lookup.{findNamed, listItem}
 use Rattle.walks.specs.Walk.{components, resolve}
+use Rattle.depth.specs.Depth.{depthOf}
 use Rattle.answers.specs.AnswerWords.{numberOf, unsigned, foundAnswer, countAnswer, namedAnswer, placeAnswer, entryAnswer, definitionAnswer, itemAnswer, listCountWords}
 use Rattle.answers.specs.NodeViewWords.{nodeAnswer, listPlace}
 use Rattle.story_image.specs.Exported.{viewLength, wordsOfView, writtenAfter}
-use Rattle.story_image.specs.Queries.{atList, firstWords, answerOfNodeView, answerOfText, answerOfChildCount, answerOfChild, answerOfNamedChildCount, answerOfNamedChild, answerOfFindNamedChild, answerOfListPayload, answerOfListCounts, answerOfNodeListEntry, answerOfNodeListOrigin, answerOfDefinitionCount, answerOfDefinition, answerOfFirstItem, answerOfDefinitionItem, answerOfListItem, answerOfWalk}
+use Rattle.story_image.specs.Queries.{atList, firstWords, answerOfNodeView, answerOfDepth, answerOfText, answerOfChildCount, answerOfChild, answerOfNamedChildCount, answerOfNamedChild, answerOfFindNamedChild, answerOfListPayload, answerOfListCounts, answerOfNodeListEntry, answerOfNodeListOrigin, answerOfDefinitionCount, answerOfDefinition, answerOfFirstItem, answerOfDefinitionItem, answerOfListItem, answerOfWalk}
 
 -- ---- the words of answers, without a case for numbers that a word does not hold
 
@@ -59,6 +60,7 @@ pub record ViewOf (bs view : List ℕ) : Type 0 where
 -- each exported query by the words of a view, against the inner query on the image's sections
 pub record Exports (bs view : List ℕ) (s : Sections) : Type 0 where
   pub node-view : (i : ℕ) → Answers 10 (answerOfNodeView bs view i) (nodeAnswer (nodeView s i))
+  pub depth : (i : ℕ) → Answers 1 (answerOfDepth bs view i) (countAnswer (depthOf s i))
   pub text : (at len : ℕ) → Answers 2 (answerOfText bs view at len) (wordsOfText (viewOf bs .strings .offset) (textQuery s (span at len)))
   pub child-count : (i : ℕ) → Answers 1 (answerOfChildCount bs view i) (countAnswer (childCountOf s i))
   pub child : (i j : ℕ) → Answers 1 (answerOfChild bs view i j) (foundAnswer (childQuery s i j))

@@ -15,6 +15,7 @@ use Rattle.views.specs.Children.{childCountOf, namedCountOf, childQuery, namedQ
 use Rattle.views.specs.Lists.{listPart, listEntry, listOrigin, definitionQuery, itemQuery}
 use Rattle.lookups.specs.Lookup.{findNamed, listItem}
 use Rattle.walks.specs.Walk.{components, resolve}
+use Rattle.depth.specs.Depth.{depthOf}
 use Rattle.answers.specs.AnswerWords.{countWords, foundAnswer, countAnswer, namedAnswer, placeAnswer, partWords, partAnswer, entryAnswer, definitionAnswer, itemAnswer, listItemAnswer, listCountWords}
 use Rattle.answers.specs.NodeViewWords.{nodeAnswer, listPlace}
 use Rattle.story_image.specs.Exported.{under}
@@ -32,6 +33,9 @@ firstWords s d definition.NotFound = none
 module _ (bytes view : List ℕ) where
   abbrev pub answerOfNodeView : ℕ → Option (List ℕ)
   answerOfNodeView node = under view (λ v. nodeAnswer (nodeView (sectionsBy bytes v) node))
+
+  abbrev pub answerOfDepth : ℕ → Option (List ℕ)
+  answerOfDepth node = under view (λ v. countAnswer (depthOf (sectionsBy bytes v) node))
 
   -- a text as a part of the image
   abbrev pub answerOfText : ℕ → ℕ → Option (List ℕ)

@@ -35,6 +35,7 @@ use Rattle.written_views.specs.Views.{SameText, SameKind, SameChild, Sam
 use Rattle.written_views.proofs.Texts.{text-same, word-same}
 use Rattle.written_views.proofs.ByKind.{SameAnswer, kind-same}
 use Rattle.written_views.proofs.Fields.{fields-same, each-field-same}
+use Rattle.written_views.proofs.Depths.{depth-same}
 
 -- a count that is answered
 counted-as : (b : Bool) (m n : ℕ) → cond b (count.Of m) count.NotFound ≡ count.Of n → (b ≡ true) × (m ≡ n)
@@ -155,6 +156,7 @@ module _ {s : Sections} {order : List ℕ} {kept : List (List ℕ)} (g : Given s
         written = image-seen .view-is;
         parent = ap optionalWord (parent-word g j h) ∙ word-same g (parentOf s i);
         place = ap optionalWord (place-word g j h);
+        depth = depth-same g j h;
         kind = kinds-same;
         tag = tag-word g j h;
         fields = each-field-same g j h;

@@ -43,6 +43,7 @@ use Rattle.views.specs.declared.ItemAnswer.the-variants as item
 use Rattle.views.specs.View.{span, shown, optionalText, nodeView}
 use Rattle.views.specs.Children.{childCountOf, namedCountOf, childQuery, namedQuery}
 use Rattle.views.specs.Lists.{listPart, listEntry, listOrigin, definitionQuery, itemEntry, itemQuery}
+use Rattle.depth.specs.Depth.{depthOf}
 use Rattle.written.specs.Written.{Written}
 
 -- ---- node numbers
@@ -183,6 +184,7 @@ module _ (s t : Sections) where
       pub written : nodeView t j ≡ nodeAnswer.View image
       pub parent : image .parent ≡ renumbered order (draft .parent)
       pub place : image .«child_index» ≡ draft .«child_index»
+      pub depth : depthOf t j ≡ depthOf s (oldOf order j)
       pub kind : SameKind (draft .kind) (image .kind)
       pub tag : tagOf t j ≡ tagOf s (oldOf order j)
       pub fields : (x : Field) → List·Memᴰ x (fieldsAt s (oldOf order j)) → SameField (oldOf order j) j x
