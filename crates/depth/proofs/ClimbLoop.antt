@@ -20,7 +20,7 @@ use Rattle.image.proofs.Widths.{words-some}
 use Rattle.views.specs.declared.Count.{Count}
 use Rattle.views.specs.declared.Count.the-variants as count
 use Rattle.depth.specs.Depth.{oneMore, depthFrom, depthOf}
-use Rattle.depth.proofs.Steps.{depth-outside, depth-root, depth-above}
+use Rattle.depth.proofs.Steps.{depth-root, depth-above, outside-none}
 
 -- so many steps more
 abbrev pub plus : ℕ → Count → Count
@@ -46,31 +46,32 @@ climb-start : (s : Sections) (id : ℕ) → Climbed s id id 0
 unfolding depthOf
 climb-start s id = record { few = omega arith; left = rw (sub-zero (nodeCount s)) (sym (plus-none _)) }
 
-climb-end : (s : Sections) (id at steps : ℕ) → Climbed s id at steps → nodeCount s ≤ steps → count.NotFound ≡ depthOf s id
-unfolding depthFrom
-climb-end s id at steps c h = let e : nodeCount s - steps ≡ 0 = omega arith in sym (c .left ∙ rw e)
-
-module _ (s : Sections) (id at steps : ℕ) (c : Climbed s id at steps) (h : steps < nodeCount s) where
-  abbrev rest : ℕ
-  rest = nodeCount s - (steps + 1)
-
-  one-left : depthOf s id ≡ plus steps (depthFrom (suc rest) s at)
-  one-left = let e : nodeCount s - steps ≡ suc rest = omega arith in c .left ∙ ap (λ (n : ℕ). plus steps (depthFrom n s at)) e
+module _ (s : Sections) (id at steps : ℕ) (c : Climbed s id at steps) where
+  climb-end : nodeCount s ≤ steps → count.NotFound ≡ depthOf s id
+  unfolding depthFrom
+  climb-end h = let e : nodeCount s - steps ≡ 0 = omega arith in sym (c .left ∙ rw e)
 
   climb-out : inside s at ≡ false → count.NotFound ≡ depthOf s id
-  climb-out o = sym (one-left ∙ ap (plus steps) (depth-outside s rest at o))
+  climb-out o = sym (c .left ∙ ap (plus steps) (outside-none s (nodeCount s - steps) at o))
 
-  climb-root : inside s at ≡ true → at ≡ 0 → count.Of steps ≡ depthOf s id
-  climb-root i z = sym (one-left ∙ ap (plus steps) (depth-root s rest at i z) ∙ ap count.Of (add-zero steps))
+  module _ (h : steps < nodeCount s) (i : inside s at ≡ true) where
+    abbrev rest : ℕ
+    rest = nodeCount s - (steps + 1)
 
-  climb-above : inside s at ≡ true → (at ≡ 0 → ⊥) → Climbed s id (parentOf s at) (steps + 1)
-  climb-above i z =
-      record { few = omega arith; left = one-left ∙ ap (plus steps) (depth-above s rest at i z) ∙ plus-more steps (depthFrom rest s (parentOf s at)) }
+    one-left : depthOf s id ≡ plus steps (depthFrom (suc rest) s at)
+    one-left = let e : nodeCount s - steps ≡ suc rest = omega arith in c .left ∙ ap (λ (n : ℕ). plus steps (depthFrom n s at)) e
+
+    climb-root : at ≡ 0 → count.Of steps ≡ depthOf s id
+    climb-root z = sym (one-left ∙ ap (plus steps) (depth-root s rest at i z) ∙ ap count.Of (add-zero steps))
+
+    climb-above : (at ≡ 0 → ⊥) → Climbed s id (parentOf s at) (steps + 1)
+    climb-above z =
+        record { few = omega arith; left = one-left ∙ ap (plus steps) (depth-above s rest at i z) ∙ plus-more steps (depthFrom rest s (parentOf s at)) }
 
 -- ---- over the nodes of a view
 
-none-few : (version n : ℕ) → length (wordsOf []) / nodeWords version ≤ n
-none-few version n = rw (length-words [], zero-div (nodeWords version)) (omega arith)
+none-there : (version : ℕ) → length (wordsOf []) / nodeWords version ≡ 0
+none-there version = rw (length-words [], zero-div (nodeWords version))
 
 module _ (bs : List ℕ) (v : ImageView) (part : List ℕ) (e : part ≡ sectionBytes bs (v .nodes) (nodeSize (v .version)))
     (nodes : ℕ) (n : nodes ≡ length (wordsOf part) / nodeWords (v .version)) (id : ℕ) where
@@ -81,51 +82,58 @@ module _ (bs : List ℕ) (v : ImageView) (part : List ℕ) (e : part ≡ section
   unfolding sectionsBy
   count-is = n ∙ ap (λ (x : List ℕ). length (wordsOf x) / nodeWords (v .version)) e
 
-  -- so the steps can be counted in a word
-  pub nodes-few : nodes ≤ v .nodes .count
-  nodes-few = rw (n, e) (by (decLt (length bs) (v .nodes .offset + v .nodes .count * nodeSize (v .version))))
+  parent-is : (at : ℕ) → getD (wordsOf part) (at * nodeWords (v .version) + 0) 0 ≡ parentOf own at
+  unfolding sectionsBy nodeWord
+  parent-is at = ap (λ (x : List ℕ). getD (wordsOf x) (at * nodeWords (v .version) + 0) 0) e
+
+  -- there are as many nodes as the view says, or none
+  pub record CountOrNone : Type 0 where
+    pub most : nodes ≤ v .nodes .count
+    pub whole : 0 < nodes → nodes ≡ v .nodes .count
+
+  count-or-none : CountOrNone
+  count-or-none = by (decLt (length bs) (v .nodes .offset + v .nodes .count * nodeSize (v .version)))
     where
-      by : Dec (length bs < v .nodes .offset + v .nodes .count * nodeSize (v .version))
-          → length (wordsOf (sectionBytes bs (v .nodes) (nodeSize (v .version)))) / nodeWords (v .version) ≤ v .nodes .count
-      by (yes h) = rw (section-outside bs (v .nodes) (nodeSize (v .version)) h) (none-few (v .version) (v .nodes .count))
+      by : Dec (length bs < v .nodes .offset + v .nodes .count * nodeSize (v .version)) → CountOrNone
+      by (yes h) =
+          let q : nodes ≡ 0 = n ∙ ap (λ (x : List ℕ). length (wordsOf x) / nodeWords (v .version)) (e ∙ section-outside bs (v .nodes) (nodeSize (v .version)) h)
+          ∙ none-there (v .version) in
+          record { most = omega arith; whole = λ k. absurd (omega arith) }
       by (no h) =
-          let q = entry-count (sectionBytes bs (v .nodes) (nodeSize (v .version))) (nodeWords (v .version)) (v .nodes .count)
-              (omega (arith, words-some (v .version))) (section-length bs (v .nodes) (nodeSize (v .version)) (omega arith)) in
-          omega (arith, q)
+          let long = ap length e ∙ section-length bs (v .nodes) (nodeSize (v .version)) (omega arith) in
+          let q : nodes ≡ v .nodes .count = n ∙ entry-count part (nodeWords (v .version)) (v .nodes .count) (omega (arith, words-some (v .version))) long in
+          record { most = omega arith; whole = λ k. q }
 
   pub loop-start : Climbed own id id 0
   loop-start = climb-start own id
 
   module _ (at steps : ℕ) (c : Climbed own id at steps) where
-    pub steps-few : steps ≤ nodes
-    steps-few = rw count-is (c .few)
+    pub loop-end : v .nodes .count ≤ steps → count.NotFound ≡ depthOf own id
+    loop-end h = climb-end own id at steps c (rw (← count-is) (omega (arith, count-or-none .most)))
 
-    pub loop-end : nodes ≤ steps → count.NotFound ≡ depthOf own id
-    loop-end h = climb-end own id at steps c (rw (← count-is) h)
-
-    module _ (h : steps < nodes) (b : Bool) (i : b ≡ insideAmong nodes at) where
-      below : steps < nodeCount own
-      below = rw (← count-is) h
-
+    module _ (b : Bool) (i : b ≡ insideAmong nodes at) where
       inside-is : b ≡ inside own at
       inside-is = i ∙ ap (λ (m : ℕ). insideAmong m at) count-is
 
       pub loop-out : not b ≡ true → count.NotFound ≡ depthOf own id
-      loop-out o = climb-out own id at steps c below (sym inside-is ∙ not-true b o)
+      loop-out o = climb-out own id at steps c (sym inside-is ∙ not-true b o)
 
       module _ (o : not b ≡ false) where
-        node : inside own at ≡ true
-        node = sym inside-is ∙ not-false b o
-
-        pub loop-root : at ≡ 0 → count.Of steps ≡ depthOf own id
-        loop-root z = climb-root own id at steps c below node z
-
         pub at-below : at < nodes
         at-below = inside-true nodes at (sym i ∙ not-false b o) .0
 
-        pub loop-again : (at ≡ 0 → ⊥) → (p : ℕ) → p ≡ getD (wordsOf part) (at * nodeWords (v .version) + 0) 0 → Climbed own id p (steps + 1)
-        loop-again z p q = subst (λ (x : ℕ). Climbed own id x (steps + 1)) (sym (q ∙ parent-is)) (climb-above own id at steps c below node z)
-          where
-            parent-is : getD (wordsOf part) (at * nodeWords (v .version) + 0) 0 ≡ parentOf own at
-            unfolding sectionsBy nodeWord
-            parent-is = ap (λ (x : List ℕ). getD (wordsOf x) (at * nodeWords (v .version) + 0) 0) e
+        pub node-there : (at < length (wordsOf part) / nodeWords (v .version)) × (0 < nodeWords (v .version))
+        node-there = (rw (← n) at-below, omega (arith, words-some (v .version)))
+
+        module _ (h : steps < v .nodes .count) where
+          fewer : steps < nodeCount own
+          fewer = rw (← count-is) (omega (arith, at-below, count-or-none .whole (omega (arith, at-below))))
+
+          node : inside own at ≡ true
+          node = sym inside-is ∙ not-false b o
+
+          pub loop-root : at ≡ 0 → count.Of steps ≡ depthOf own id
+          loop-root z = climb-root own id at steps c fewer node z
+
+          pub loop-above : (at ≡ 0 → ⊥) → (p : ℕ) → p ≡ getD (wordsOf part) (at * nodeWords (v .version) + 0) 0 → Climbed own id p (steps + 1)
+          loop-above z p q = subst (λ (x : ℕ). Climbed own id x (steps + 1)) (sym (q ∙ parent-is at)) (climb-above own id at steps c fewer node z)

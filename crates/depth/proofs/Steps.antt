@@ -101,7 +101,7 @@ module _ (s : Sections) where
 
   climb-plus : (a b i : ℕ) → climb s (a + b) i ≡ climb s b (climb s a i)
   unfolding climb
-  climb-plus zero b i = ap (λ (n : ℕ). climb s n i) (omega arith)
+  climb-plus zero b i = let e : zero + b ≡ b = omega arith in ap (λ (n : ℕ). climb s n i) e
   climb-plus (suc a) b i = let e : suc a + b ≡ suc (a + b) = omega arith in ap (λ (n : ℕ). climb s n i) e ∙ climb-plus a b (parentOf s i)
 
   -- one step more, taken last
@@ -111,7 +111,7 @@ module _ (s : Sections) where
   climb-next (suc k) i = climb-next k (parentOf s i)
 
   -- the nodes that d steps come from and lead to
-  way : ℕ → ℕ → List ℕ
+  abbrev way : ℕ → ℕ → List ℕ
   way zero i = i ∷ []
   way (suc d) i = i ∷ way d (parentOf s i)
 

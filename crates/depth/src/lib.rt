@@ -15,7 +15,7 @@ pub fn depth(bytes: &[u8], view: ImageView, id: u32) -> Count
     let count = image::node_count(nodes, view.version);
     let mut at = id;
     let mut steps: u32 = 0;
-    while (steps as usize) < count {
+    while steps < view.nodes.count {
         if !image::is_inside(count, at) {
             return Count::NotFound;
         }

@@ -102,11 +102,13 @@ fn print_depth(bytes: &[u8], view: ImageView, node: u32) {
 // The depths of nodes 0 to 6 and of NONE.
 fn print_depths(bytes: &[u8], view: ImageView) {
     print(b"depths:");
-    let mut node = 0;
-    while node < 7 {
-        print_depth(bytes, view, node);
-        node += 1;
-    }
+    print_depth(bytes, view, 0);
+    print_depth(bytes, view, 1);
+    print_depth(bytes, view, 2);
+    print_depth(bytes, view, 3);
+    print_depth(bytes, view, 4);
+    print_depth(bytes, view, 5);
+    print_depth(bytes, view, 6);
     print_depth(bytes, view, image::NONE);
     print(b"\n");
 }
@@ -152,17 +154,24 @@ fn part(records: &[u8], at: u32) -> &[u8]
     )
 }
 
+// The images that are asked all but depths.
+fn run_all(records: &[u8]) {
+    run(part(records, 0));
+    run(part(records, 210));
+    run(part(records, 398));
+}
+
+// The images that are asked depths.
+fn run_depths(records: &[u8]) {
+    depths(b"smallest", part(records, 586));
+    depths(b"circle", part(records, 730));
+    depths(b"named child", part(records, 1030));
+    depths(b"chain", part(records, 1341));
+}
+
 fn main() {
     let mut buffer = io::large_buffer();
     let n = io::read_full(STDIN_FILENO, &mut buffer);
-    let first = part(&buffer[..n], 0);
-    run(first);
-    let second = part(&buffer[..n], 210);
-    run(second);
-    let third = part(&buffer[..n], 398);
-    run(third);
-    depths(b"smallest", part(&buffer[..n], 586));
-    depths(b"circle", part(&buffer[..n], 730));
-    depths(b"named child", part(&buffer[..n], 1030));
-    depths(b"chain", part(&buffer[..n], 1341));
+    run_all(&buffer[..n]);
+    run_depths(&buffer[..n]);
 }
