@@ -31,7 +31,7 @@ use Rattle.promises.specs.Promises.{ReachesRoot}
 use Rattle.promises.specs.Readers.{stepUp, ascend, DepthRead, ChildRead, NamedRead, Reads, NumberedItemRead, DefinitionItemRead, DefinitionRead, ImageReads, AcceptedReads}
 use Rattle.promises.specs.Rules.{TextRight}
 use Rattle.promises.proofs.Answers.{given-equal, given-refused, loaded-given}
-use Rattle.promises.specs.Answers.{given, refused, ofNode, ofCount, ofLoaded}
+use Rattle.promises.specs.Answers.{given, refused, ofNode, ofCount}
 use Rattle.promises.proofs.Fields.{right-node}
 use Rattle.promises.proofs.Views.{Seen, seen, shown-right}
 use Rattle.promises.proofs.Nodes.{reaches, child-range, named-range, child-right, named-right}
