@@ -1,5 +1,5 @@
-/* Loads an image of up to 65,536 bytes and prints its nodes: number, parent (-1: none), kind, text if there is one.
- * `no K` if it is refused, `long` if it is longer: then exit status 1; 2 if there is no such file. */
+/* Loads an image of up to 65,536 bytes and prints its nodes: number, parent (-1: none), depth, kind, text if there is
+ * one. `no K` if it is refused, `long` if it is longer: then exit status 1; 2 if there is no such file. */
 #include <inttypes.h>
 #include <stdio.h>
 
@@ -24,11 +24,12 @@ static long read_file(const char *name) {
 
 /* A node's line. */
 static int print_node(size_t length, const uint32_t *view, uint32_t node) {
-    uint32_t shown[STORY_IMAGE_NODE_WORDS], part[2];
-    if (story_image_node_view(bytes, length, view, STORY_IMAGE_VIEW_WORDS, node, shown, STORY_IMAGE_NODE_WORDS) != 0)
+    uint32_t shown[STORY_IMAGE_NODE_WORDS], part[2], depth;
+    if (story_image_node_view(bytes, length, view, STORY_IMAGE_VIEW_WORDS, node, shown, STORY_IMAGE_NODE_WORDS) != 0 ||
+        story_image_depth(bytes, length, view, STORY_IMAGE_VIEW_WORDS, node, &depth, STORY_IMAGE_COUNT_WORDS) != 0)
         return 1;
     uint32_t parent = shown[STORY_IMAGE_NODE_PARENT], kind = shown[STORY_IMAGE_NODE_KIND];
-    printf("%" PRIu32 " of %" PRId32 ": %" PRIu32, node, (int32_t)parent, kind);
+    printf("%" PRIu32 " of %" PRId32 ", depth %" PRIu32 ": %" PRIu32, node, (int32_t)parent, depth, kind);
     if (kind != LIST && story_image_text(bytes, length, view, STORY_IMAGE_VIEW_WORDS, shown[STORY_IMAGE_NODE_TEXT],
                                          shown[STORY_IMAGE_NODE_TEXT_LENGTH], part, 2) == 0)
         printf(" \"%.*s\"", (int)part[1], (const char *)bytes + part[0]);

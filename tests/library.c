@@ -78,14 +78,18 @@ static struct image sample(const char *folder, const char *name) {
     return image_of(bytes, length);
 }
 
+static uint32_t word_at(const struct image *image, size_t at) {
+    const uint8_t *byte = image->bytes + at;
+    return byte[0] | (uint32_t)byte[1] << 8 | (uint32_t)byte[2] << 16 | (uint32_t)byte[3] << 24;
+}
+
 /* How many work words the header asks for; 0 without one. */
 static size_t words_needed(const struct image *image) {
     size_t needed = 1;
     if (image->length < STORY_IMAGE_HEADER_BYTES)
         return 0;
     for (size_t at = 24; at <= 40; at += 8)
-        needed += image->bytes[at] | (size_t)image->bytes[at + 1] << 8 | (size_t)image->bytes[at + 2] << 16 |
-                  (size_t)image->bytes[at + 3] << 24;
+        needed += word_at(image, at);
     return needed;
 }
 
@@ -228,6 +232,7 @@ enum {
     NODE_ENTRY,
     NODE_ORIGIN,
     FIRST_ITEM,
+    DEPTH,
     QUERIES
 };
 
@@ -239,7 +244,7 @@ static const size_t answer_words[QUERIES] = {STORY_IMAGE_NODE_WORDS,         STO
                                              STORY_IMAGE_LIST_ITEM_WORDS,    STORY_IMAGE_FOUND_WORDS,
                                              STORY_IMAGE_LIST_PAYLOAD_WORDS, STORY_IMAGE_LIST_COUNTS_WORDS,
                                              STORY_IMAGE_LIST_ENTRY_WORDS,   STORY_IMAGE_LIST_ORIGIN_WORDS,
-                                             STORY_IMAGE_COUNT_WORDS};
+                                             STORY_IMAGE_COUNT_WORDS,        STORY_IMAGE_COUNT_WORDS};
 
 static uint32_t call(int query, const struct image *image, size_t view_length, const struct asked *asked,
                      uint32_t *answer, size_t answer_length) {
@@ -285,6 +290,8 @@ static uint32_t call(int query, const struct image *image, size_t view_length, c
                                             answer_length);
     case FIRST_ITEM:
         return story_image_definition_first_item(bytes, length, view, view_length, asked->index, answer, answer_length);
+    case DEPTH:
+        return story_image_depth(bytes, length, view, view_length, asked->node, answer, answer_length);
     default:
         return story_image_resolve_path(bytes, length, view, view_length, asked->node, true, path,
                                         STORY_IMAGE_STEP_WORDS, asked->name, asked->name_length, answer, answer_length);
@@ -472,8 +479,11 @@ static void any_bytes(const char *folder) {
             seed = seed * 1664525 + 1013904223;
             struct asked asked = {(seed >> 8) % 90, (seed >> 4) % 5, seed >> 20,
                                   (seed >> 16) % 9, other.bytes,     seed % 8};
-            if (ask(query, &other, &asked, answer) && query == TEXT)
+            bool found = ask(query, &other, &asked, answer);
+            if (found && query == TEXT)
                 CHECK((size_t)answer[0] + answer[1] <= other.length, "a text inside the bytes");
+            if (found && query == DEPTH)
+                CHECK(answer[0] < other.view[STORY_IMAGE_NODES_COUNT], "a depth smaller than the node count");
         }
         free(other.bytes);
     }
@@ -671,6 +681,164 @@ static void drafts(const char *folder) {
     free(output);
 }
 
+/* ---- depths */
+
+static bool has_depth(const struct image *image, uint32_t node, uint32_t depth) {
+    struct asked asked = {node, 0, 0, 0, image->bytes, 0};
+    uint32_t answer[STORY_IMAGE_COUNT_WORDS];
+    return ask(DEPTH, image, &asked, answer) && answer[0] == depth;
+}
+
+/* 18, and the answer stays, which `ask` sees. */
+static bool no_depth(const struct image *image, uint32_t node) {
+    struct asked asked = {node, 0, 0, 0, image->bytes, 0};
+    uint32_t answer[STORY_IMAGE_COUNT_WORDS];
+    return !ask(DEPTH, image, &asked, answer);
+}
+
+/* The parent steps from a node to node 0, counted over views of nodes; NONE if they are not fewer than the nodes. */
+static uint32_t steps_of(const struct image *image, uint32_t node) {
+    uint32_t words[STORY_IMAGE_NODE_WORDS];
+    for (uint32_t steps = 0; steps < image->view[STORY_IMAGE_NODES_COUNT]; steps++) {
+        if (node == 0)
+            return steps;
+        if (story_image_node_view(image->bytes, image->length, image->view, STORY_IMAGE_VIEW_WORDS, node, words,
+                                  STORY_IMAGE_NODE_WORDS) != 0)
+            return NONE;
+        node = words[STORY_IMAGE_NODE_PARENT];
+    }
+    return NONE;
+}
+
+/* Every node's depth is its parent steps; outside there is none. Gives how many containers below the root are without
+ * a place, and so only named children. */
+static uint32_t depths_of(const struct image *image, const char *name) {
+    uint32_t count = image->view[STORY_IMAGE_NODES_COUNT], only_named = 0, words[STORY_IMAGE_NODE_WORDS];
+    for (uint32_t node = 0; node < count; node++) {
+        uint32_t steps = steps_of(image, node);
+        CHECK(steps < count && has_depth(image, node, steps), "%s: depth of node %u", name, (unsigned)node);
+        struct asked asked = {node, 0, 0, 0, image->bytes, 0};
+        CHECK(ask(NODE_VIEW, image, &asked, words), "%s: view of node %u", name, (unsigned)node);
+        if (node == 0 || words[STORY_IMAGE_NODE_KIND] != STORY_IMAGE_KIND_CONTAINER ||
+            words[STORY_IMAGE_NODE_PLACE] != NONE)
+            continue;
+        only_named++;
+        CHECK(has_depth(image, words[STORY_IMAGE_NODE_PARENT], steps - 1), "%s: named child %u, one below its parent",
+              name, (unsigned)node);
+    }
+    CHECK(no_depth(image, count) && no_depth(image, NONE), "%s: no depth outside", name);
+    return only_named;
+}
+
+static void depths(const char *folder) {
+    static const struct {
+        const char *name;
+        uint32_t only_named;
+    } table[] = {{"smallest", 0}, {"step", 6}, {"guide", 36}, {"largest", 0}};
+    for (size_t i = 0; i < sizeof table / sizeof table[0]; i++) {
+        struct image image = accepted(folder, table[i].name);
+        uint32_t only_named = depths_of(&image, table[i].name);
+        CHECK(only_named == table[i].only_named, "%s: %u containers are only named children", table[i].name,
+              (unsigned)only_named);
+        free(image.bytes);
+    }
+    struct image smallest = accepted(folder, "smallest");
+    CHECK(has_depth(&smallest, 0, 0) && no_depth(&smallest, 1) && no_depth(&smallest, NONE), "the root alone");
+    free(smallest.bytes);
+}
+
+/* The view as the header has it: what a load writes of accepted bytes. */
+static void view_by_header(struct image *image) {
+    image->view[STORY_IMAGE_INK_VERSION] = word_at(image, 12);
+    for (size_t k = STORY_IMAGE_NODES; k < STORY_IMAGE_VIEW_WORDS; k++)
+        image->view[k] = word_at(image, 20 + 4 * (k - STORY_IMAGE_NODES));
+}
+
+static void set_parent(struct image *image, uint32_t node, uint32_t parent) {
+    uint8_t *byte = image->bytes + image->view[STORY_IMAGE_NODES] + 40 * (size_t)node;
+    for (int k = 0; k < 4; k++)
+        byte[k] = (uint8_t)(parent >> 8 * k);
+}
+
+/* Bytes that no load accepts: parents in a circle, parents outside. */
+static void no_depths(const char *folder) {
+    struct image circle = sample(folder, "circle"), image = accepted(folder, "step"), other = sample(folder, "step");
+    view_by_header(&other);
+    CHECK(memcmp(image.view, other.view, sizeof image.view) == 0, "the view by the header");
+    view_by_header(&circle);
+    CHECK(circle.view[STORY_IMAGE_NODES_COUNT] == 3 && has_depth(&circle, 0, 0), "the root beside a circle");
+    CHECK(no_depth(&circle, 1) && no_depth(&circle, 2), "a circle of two");
+    CHECK(no_depth(&circle, 3) && no_depth(&circle, NONE), "outside");
+    /* nodes 6 and 7 are children of node 5, and that one of the root */
+    const uint32_t count = image.view[STORY_IMAGE_NODES_COUNT], strange[] = {count, NONE, 5, 6};
+    CHECK(has_depth(&image, 5, 1) && has_depth(&image, 6, 2), "parents that lead to the root");
+    for (size_t i = 0; i < SIZE(strange); i++) {
+        set_parent(&image, 5, strange[i]);
+        CHECK(no_depth(&image, 5) && no_depth(&image, 6) && no_depth(&image, 7), "parent %u", (unsigned)strange[i]);
+        CHECK(has_depth(&image, 0, 0) && has_depth(&image, 1, 1), "nodes beside it");
+    }
+    free(circle.bytes);
+    free(image.bytes);
+    free(other.bytes);
+}
+
+enum { CHAIN = 300 };
+
+/* Container k + 1 is the only child of container k: an ordered one where k is even, one named a where k is odd. */
+static struct draft chain_draft(void) {
+    static uint32_t nodes[CHAIN][STORY_IMAGE_DRAFT_NODE_WORDS], children[CHAIN], named[CHAIN][3];
+    struct draft draft;
+    memset(&draft, 0, sizeof draft);
+    uint32_t ordered = 0, entries = 0;
+    for (uint32_t k = 0; k < CHAIN; k++) {
+        bool even = k % 2 == 0, is_named = even && k > 0;
+        uint32_t count = k + 1 < CHAIN;
+        const uint32_t node[] = {k == 0 ? NONE : k - 1,
+                                 even ? NONE : 0,
+                                 STORY_IMAGE_KIND_CONTAINER,
+                                 is_named ? 0 : NONE,
+                                 is_named ? 1 : NONE,
+                                 0,
+                                 ordered,
+                                 even ? count : 0,
+                                 entries,
+                                 even ? 0 : count};
+        const uint32_t entry[] = {0, 1, k + 1};
+        memcpy(nodes[k], node, sizeof node);
+        if (even && count == 1)
+            children[ordered++] = k + 1;
+        else if (count == 1)
+            memcpy(named[entries++], entry, sizeof entry);
+    }
+    draft.nodes = nodes[0];
+    draft.node_words = SIZE(nodes);
+    draft.children = children;
+    draft.child_words = ordered;
+    draft.named = named[0];
+    draft.named_words = 3 * (size_t)entries;
+    draft.strings = "a";
+    return draft;
+}
+
+static void chain(void) {
+    struct draft draft = chain_draft();
+    uint32_t length, written;
+    size_t words = write_words(&draft);
+    uint8_t none[1] = {0};
+    CHECK(put(&draft, 21, words, none, 0, &length) == STORY_IMAGE_NO_ROOM, "the length of a chain");
+    uint8_t *output = (uint8_t *)room(length);
+    memset(output, 0x77, length);
+    CHECK(put(&draft, 21, words, output, length, &written) == STORY_IMAGE_OK && written == length,
+          "a chain is written");
+    struct image image = image_of(output, length);
+    CHECK(load(&image, length / 4) == STORY_IMAGE_OK && image.view[STORY_IMAGE_NODES_COUNT] == CHAIN, "it loads");
+    CHECK(depths_of(&image, "chain") == CHAIN / 2 - 1, "every other container is only a named child");
+    for (uint32_t node = 0; node < CHAIN; node++)
+        CHECK(has_depth(&image, node, node), "depth of container %u", (unsigned)node);
+    free(output);
+    free(image.bytes);
+}
+
 int main(int count, char **arguments) {
     if (count != 2) {
         fprintf(stderr, "library SAMPLES\n");
@@ -686,6 +854,9 @@ int main(int count, char **arguments) {
     walks(folder);
     names();
     drafts(folder);
+    depths(folder);
+    no_depths(folder);
+    chain();
     printf("%lu passed, %lu failed\n", passed, failed);
     return failed != 0;
 }

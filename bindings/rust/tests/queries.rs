@@ -8,6 +8,7 @@ use story_image::{
 
 const STEP: &[u8] = include_bytes!("../../../samples/step.image");
 const GUIDE: &[u8] = include_bytes!("../../../samples/guide.image");
+const CIRCLE: &[u8] = include_bytes!("../../../samples/circle.image");
 
 fn image(bytes: &'static [u8]) -> Image<'static> {
     Image::load(bytes, &mut vec![0; load_words(bytes)]).unwrap()
@@ -110,6 +111,49 @@ fn spelled(spelling: Spelling, number: u32) -> Option<String> {
     let too_short = unsafe { spelling(number, short.as_mut_ptr(), length - 1, none.as_mut_ptr(), 2) };
     assert_eq!((too_short, short, none), (23, [b'?'; 16], [77; 2]));
     Some(String::from_utf8(text[..length].to_vec()).unwrap())
+}
+
+/// A node's depth is the number of parent steps to node 0; outside there is none.
+#[test]
+fn depths() {
+    for image in [image(STEP), image(GUIDE)] {
+        let parent = |node: &u32| image.node_view(*node).unwrap().parent;
+        for node in 0..image.node_count() {
+            let steps = std::iter::successors(parent(&node), parent).count() as u32;
+            assert_eq!(image.depth(node), Some(steps));
+            assert!(steps < image.node_count());
+        }
+        assert_eq!((image.depth(0), image.depth(image.node_count()), image.depth(NONE)), (Some(0), None, None));
+    }
+}
+
+/// A container that is only a named child lies one below its parent, as any other child.
+#[test]
+fn depths_of_named_children() {
+    let image = image(GUIDE);
+    let mut only_named = 0;
+    for node in 0..image.node_count() {
+        let below = image.depth(node).map(|depth| depth + 1);
+        assert!(image.children(node).all(|child| image.depth(child) == below));
+        for child in image.named_children(node) {
+            assert_eq!(image.depth(child.node), below);
+            only_named += u32::from(image.children(node).all(|other| other != child.node));
+        }
+    }
+    assert_eq!(only_named, 36);
+}
+
+/// The parents of nodes 1 and 2 lead in a circle: no load accepts it, and they have no depth.
+#[test]
+fn no_depth_in_a_circle() {
+    let refused = Image::load(CIRCLE, &mut vec![0; load_words(CIRCLE)]).unwrap_err();
+    assert_eq!(refused, Refusal::UNREACHED);
+    // the ink version, then offsets and counts, as the header has them
+    let word = |at: usize| u32::from_le_bytes(CIRCLE[at..at + 4].try_into().unwrap());
+    let view = View::from(std::array::from_fn(|k| word(if k == 0 { 12 } else { 16 + 4 * k })));
+    let asked = raw::Queries::new(CIRCLE, view);
+    assert_eq!(view.nodes.count, 3);
+    assert_eq!([0, 1, 2, 3, NONE].map(|node| asked.depth(node)), [Some(0), None, None, None, None]);
 }
 
 #[test]
@@ -254,6 +298,7 @@ fn any_view() {
             let asked = raw::Queries::new(bytes, view);
             for node in (0..120).chain([NONE]) {
                 asked.node_view(node);
+                assert!(asked.depth(node).is_none_or(|depth| depth < view.nodes.count));
                 asked.child_at(node, 0);
                 asked.named_child_at(node, 0);
                 asked.find_named_child(node, b"a");

@@ -75,7 +75,7 @@ fn node_object(image: &Image<'_>, node: u32, out: &mut impl Write) -> io::Result
         return write!(out, "null");
     };
     write!(out, "{{\"node\":{node},\"parent\":{},\"place\":{}", number(view.parent), number(view.place))?;
-    write!(out, ",{}", members(&view.kind))?;
+    write!(out, ",\"depth\":{},{}", number(image.depth(node)), members(&view.kind))?;
     if matches!(view.kind, Kind::Container { .. }) {
         let named = image.named_children(node).into_iter();
         let named = array(named.map(|(name, child)| format!("{{\"name\":{},\"node\":{child}}}", text(name))));

@@ -139,6 +139,12 @@ impl<'a> Image<'a> {
         Some(Node { parent: optional(words[0]), place: optional(words[1]), kind: self.kind(words)? })
     }
 
+    /// The number of parent steps from a node to node 0.
+    pub fn depth(&self, node: u32) -> Option<u32> {
+        let [depth] = ask!(self, story_image_depth, node)?;
+        Some(depth)
+    }
+
     fn kind(&self, words: [u32; 10]) -> Option<Kind<'a>> {
         let [_, _, kind, offset, length, variable, variable_length, target, value, flags] = words;
         let text = self.text(offset, length);

@@ -4,7 +4,7 @@ use crate::library::{Divert, Image, Kind, List};
 use crate::quoted;
 use std::io::{self, Write};
 
-/// Deeper lines are not moved further in; they begin with their depth.
+/// Deeper lines are not moved further in; the depth in front says where they stand.
 const DEEPEST: usize = 40;
 
 /// How a node stands in its container.
@@ -14,19 +14,20 @@ enum By<'a> {
     Name(&'a str),
 }
 
-/// One line a node: number, place or name in its container, kind and what it holds. A node that is met again is named
-/// only.
+/// One line a node: its depth, then, moved in by a step for each container around it, number, place or name in its
+/// container, kind and what it holds. A node that is met again is named only.
 pub fn tree(image: &Image<'_>, out: &mut impl Write) -> io::Result<()> {
+    writeln!(out, "depth  node")?;
     let mut seen = vec![false; image.node_count() as usize];
     let mut pending = vec![(0, 0, By::Root)];
-    while let Some((node, depth, by)) = pending.pop() {
+    while let Some((node, level, by)) = pending.pop() {
         let again = std::mem::replace(&mut seen[node as usize], true);
-        line(image, node, depth, &by, again, out)?;
+        line(image, node, level, &by, again, out)?;
         if again {
             continue;
         }
-        let ordered = image.children(node).into_iter().enumerate().map(|(k, child)| (child, depth + 1, By::Place(k)));
-        let named = image.named_children(node).into_iter().map(|(name, child)| (child, depth + 1, By::Name(name)));
+        let ordered = image.children(node).into_iter().enumerate().map(|(k, child)| (child, level + 1, By::Place(k)));
+        let named = image.named_children(node).into_iter().map(|(name, child)| (child, level + 1, By::Name(name)));
         let first = pending.len();
         pending.extend(ordered);
         pending.extend(named);
@@ -35,11 +36,9 @@ pub fn tree(image: &Image<'_>, out: &mut impl Write) -> io::Result<()> {
     definitions(image, out)
 }
 
-fn line(image: &Image<'_>, node: u32, depth: usize, by: &By<'_>, again: bool, out: &mut impl Write) -> io::Result<()> {
-    write!(out, "{:width$}", "", width = 2 * depth.min(DEEPEST))?;
-    if depth > DEEPEST {
-        write!(out, "(depth {depth}) ")?;
-    }
+fn line(image: &Image<'_>, node: u32, level: usize, by: &By<'_>, again: bool, out: &mut impl Write) -> io::Result<()> {
+    let depth = image.depth(node).map_or("-".to_owned(), |depth| depth.to_string());
+    write!(out, "{depth:>5}  {:width$}", "", width = 2 * level.min(DEEPEST))?;
     match by {
         By::Root => write!(out, "{node} ")?,
         By::Place(place) => write!(out, "{node} .{place} ")?,
