@@ -1,9 +1,11 @@
-//! Both sides measured in one process, in turns, by processor time: load, node views, walks and list look-ups, writing;
-//! then the leaves by themselves, and the size of the library.
+//! Both sides measured in one process, in turns, by processor time: load, node views, depths, walks and list look-ups,
+//! writing; then the leaves by themselves, and the size of the library.
 
 mod archive;
 mod inputs;
 mod leaves;
+
+pub use inputs::lapped_chain;
 
 use crate::random::Random;
 use inputs::Input;
@@ -130,10 +132,13 @@ fn ask(input: &Input, ours: &ours::Measured, long: Duration) -> u64 {
     let walks: Vec<(u32, Walk)> =
         input.walks.iter().map(|(origin, relative, steps)| (*origin, Walk::new(*relative, steps))).collect();
     let views = || timed(|| (0..input.nodes()).filter(|node| theirs.has_view(*node)).count());
+    let depths =
+        || timed(|| (0..input.nodes()).filter_map(|node| theirs.steps_to_root(node)).map(u64::from).sum::<u64>());
     let walked = || timed(|| walks.iter().filter_map(|(origin, walk)| theirs.walk(*origin, walk)).count());
     let looked = || timed(|| input.items.iter().filter(|name| theirs.has_list_item(name)).count());
     duel("node views", PUBLISHED, long, views, ours.views())
         + duel("views as enums", PUBLISHED, long, views, ours.enums())
+        + duel("depths", PUBLISHED, long, depths, ours.depths())
         + duel("walks", PUBLISHED, long, walked, ours.walks())
         + duel("list look-ups", PUBLISHED, long, looked, ours.items())
 }
@@ -155,6 +160,9 @@ mod ours {
             None
         }
         pub fn enums(&self) -> Option<fn() -> Duration> {
+            None
+        }
+        pub fn depths(&self) -> Option<fn() -> Duration> {
             None
         }
         pub fn walks(&self) -> Option<fn() -> Duration> {
@@ -198,6 +206,9 @@ mod ours {
             None
         }
         pub fn enums(&self) -> Option<fn() -> Duration> {
+            None
+        }
+        pub fn depths(&self) -> Option<fn() -> Duration> {
             None
         }
         pub fn walks(&self) -> Option<fn() -> Duration> {
@@ -257,6 +268,11 @@ mod ours {
         pub fn enums(&self) -> Option<impl FnMut() -> Duration> {
             let nodes = self.image.view().nodes.count;
             Some(move || timed(|| (0..nodes).filter(|node| black_box(self.image.node_view(*node)).is_some()).count()))
+        }
+
+        pub fn depths(&self) -> Option<impl FnMut() -> Duration> {
+            let nodes = self.image.view().nodes.count;
+            Some(move || timed(|| (0..nodes).filter_map(|node| self.image.depth(node)).map(u64::from).sum::<u64>()))
         }
 
         pub fn walks(&self) -> Option<impl FnMut() -> Duration> {

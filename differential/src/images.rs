@@ -1,7 +1,8 @@
 //! One image: the load on both sides, then every query.
 
-use crate::library::{Library, View, load_words};
-use crate::parts::word_at;
+use crate::depths;
+use crate::library::{Library, View, header_view, load_words};
+use crate::parts::{HEADER, word_at};
 use crate::queries;
 use crate::random::Random;
 use crate::rows::row_of;
@@ -37,6 +38,9 @@ pub fn image(name: &'static str, bytes: &[u8], ours: Option<&dyn Library>, rando
             strange::bytes(bytes, view, asked, random, tally);
             strange::asked(bytes, view, asked, random, tally);
         }
+    } else if bytes.len() >= HEADER {
+        let name = if row > 5 { "depth, refused image" } else { "depth, other view" };
+        depths::strange(name, bytes, &header_view(bytes), ours.and_then(Library::queries), tally);
     }
 }
 

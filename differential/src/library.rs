@@ -30,6 +30,8 @@ pub trait Library {
 /// Absence of an answer is number 18.
 pub trait Queries {
     fn node_view(&self, bytes: &[u8], view: &View, node: u32) -> Option<NodeView>;
+    /// The number of parent steps to node 0.
+    fn depth(&self, bytes: &[u8], view: &View, node: u32) -> Option<u32>;
     fn child_count(&self, bytes: &[u8], view: &View, node: u32) -> Option<u32>;
     fn child_at(&self, bytes: &[u8], view: &View, node: u32, index: u32) -> Option<u32>;
     fn named_child_count(&self, bytes: &[u8], view: &View, node: u32) -> Option<u32>;
@@ -78,6 +80,11 @@ pub fn components(steps: &[Step]) -> (Vec<u32>, Vec<u8>) {
         }
     }
     (words, names)
+}
+
+/// The view that a header's words make, whatever they are worth.
+pub fn header_view(bytes: &[u8]) -> View {
+    std::array::from_fn(|k| crate::parts::word_at(bytes, if k == 0 { 12 } else { 16 + 4 * k }))
 }
 
 pub fn load_words(bytes: &[u8]) -> usize {

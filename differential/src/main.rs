@@ -4,6 +4,7 @@
 mod bench;
 mod corpus;
 mod damage;
+mod depths;
 mod drafts;
 #[cfg(feature = "ours")]
 mod explain;

@@ -1,6 +1,7 @@
 //! The published Rust in the place of our library, with a mistake planted in it: the comparison must notice.
 
-use crate::library::{Entry, Library, Place, Queries, View, Writer, load_words, write_words};
+use crate::depths::{Way, by_words};
+use crate::library::{Entry, Library, Place, Queries, View, Writer, header_view, load_words, write_words};
 use crate::parts::word_at;
 use crate::rows::{row_of, writer_row};
 use reference::{Draft, Image, Kind, ListEntries, Named, NodeView, Step, Written};
@@ -12,6 +13,9 @@ pub enum Mistake {
     WorkLeft,
     NoSeven,
     ViewParent,
+    DepthRoot,
+    DepthBound,
+    DepthCircle,
     ChildAt,
     NamedAt,
     FindNamed,
@@ -28,11 +32,14 @@ pub enum Mistake {
     DraftNumber,
 }
 
-pub const MISTAKES: [Mistake; 18] = [
+pub const MISTAKES: [Mistake; 21] = [
     Mistake::Number,
     Mistake::WorkLeft,
     Mistake::NoSeven,
     Mistake::ViewParent,
+    Mistake::DepthRoot,
+    Mistake::DepthBound,
+    Mistake::DepthCircle,
     Mistake::ChildAt,
     Mistake::NamedAt,
     Mistake::FindNamed,
@@ -91,11 +98,7 @@ impl Library for Published {
         }
         let zeros = words.min(work.len()) - usize::from(self.has(Mistake::WorkLeft));
         work[..zeros].fill(0);
-        let mut view = [word_at(bytes, 12); 17];
-        for (k, word) in view[1..].iter_mut().enumerate() {
-            *word = word_at(bytes, 20 + 4 * k);
-        }
-        (if self.has(Mistake::Number) && row == 14 { 9 } else { row }, view)
+        (if self.has(Mistake::Number) && row == 14 { 9 } else { row }, header_view(bytes))
     }
 
     fn queries(&self) -> Option<&dyn Queries> {
@@ -114,6 +117,16 @@ impl Queries for Published {
             view.parent = None;
         }
         Some(view)
+    }
+
+    /// By the parent words, as the published Rust has no such query.
+    fn depth(&self, bytes: &[u8], view: &View, node: u32) -> Option<u32> {
+        match by_words(bytes, view, node) {
+            Way::Root(steps) if self.has(Mistake::DepthBound) && steps > 0 && steps + 1 == view[2] => None,
+            Way::Root(steps) => Some(steps + u32::from(self.has(Mistake::DepthRoot))),
+            Way::Circle if self.has(Mistake::DepthCircle) => Some(view[2]),
+            _ => None,
+        }
     }
 
     fn child_count(&self, bytes: &[u8], _: &View, node: u32) -> Option<u32> {

@@ -1,5 +1,6 @@
 //! Every query on an accepted image, on both sides.
 
+use crate::depths;
 use crate::library::{Queries, View};
 use crate::parts::NONE;
 use crate::random::Random;
@@ -52,6 +53,7 @@ pub fn all(image: &Image<'_>, bytes: &[u8], ours: Ours<'_>, random: &mut Random,
         asking.node(node);
         asking.names(node, random);
     }
+    asking.depths();
     asking.definitions(random);
     for _ in 0..8 {
         asking.walk(random);
@@ -83,6 +85,27 @@ impl Asking<'_> {
             let child = image.named_child_at(node, index as usize);
             self.same("named child", child, |ours, bytes, view| ours.named_child_at(bytes, view, node, index));
         }
+    }
+
+    /// Of all nodes, and of numbers outside.
+    fn depths(&mut self) {
+        let (views, count) = (depths::views(self.image), self.image.node_count() as u32);
+        let depths = depths::by_views(&views);
+        for node in (0..count).chain([count, count + 1, NONE]) {
+            let theirs = depths.get(node as usize).copied().flatten();
+            self.same("depth", theirs, |ours, bytes, view| ours.depth(bytes, view, node));
+        }
+        let named_only = (1..count).zip(&views[1..]).filter(|(node, view)| self.named_only(*node, view.as_ref()));
+        let named_only = named_only.count() as u64;
+        self.tally.met("accepted, containers with no ordered entry", named_only);
+        let greatest = self.tally.met.entry("accepted, greatest depth").or_default();
+        *greatest = depths.into_iter().flatten().map(u64::from).fold(*greatest, u64::max);
+    }
+
+    /// Whether a node is no ordered child of its parent.
+    fn named_only(&self, node: u32, view: Option<&NodeView>) -> bool {
+        let place = view.and_then(|view| view.parent.zip(view.place));
+        place.and_then(|(parent, place)| self.image.child_at(parent, place as usize)) != Some(node)
     }
 
     /// Where the texts of a view lie in the image.

@@ -1,6 +1,7 @@
 //! A whole run over all sorts of cases, and what it must have met.
 
 use crate::corpus::{self, Visitor};
+use crate::depths;
 use crate::drafts::Case;
 use crate::images::image;
 use crate::library::Library;
@@ -18,6 +19,7 @@ const ENOUGH: u64 = 10_000;
 pub fn compare(cases: u64, seed: u64, ours: Option<&dyn Library>) -> bool {
     let mut tally = Tally::default();
     corpus::all("comparison", cases, seed, &mut Comparison { ours, tally: &mut tally });
+    depths::chain(ours, &mut tally);
     tally.print();
     if cases >= ENOUGH {
         coverage(&mut tally);
@@ -75,6 +77,9 @@ fn coverage(tally: &mut Tally) {
             *found > 0 && (*nothing > 0 || ["text", "definition count"].contains(name)),
             format!("query {name}, found {found}, nothing {nothing}"),
         );
+    }
+    for (what, count) in &tally.met {
+        need(*count > 0, format!("depth, {what}"));
     }
     for (message, row) in WRITER {
         need(row == 23 || tally.written.contains_key(message), format!("writer: {message}"));

@@ -1,6 +1,7 @@
 //! What the published Rust cannot be asked: queries on bytes that were not accepted or under another view, which must
-//! end with parts inside the bytes; names that are no text; walks along wrong words.
+//! end with parts inside the bytes, and depth there; names that are no text; walks along wrong words.
 
+use crate::depths;
 use crate::library::{Queries, View};
 use crate::parts::NONE;
 use crate::random::Random;
@@ -27,6 +28,7 @@ pub fn bytes(bytes: &[u8], view: &View, ours: &dyn Queries, random: &mut Random,
         outside += ask(&bytes, &view, node, ours, random);
     }
     tally.check(outside == 0, || format!("{outside} parts outside strange bytes"), &bytes);
+    depths::strange("depth, other view", &bytes, &view, Some(ours), tally);
 }
 
 /// Asks everything about a node; counts parts that lie outside.

@@ -9,6 +9,8 @@ pub struct Tally {
     pub kinds: BTreeMap<&'static str, u64>,
     /// Of each query, how often it found something, and how often nothing.
     pub queries: BTreeMap<&'static str, [u64; 2]>,
+    /// What was met where depth was asked.
+    pub met: BTreeMap<&'static str, u64>,
     /// By how they were made: how many, and how many of them are accepted.
     pub images: BTreeMap<&'static str, [u64; 2]>,
     pub drafts: BTreeMap<&'static str, u64>,
@@ -50,6 +52,11 @@ impl Tally {
         self.queries.entry(name).or_default()[usize::from(answer.is_none())] += 1;
     }
 
+    /// So many more of what is met where depth is asked.
+    pub fn met(&mut self, what: &'static str, count: u64) {
+        *self.met.entry(what).or_default() += count;
+    }
+
     pub fn print(&self) {
         println!("loads by row (0 is accepted):");
         for (row, count) in self.rows.iter().enumerate().filter(|(_, count)| **count > 0) {
@@ -65,6 +72,7 @@ impl Tally {
         for (name, [found, nothing]) in &self.queries {
             println!("    {name:30} {found:>10} {nothing:>10}");
         }
+        print("met where depth was asked", self.met.iter());
         print("drafts by how they were made", self.drafts.iter());
         print("what the published writer did", self.written.iter());
         if !self.numbers.is_empty() {

@@ -270,6 +270,16 @@ impl Image<'_> {
         std::hint::black_box(self.view.node_view(NodeId(id))).is_some()
     }
 
+    /// The steps over the parents of published views up to node 0, for measuring.
+    pub fn steps_to_root(&self, id: u32) -> Option<u32> {
+        let (mut at, mut steps) = (id, 0);
+        while at != 0 {
+            at = self.view.node_view(NodeId(at))?.parent?.0;
+            steps += 1;
+        }
+        Some(steps)
+    }
+
     /// The published query alone, for measuring.
     pub fn has_list_item(&self, name: &str) -> bool {
         std::hint::black_box(self.view.list_item(name)).is_some()

@@ -256,7 +256,7 @@ fn one_list(count: u32) -> Parts {
 }
 
 /// A chain whose paths are all fronts of one string.
-fn lapped_chain(nodes: u32) -> Parts {
+pub fn lapped_chain(nodes: u32) -> Parts {
     let mut parts = chain(nodes);
     parts.strings = (0..2 * nodes).map(|at| if at % 2 == 0 { b'0' } else { b'.' }).collect();
     parts.index = (0..nodes).map(|node| [0, (2 * node).saturating_sub(1), node]).collect();

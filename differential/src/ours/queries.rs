@@ -78,6 +78,10 @@ impl Queries for Ours {
         Some(NodeView { parent: view.parent, place: view.child_index, kind: kind_of(view.kind) })
     }
 
+    fn depth(&self, bytes: &[u8], view: &View, node: u32) -> Option<u32> {
+        asked(bytes, view).depth(node)
+    }
+
     fn child_count(&self, bytes: &[u8], view: &View, node: u32) -> Option<u32> {
         asked(bytes, view).child_count(node)
     }
