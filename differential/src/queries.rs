@@ -97,7 +97,7 @@ impl Asking<'_> {
         }
         let named_only = (1..count).zip(&views[1..]).filter(|(node, view)| self.named_only(*node, view.as_ref()));
         let named_only = named_only.count() as u64;
-        self.tally.met("accepted, containers with no ordered entry", named_only);
+        self.tally.met("accepted, containers that are only named children", named_only);
         let greatest = self.tally.met.entry("accepted, greatest depth").or_default();
         *greatest = depths.into_iter().flatten().map(u64::from).fold(*greatest, u64::max);
     }
