@@ -13,11 +13,12 @@ use Rattle.words.proofs.Words.{length-words}
 use Rattle.image.specs.declared.ImageView.{ImageView}
 use Rattle.image.specs.Sections.{Sections, nodeWords, nodeSize, nodeCount, nodeWord, parentOf, inside, insideAmong}
 use Rattle.image.specs.Header.{sectionBytes, sectionsBy}
-use Rattle.image.proofs.Tests.{inside-true}
-use Rattle.image.proofs.Parts.{section-length, section-outside, entry-count}
+use Rattle.image.proofs.Parts.{section-outside}
+use Rattle.image.proofs.Views.{section-count}
 use Rattle.image.proofs.Widths.{words-some}
 use Rattle.views.specs.declared.Count.{Count}
 use Rattle.views.specs.declared.Count.the-variants as count
+use Rattle.views.proofs.Reading.{count-here, inside-here, node-below}
 use Rattle.depth.specs.Depth.{oneMore, depthFrom, depthOf}
 use Rattle.depth.proofs.Steps.{depth-root, depth-above, outside-none}
 
@@ -78,8 +79,7 @@ module _ (bs : List ℕ) (v : ImageView) (part : List ℕ) (e : part ≡ section
   own = sectionsBy bs v
 
   count-is : nodes ≡ nodeCount own
-  unfolding sectionsBy
-  count-is = n ∙ ap (λ (x : List ℕ). length (wordsOf x) / nodeWords (v .version)) e
+  count-is = count-here bs v part e id nodes n
 
   parent-is : (at : ℕ) → getD (wordsOf part) (at * nodeWords (v .version) + 0) 0 ≡ parentOf own at
   unfolding sectionsBy nodeWord
@@ -90,17 +90,20 @@ module _ (bs : List ℕ) (v : ImageView) (part : List ℕ) (e : part ≡ section
     pub most : nodes ≤ v .nodes .count
     pub whole : 0 < nodes → nodes ≡ v .nodes .count
 
+  counted : nodes ≡ length (wordsOf (sectionBytes bs (v .nodes) (nodeSize (v .version)))) / nodeWords (v .version)
+  unfolding sectionsBy
+  counted = count-is
+
   count-or-none : CountOrNone
   count-or-none = by (decLt (length bs) (v .nodes .offset + v .nodes .count * nodeSize (v .version)))
     where
       by : Dec (length bs < v .nodes .offset + v .nodes .count * nodeSize (v .version)) → CountOrNone
       by (yes h) =
-          let q : nodes ≡ 0 = n ∙ ap (λ (x : List ℕ). length (wordsOf x) / nodeWords (v .version)) (e ∙ section-outside bs (v .nodes) (nodeSize (v .version)) h)
+          let q : nodes ≡ 0 = counted ∙ ap (λ (x : List ℕ). length (wordsOf x) / nodeWords (v .version)) (section-outside bs (v .nodes) (nodeSize (v .version)) h)
           ∙ none-there (v .version) in
           record { most = omega arith; whole = λ k. absurd (omega arith) }
       by (no h) =
-          let long = ap length e ∙ section-length bs (v .nodes) (nodeSize (v .version)) (omega arith) in
-          let q : nodes ≡ v .nodes .count = n ∙ entry-count part (nodeWords (v .version)) (v .nodes .count) (omega (arith, words-some (v .version))) long in
+          let q : nodes ≡ v .nodes .count = counted ∙ section-count bs (v .nodes) (nodeWords (v .version)) (omega (arith, words-some (v .version))) (omega arith) in
           record { most = omega arith; whole = λ k. q }
 
   pub loop-start : Climbed own id id 0
@@ -112,17 +115,17 @@ module _ (bs : List ℕ) (v : ImageView) (part : List ℕ) (e : part ≡ section
 
     module _ (b : Bool) (i : b ≡ insideAmong nodes at) where
       inside-is : b ≡ inside own at
-      inside-is = i ∙ ap (λ (m : ℕ). insideAmong m at) count-is
+      inside-is = inside-here bs v part e at nodes n b i
 
       pub loop-out : not b ≡ true → count.NotFound ≡ depthOf own id
       loop-out o = climb-out own id at steps c (sym inside-is ∙ not-true b o)
 
       module _ (o : not b ≡ false) where
-        pub at-below : at < nodes
-        at-below = inside-true nodes at (sym i ∙ not-false b o) .0
-
         pub node-there : (at < length (wordsOf part) / nodeWords (v .version)) × (0 < nodeWords (v .version))
-        node-there = (rw (← n) at-below, omega (arith, words-some (v .version)))
+        node-there = (node-below bs v part e at nodes n b i o, omega (arith, words-some (v .version)))
+
+        pub at-below : at < nodes
+        at-below = rw n (node-there .0)
 
         module _ (h : steps < v .nodes .count) where
           fewer : steps < nodeCount own

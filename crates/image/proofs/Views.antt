@@ -81,7 +81,7 @@ pub record SectionCounts (bs : List ℕ) (v : ImageView) : Type 0 where
   pub strings : length (sectionsBy bs v .strings) ≡ v .strings .count
 
 -- a section of entries of n words
-section-count : (bs : List ℕ) (s : Section) (n : ℕ) → 1 ≤ n → Within bs s (4 * n) → length (wordsOf (sectionBytes bs s (4 * n))) / n ≡ s .count
+pub section-count : (bs : List ℕ) (s : Section) (n : ℕ) → 1 ≤ n → Within bs s (4 * n) → length (wordsOf (sectionBytes bs s (4 * n))) / n ≡ s .count
 section-count bs s n h w = entry-count (sectionBytes bs s (4 * n)) n (s .count) h (section-length bs s (4 * n) w)
 
 pub counts : (bs : List ℕ) (v : ImageView) → Inside bs v → SectionCounts bs v

@@ -14,7 +14,7 @@ use Rattle.image.specs.declared.NodeRecord.{NodeRecord}
 use Rattle.image.specs.declared.TextEntry.{TextEntry}
 use Rattle.image.specs.declared.Definition.{Definition}
 use Rattle.image.specs.declared.ImageView.{ImageView}
-use Rattle.image.specs.Sections.{Sections, nodeWords, textEntryWords, definitionWords, nodeSize, childSize, textEntrySize, definitionSize, childCount, namedCount, definitionCount, itemCount, tagOf, childWord, inside, insideAmong, insideContainer}
+use Rattle.image.specs.Sections.{Sections, nodeWords, textEntryWords, definitionWords, nodeSize, childSize, textEntrySize, definitionSize, nodeCount, childCount, namedCount, definitionCount, itemCount, tagOf, childWord, inside, insideAmong, insideContainer}
 use Rattle.image.specs.Header.{sectionBytes, sectionsBy}
 use Rattle.image.specs.Entries.{recordOf, textEntryOf, definitionOf, nodeIn, namedIn, itemIn, definitionIn}
 use Rattle.image.proofs.Tests.{inside-true}
@@ -33,24 +33,27 @@ use Rattle.views.specs.Found.{nodeFound, containerFound, childFound, nam
 -- ---- out of the bytes of a view's section
 
 module _ (bs : List ℕ) (v : ImageView) (part : List ℕ) where
-  module _ (e : part ≡ sectionBytes bs (v .nodes) (nodeSize (v .version))) (i count : ℕ) (c : count ≡ length (wordsOf part) / nodeWords (v .version))
-      (b : Bool) (h : b ≡ insideAmong count i) where
-    inside-here : b ≡ inside (sectionsBy bs v) i
+  module _ (e : part ≡ sectionBytes bs (v .nodes) (nodeSize (v .version))) (i count : ℕ) (c : count ≡ length (wordsOf part) / nodeWords (v .version)) where
+    pub count-here : count ≡ nodeCount (sectionsBy bs v)
     unfolding sectionsBy
-    inside-here = h ∙ ap (λ (n : ℕ). insideAmong n i) (c ∙ ap (λ (x : List ℕ). length (wordsOf x) / nodeWords (v .version)) e)
+    count-here = c ∙ ap (λ (x : List ℕ). length (wordsOf x) / nodeWords (v .version)) e
 
-    pub node-none : not b ≡ true → node.NotFound ≡ nodeFound (sectionsBy bs v) i
-    unfolding nodeFound
-    node-none n = rw (← inside-here, not-true b n)
+    module _ (b : Bool) (h : b ≡ insideAmong count i) where
+      pub inside-here : b ≡ inside (sectionsBy bs v) i
+      inside-here = h ∙ ap (λ (n : ℕ). insideAmong n i) count-here
 
-    pub node-read : not b ≡ false → (r : NodeRecord) → r ≡ recordOf (v .version) (wordsOf part) i → node.Record r ≡ nodeFound (sectionsBy bs v) i
-    unfolding nodeFound
-    node-read n r q =
-        rw (← inside-here, not-false b n)
-        (ap node.Record (q ∙ node-record (sectionsBy bs v) (v .version) (wordsOf part) i (version-by bs v) (nodes-by bs v ∙ ap wordsOf (sym e))))
+      pub node-none : not b ≡ true → node.NotFound ≡ nodeFound (sectionsBy bs v) i
+      unfolding nodeFound
+      node-none n = rw (← inside-here, not-true b n)
 
-    pub node-below : not b ≡ false → i < length (wordsOf part) / nodeWords (v .version)
-    node-below n = inside-true (length (wordsOf part) / nodeWords (v .version)) i (ap (λ (x : ℕ). insideAmong x i) (sym c) ∙ sym h ∙ not-false b n) .0
+      pub node-read : not b ≡ false → (r : NodeRecord) → r ≡ recordOf (v .version) (wordsOf part) i → node.Record r ≡ nodeFound (sectionsBy bs v) i
+      unfolding nodeFound
+      node-read n r q =
+          rw (← inside-here, not-false b n)
+          (ap node.Record (q ∙ node-record (sectionsBy bs v) (v .version) (wordsOf part) i (version-by bs v) (nodes-by bs v ∙ ap wordsOf (sym e))))
+
+      pub node-below : not b ≡ false → i < length (wordsOf part) / nodeWords (v .version)
+      node-below n = inside-true (length (wordsOf part) / nodeWords (v .version)) i (ap (λ (x : ℕ). insideAmong x i) (sym c) ∙ sym h ∙ not-false b n) .0
 
   module _ (e : part ≡ sectionBytes bs (v .children) childSize) (k : ℕ) where
     child-count : childCount (sectionsBy bs v) ≡ length part / childSize
