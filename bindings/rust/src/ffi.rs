@@ -24,6 +24,28 @@ unsafe extern "C" {
         answer_length: usize,
     ) -> u32;
 
+    pub fn story_image_page(
+        bytes: *const u8,
+        length: usize,
+        view: *const u32,
+        view_length: usize,
+        numbers: *const u32,
+        numbers_length: usize,
+        slots: *mut u32,
+        slots_length: usize,
+    ) -> u32;
+
+    pub fn story_image_slot_view(
+        bytes: *const u8,
+        length: usize,
+        view: *const u32,
+        view_length: usize,
+        slot: *const u32,
+        slot_length: usize,
+        answer: *mut u32,
+        answer_length: usize,
+    ) -> u32;
+
     pub fn story_image_text(
         bytes: *const u8,
         length: usize,

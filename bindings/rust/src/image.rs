@@ -3,6 +3,7 @@
 use crate::ffi;
 use crate::lists::{DefinitionView, ListView};
 use crate::node::{NodeKindOf, NodeViewOf, Parts, ValueOf};
+use crate::page::{Page, Slot};
 use crate::path::{self, Step};
 use crate::raw::{ListItem, Queries, TextPlace};
 use crate::refusal::Refusal;
@@ -139,6 +140,35 @@ impl<'a> Image<'a> {
     /// All nodes, by number.
     pub fn nodes(&self) -> impl Iterator<Item = NodeView<'a>> + '_ {
         (0..self.node_count()).map_while(|node| self.node_view(node))
+    }
+
+    /// Many nodes in one call: a slot for each number, in their order. Numbers may repeat; one that is no node has a slot
+    /// without a view. Slots past the numbers stay as they were. With fewer slots than numbers: 24
+    /// ([`Refusal::TOO_FEW_SLOTS`]), and none is written.
+    ///
+    /// ```
+    /// use story_image::{Image, Refusal, Slot, load_words};
+    ///
+    /// # let bytes = include_bytes!(concat!(env!("CARGO_MANIFEST_DIR"), "/../../samples/step.image"));
+    /// # let image = Image::load(bytes, &mut vec![0; load_words(bytes)])?;
+    /// let screen: Vec<u32> = (0..40).collect();
+    /// let mut slots = [Slot::default(); 40];
+    /// let page = image.page(&screen, &mut slots)?;
+    /// for (node, view) in page.nodes() {
+    ///     assert_eq!(view, image.node_view(node));
+    /// }
+    /// assert_eq!(image.page(&screen, &mut slots[..39]).unwrap_err(), Refusal::TOO_FEW_SLOTS);
+    /// # Ok::<(), story_image::Refusal>(())
+    /// ```
+    pub fn page<'p>(&self, numbers: &'p [u32], slots: &'p mut [Slot]) -> Result<Page<'a, 'p>, Refusal> {
+        self.asked.page(numbers, Slot::words_mut(slots))?;
+        let slots: &'p [Slot] = slots;
+        Ok(Page::new(*self, numbers, &slots[..numbers.len()]))
+    }
+
+    /// The view of a slot that a page of this image has for the number: its texts are those of a node of the image.
+    pub(crate) fn slot_view(&self, node: u32, slot: &Slot) -> Option<NodeView<'a>> {
+        self.asked.slot_view_with(node, &slot.0, self)
     }
 
     /// The depth of a node: exactly the number of parent steps from it to node 0. Every node below the node count has one,

@@ -16,6 +16,7 @@ mod image;
 mod lists;
 mod names;
 mod node;
+mod page;
 mod path;
 pub mod raw;
 mod refusal;
@@ -27,6 +28,7 @@ pub use image::{Image, NamedChildView, NodeKindView, NodeView, ValueView, load_w
 pub use lists::{DefinitionView, ListEntryView, ListView};
 pub use names::{CommandType, Op};
 pub use node::{NodeKindOf, NodeViewOf, PushPopType, ValueOf};
+pub use page::{Page, Slot};
 pub use path::Step;
 pub use raw::ListItem;
 pub use refusal::Refusal;

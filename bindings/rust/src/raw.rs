@@ -6,6 +6,7 @@
 use crate::ffi;
 use crate::node::{self, NodeViewOf, Parts};
 use crate::path::{self, Step};
+use crate::refusal::Refusal;
 use crate::view::View;
 use crate::{NONE, Section};
 use core::fmt;
@@ -180,6 +181,48 @@ impl<'a> Queries<'a> {
     /// The ten words of a node's view, as include/story_image.h has them.
     pub fn node_words(&self, node: u32) -> Option<[u32; node::WORDS]> {
         ask!(self, story_image_node_view, node => |words| Some(*words))
+    }
+
+    /// Writes a slot of [`Slot::WORDS`](crate::Slot::WORDS) words for each number, in their order: the node's words as the image holds them,
+    /// then 0 and 0; 18 and eleven zeros for a number without a view. Words after the last slot stay as they were. With
+    /// fewer words a number: 24 ([`Refusal::TOO_FEW_SLOTS`]), and nothing is written.
+    pub fn page(&self, numbers: &[u32], slots: &mut [u32]) -> Result<(), Refusal> {
+        let (bytes, view) = (self.bytes, &self.words);
+        // SAFETY: the slices live through the call, and the slots, which alone are written, are borrowed alone.
+        Refusal::of(unsafe {
+            ffi::story_image_page(
+                bytes.as_ptr(),
+                bytes.len(),
+                view.as_ptr(),
+                view.len(),
+                numbers.as_ptr(),
+                numbers.len(),
+                slots.as_mut_ptr(),
+                slots.len(),
+            )
+        })
+    }
+
+    /// The view of a slot's words, with texts and lists as `parts` hands them back. `node` is the slot's number.
+    #[inline]
+    pub(crate) fn slot_view_with<P: Parts>(
+        &self,
+        node: u32,
+        slot: &[u32],
+        parts: &P,
+    ) -> Option<NodeViewOf<P::Text, P::List>> {
+        ask!(self, story_image_slot_view, slot.as_ptr(), slot.len() => |words| node::view_of(node, words, parts))
+    }
+
+    /// The view of a slot's words: for a slot that [`page`](Self::page) wrote, what [`node_view`](Self::node_view) gives
+    /// for its number. Any ten words are taken as a node's; nothing for fewer, and none past them is looked at.
+    pub fn slot_view(&self, slot: &[u32]) -> Option<NodeView> {
+        self.slot_view_with(NONE, slot, &Places)
+    }
+
+    /// The ten words of a slot's view, as include/story_image.h has them.
+    pub fn slot_view_words(&self, slot: &[u32]) -> Option<[u32; node::WORDS]> {
+        ask!(self, story_image_slot_view, slot.as_ptr(), slot.len() => |words| Some(*words))
     }
 
     /// The number of parent steps to node 0; nothing for a node outside, and where parents lead outside or in a circle.

@@ -92,3 +92,7 @@ draftPaths = 22
 -- the output is too short, or the image would be longer than a word can say
 abbrev pub noRoom : ℕ
 noRoom = 23
+
+-- fewer words are lent than a slot for each number takes
+abbrev pub tooFewSlots : ℕ
+tooFewSlots = 24

@@ -4,6 +4,7 @@ pub mod Flags
 pub mod Chains
 pub mod RuleRuns
 pub mod Lists
+pub mod Slots
 pub mod Members
 pub mod Sorted
 pub mod Places

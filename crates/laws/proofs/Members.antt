@@ -12,6 +12,7 @@ use lib.Dec.{eqb}
 use borrow.Author.Tests.{eqb-true, eqb-false, eq-eqb}
 use Rattle.laws.specs.Counted.{sumOf, allOf, joinOf, those}
 use Rattle.laws.specs.Lists.{has}
+use Rattle.laws.proofs.Slots.{join-front}
 
 -- ---- tests
 
@@ -141,11 +142,6 @@ unfolding joinOf
 join-ext zero a b h = refl
 join-ext (suc n) a b h = rw (join-ext n a b (λ i k. h i (omega arith)), h n (omega arith)) refl
 
-join-front : (n : ℕ) (g : ℕ → ℕ) → joinOf (suc n) (λ j. g j ∷ []) ≡ g 0 ∷ joinOf n (λ j. g (suc j) ∷ [])
-unfolding joinOf
-join-front zero g = refl
-join-front (suc n) g = ap (λ (l : List ℕ). l ++ (g (suc n) ∷ [])) (join-front n g)
-
 -- numbers taken from the last to the first, and read backwards, stand in their order
 pub reverse-down : (n : ℕ) (g : ℕ → ℕ) → reverse (joinOf n (λ j. g (n - 1 - j) ∷ [])) ≡ joinOf n (λ j. g j ∷ [])
 reverse-down zero g = unfold joinOf in refl
@@ -155,7 +151,7 @@ reverse-down (suc n) g =
     ∙ rw e
     (ap (λ (l : List ℕ). g 0 ∷ l)
     (ap reverse (join-ext n (λ j. g (suc n - 1 - j)) (λ j. g (suc (n - 1 - j))) (λ j h. ap g (omega arith))) ∙ reverse-down n (λ j. g (suc j)))
-    ∙ sym (join-front n g))
+    ∙ sym (join-front n (λ j. g j ∷ [])))
 
 -- ---- distinct numbers
 

@@ -10,7 +10,7 @@ use lib.ListN.{length, take, drop, length-append}
 use Rattle.laws.specs.Counted.{joinOf}
 use Rattle.words.specs.Words.{bytes4, bytesOf}
 use Rattle.words.specs.Output.{putAt, over}
-use Rattle.words.proofs.FilledOutput.{FilledWords, start, more-joined, put-is, front-is}
+use Rattle.words.proofs.FilledOutput.{FilledWords, start, more-entries, put-is, front-is}
 
 pub join-longer : (j : ℕ) (g : ℕ → List ℕ) → length (joinOf (j + 1) g) ≡ length (joinOf j g) + length (g j)
 unfolding joinOf
@@ -50,7 +50,7 @@ module _ (base n : ℕ) (g : ℕ → List ℕ) (out₀ : List ℕ) where
     run-next next out′ at′ h e q p =
         let size : length next ≡ length (g j) = ap length e in
         let f : FilledWords base (joinOf (j + 1) g) out₀ out′ =
-        more-joined base j g out₀ out (r .filled) next at (at + 4 * length next) out′ e (r .place) refl (omega (arith, join-within n j g h)) q in
+        more-entries base j g out₀ out (r .filled) next at (at + 4 * length next) out′ e (r .place) refl (omega (arith, join-within n j g h)) q in
         record {
           within = omega arith;
           room = r .room;

@@ -79,6 +79,13 @@ module _ (at : ℕ) (done out₀ out : List ℕ) (f : Filled at done out₀ out)
       more next k (k + length next) out′ p refl h
       (e ∙ rw (drop-drop (length next) k out) (sym (append-assoc (take k out) next (drop (k + length next) out))))
 
+-- the next of pieces, of which the j-th is g j
+pub more-joined : (at : ℕ) (j : ℕ) (g : ℕ → List ℕ) (out₀ out : List ℕ) → Filled at (joinOf j g) out₀ out → (next : List ℕ) (k n : ℕ) (out′ : List ℕ)
+    → next ≡ g j → k ≡ at + length (joinOf j g) → n ≡ k + length next → n ≤ length out₀ → out′ ≡ take k out ++ next ++ drop n out
+    → Filled at (joinOf (j + 1) g) out₀ out′
+unfolding joinOf
+more-joined at j g out₀ out f next k n out′ g-is p q h e = rw (add-one, ← g-is) (more at (joinOf j g) out₀ out f next k n out′ p q h e)
+
 -- ---- words
 
 -- the next words
@@ -90,11 +97,11 @@ more-words at ws out₀ out f next k n out′ p q h e =
     (more at (bytesOf ws) out₀ out f (bytesOf next) k n out′ (omega (arith, length-bytes ws)) (omega (arith, length-bytes next)) h e)
 
 -- the next entry of a section whose entry j is g j
-pub more-joined : (at : ℕ) (j : ℕ) (g : ℕ → List ℕ) (out₀ out : List ℕ) → FilledWords at (joinOf j g) out₀ out → (next : List ℕ) (k n : ℕ) (out′ : List ℕ)
+pub more-entries : (at : ℕ) (j : ℕ) (g : ℕ → List ℕ) (out₀ out : List ℕ) → FilledWords at (joinOf j g) out₀ out → (next : List ℕ) (k n : ℕ) (out′ : List ℕ)
     → next ≡ g j → k ≡ at + 4 * length (joinOf j g) → n ≡ k + 4 * length next → n ≤ length out₀ → out′ ≡ take k out ++ bytesOf next ++ drop n out
     → FilledWords at (joinOf (j + 1) g) out₀ out′
 unfolding joinOf
-more-joined at j g out₀ out f next k n out′ g-is p q h e =
+more-entries at j g out₀ out f next k n out′ g-is p q h e =
     rw (add-one, ← g-is) (more-words at (joinOf j g) out₀ out f next k n out′ p q h e)
 
 -- what is written when the words are all there

@@ -8,7 +8,7 @@ use native.Mathlib.Numerals.{add-one}
 use lib.ListN.{length, getD, set, take, drop, length-append, take-append-drop}
 use lib.Seq.{sets-eq, getD-append-add, getD-take, getD-drop, length-take-le, drop-append-add, drop-drop}
 use Rattle.laws.specs.Counted.{joinOf}
-use Rattle.words.proofs.FilledOutput.{Filled, start, more}
+use Rattle.words.proofs.FilledOutput.{Filled, start, more, more-joined}
 use Rattle.words.proofs.EntryLoop.{join-within}
 use Rattle.image.specs.Sections.{absent}
 use Rattle.draft.specs.Numbering.{oldOf}
@@ -90,9 +90,9 @@ module _ (n : ℕ) (g : ℕ → List ℕ) (w₀ : List ℕ) (at : ℕ) where
         let both = length-append (joinOf j g) (g j) in
         let size : length next ≡ length (g j) = ap length e in
         let last : at + length (joinOf j g ++ g j) ≡ k′ = omega (arith, p .end, q .end) in
-        let f : Filled at (joinOf j g ++ g j) w₀ w′ = rw (← e)
-        (more at (joinOf j g) w₀ w (p .filled) next k (k + length next) w′ (p .end) refl (omega (arith, p .room, p .end, join-within n j g h)) (q .is)) in
-        rw add-one record { within = omega arith; room = p .room; end = sym last; long = f .long; filled = f }
+        let f : Filled at (joinOf (j + 1) g) w₀ w′ =
+        more-joined at j g w₀ w (p .filled) next k (k + length next) w′ e (p .end) refl (omega (arith, p .room, p .end, join-within n j g h)) (q .is) in
+        record { within = omega arith; room = p .room; end = rw add-one (sym last); long = f .long; filled = f }
 
     pub going-end : n ≤ j → Put (joinOf n g) w₀ at w k
     going-end h =

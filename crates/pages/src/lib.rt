@@ -1,0 +1,135 @@
+// A page of nodes: many nodes in one call, in slots of twelve words, and the view of a slot's words.
+ghost use mathlib.Core.Path.{_≡_};
+ghost use Prim.Native.Nat.{_+_, _≤_};
+ghost use mathlib.Core.List.{_++_};
+ghost use lib.ListN.{length, take, drop};
+ghost use Rattle.image.specs.Sections.{commonWords};
+ghost use Rattle.image.specs.Header.{sectionsBy};
+ghost use Rattle.pages.specs.Page.{slotWords, nodeSlot, noSlot, slotOf, slotRecord, viewOfRecord, slotView, pageRule, pageAfter};
+use image::ImageView;
+use image::NodeRecord;
+use image::refusal::NOT_FOUND;
+use image::refusal::TOO_FEW_SLOTS;
+use views::NodeAnswer;
+use views::entries::RecordFound;
+
+// Words of a slot: those of a node, then two zeros.
+pub const SLOT_WORDS: usize = 12;
+
+// Words of a slot that are a node's: f6 is the last.
+const RECORD_WORDS: usize = NodeRecord::F6 + 1;
+
+// The slot of a node that has a view: parent, place, tag and f0 to f6, then 0 and 0.
+fn node_slot(node: NodeRecord) -> [u32; 12]
+    ensures { λ r. ⌜ r ≡ nodeSlot node ⌝ }
+{
+    [
+        node.parent,
+        node.place,
+        node.tag,
+        node.f0,
+        node.f1,
+        node.f2,
+        node.f3,
+        node.f4,
+        node.f5,
+        node.f6,
+        0,
+        0,
+    ]
+}
+
+// The slot of a node without a view: 18 and eleven zeros.
+fn no_slot() -> [u32; 12]
+    ensures { λ r. ⌜ r ≡ noSlot ⌝ }
+{
+    [NOT_FOUND, 0, 0, 0, 0, 0, 0, 0, 0, 0, 0, 0]
+}
+
+// The view of a record beside the payload and strings that a view bounds.
+fn view_of_record(bytes: &[u8], view: ImageView, node: NodeRecord) -> NodeAnswer
+    ensures { λ r. ⌜ r ≡ viewOfRecord (sectionsBy (now (bytes .entry)) view) node ⌝ }
+{
+    let payload = image::section_part(bytes, view.payload, ImageView::PAYLOAD_SIZE);
+    let strings = image::section_part(bytes, view.strings, ImageView::STRINGS_SIZE);
+    views::view::record_view(node, payload.len(), strings)
+}
+
+// The slot of node `id`.
+fn slot_of(bytes: &[u8], view: ImageView, id: u32) -> [u32; 12]
+    ensures { λ r. ⌜ r ≡ slotOf (sectionsBy (now (bytes .entry)) view) id ⌝ }
+{
+    match views::entries::node_of(bytes, view, id) {
+        RecordFound::NotFound => no_slot(),
+        RecordFound::Record(node) => match view_of_record(bytes, view, node) {
+            NodeAnswer::NotFound => no_slot(),
+            NodeAnswer::View(_) => node_slot(node),
+        },
+    }
+}
+
+// Writes a slot from `at` on.
+fn put_slot(slot: &[u32; 12], slots: &mut [u32], at: usize)
+    requires { ⌜ at + slotWords ≤ length (now slots) ⌝ }
+    ensures { λ _. ⌜ now (slots .exit) ≡ take at (now (slots .entry)) ++ now (slot .entry) ++ drop (at + slotWords) (now (slots .entry)) ⌝ }
+{
+    slots[at] = slot[0];
+    slots[at + 1] = slot[1];
+    slots[at + 2] = slot[2];
+    slots[at + 3] = slot[3];
+    slots[at + 4] = slot[4];
+    slots[at + 5] = slot[5];
+    slots[at + 6] = slot[6];
+    slots[at + 7] = slot[7];
+    slots[at + 8] = slot[8];
+    slots[at + 9] = slot[9];
+    slots[at + 10] = slot[10];
+    slots[at + 11] = slot[11];
+}
+
+// Writes the slot of each number, one behind the other; words after the last slot stay. 24, and nothing is written, where fewer than
+// twelve words a number are lent: that is tested before any node.
+pub fn page(bytes: &[u8], view: ImageView, numbers: &[u32], slots: &mut [u32]) -> u32
+    ensures answer { λ r. ⌜ r ≡ pageRule (length (now (numbers .entry))) (length (now (slots .entry))) ⌝ }
+    ensures written { λ _. ⌜ now (slots .exit) ≡ pageAfter (sectionsBy (now (bytes .entry)) view) (now (numbers .entry)) (now (slots .entry)) ⌝ }
+{
+    if slots.len() / SLOT_WORDS < numbers.len() {
+        return TOO_FEW_SLOTS;
+    }
+    let mut k = 0;
+    while k < numbers.len() {
+        let slot = slot_of(bytes, view, numbers[k]);
+        put_slot(&slot, slots, SLOT_WORDS * k);
+        k += 1;
+    }
+    0
+}
+
+// The node that a slot's words are.
+pub fn slot_record(slot: &[u32]) -> NodeRecord
+    requires { ⌜ commonWords ≤ length (now slot) ⌝ }
+    ensures { λ r. ⌜ r ≡ slotRecord (now (slot .entry)) ⌝ }
+{
+    NodeRecord {
+        parent: slot[NodeRecord::PARENT],
+        place: slot[NodeRecord::PLACE],
+        tag: slot[NodeRecord::TAG],
+        f0: slot[NodeRecord::F0],
+        f1: slot[NodeRecord::F1],
+        f2: slot[NodeRecord::F2],
+        f3: slot[NodeRecord::F3],
+        f4: slot[NodeRecord::F4],
+        f5: slot[NodeRecord::F5],
+        f6: slot[NodeRecord::F6],
+    }
+}
+
+// The view of a slot's words: of a slot that `page` wrote, what `node_view` answers for its number. Nothing under ten words.
+pub fn slot_view(bytes: &[u8], view: ImageView, slot: &[u32]) -> NodeAnswer
+    ensures { λ r. ⌜ r ≡ slotView (sectionsBy (now (bytes .entry)) view) (now (slot .entry)) ⌝ }
+{
+    if slot.len() < RECORD_WORDS {
+        return NodeAnswer::NotFound;
+    }
+    view_of_record(bytes, view, slot_record(slot))
+}
