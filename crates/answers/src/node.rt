@@ -20,6 +20,7 @@ ghost use lib.ListN.{length, drop};
 ghost use Rattle.image.specs.Header.{sectionsBy};
 ghost use Rattle.records.specs.Fields.{kindOf};
 ghost use Rattle.views.specs.View.{kindView, recordView, nodeView};
+ghost use Rattle.pages.specs.Page.{slotView};
 ghost use Rattle.views.specs.Shown.{containerView, divertView, listView, withName, textKind};
 ghost use Rattle.answers.specs.AnswerWords.{Answered, bitIf};
 ghost use Rattle.answers.specs.NodeViewWords.{nodeAnswer};
@@ -222,6 +223,18 @@ pub fn put_record_view(node: NodeRecord, payload: usize, strings: &[u8], answer:
             0
         }
     }
+}
+
+// The words of the view of a slot's words.
+pub fn put_slot_view(bytes: &[u8], view: ImageView, slot: &[u32], answer: &mut [u32]) -> u32
+    ensures { λ r. ⌜ Answered (nodeAnswer (slotView (sectionsBy (now (bytes .entry)) view) (now (slot .entry)))) (now (answer .entry)) (now (answer .exit)) r ⌝ }
+{
+    if slot.len() < pages::RECORD_WORDS {
+        return NOT_FOUND;
+    }
+    let payload = image::section_part(bytes, view.payload, ImageView::PAYLOAD_SIZE);
+    let strings = image::section_part(bytes, view.strings, ImageView::STRINGS_SIZE);
+    put_record_view(pages::slot_record(slot), payload.len(), strings, answer)
 }
 
 // The words of a node's view.

@@ -2,11 +2,12 @@
 use Prim.Native.Nat.{ℕ, zero, suc, _+_, _-_, _≤_, _<_}
 use mathlib.Core.Path.{_≡_, refl, sym, ap, _∙_}
 use mathlib.Core.Logic.{⊎-elim}
-use mathlib.Core.List.{List, [], _∷_, _++_, List·Memᴰ·head, List·Memᴰ·tail, List·Memᴰ·cases-cons, List·Memᴰ·not-nil}
+use mathlib.Core.List.{List, [], _∷_, _++_, append-nil, List·Memᴰ·head, List·Memᴰ·tail, List·Memᴰ·cases-cons, List·Memᴰ·not-nil}
 use native.Mathlib.Omega.{arith}
 use native.Mathlib.Numerals.{add-one}
-use lib.ListN.{length, getD, take, drop, set, length-drop}
+use lib.ListN.{length, getD, take, drop, set, length-drop, drop-of-length-le}
 use lib.Seq.{take-all, take-length, take-take, drop-drop, drop-cons}
+use borrow.Rule.Slice.PartMut.{putMid}
 use Rattle.laws.specs.Lists.{Below}
 
 -- ---- lists whose elements are below a bound
@@ -43,6 +44,12 @@ drop-more a b x y h e =
 -- a part that runs to the end
 pub to-end : (k : ℕ) (s : List ℕ) → take (length s - k) (drop k s) ≡ drop k s
 to-end k s = take-all (length s - k) (drop k s) (simp length-drop (omega arith))
+
+-- a part that was lent from k to the end, as it comes back
+pub part-back : (k : ℕ) (s part : List ℕ) → putMid k (length s - k) s part ≡ take k s ++ part
+part-back k s part =
+    let none : drop (length s - k) (drop k s) ≡ [] = drop-of-length-le (drop k s) {i = length s - k} (omega (arith, length-drop k s)) in
+    ap (λ (l : List ℕ). take k s ++ l) (ap (λ (l : List ℕ). part ++ l) none ∙ append-nil part)
 
 -- a part of the first n elements
 pub part-of-first : (l : List ℕ) (n at len : ℕ) → at + len ≤ n → take len (drop at (take n l)) ≡ take len (drop at l)

@@ -20,6 +20,15 @@ unfolding joinOf flatMap
 join-flat g [] = refl
 join-flat g (x ∷ xs) = join-front (length xs) (λ j. g (getD (x ∷ xs) j 0)) ∙ ap (λ (l : List ℕ). g x ++ l) (join-flat g xs)
 
+singles : (xs : List ℕ) → flatMap (λ x. x ∷ []) xs ≡ xs
+unfolding flatMap
+singles [] = refl
+singles (x ∷ xs) = ap (λ (l : List ℕ). x ∷ l) (singles xs)
+
+-- a list is its elements, taken by number
+pub words-joined : (xs : List ℕ) → joinOf (length xs) (λ j. getD xs j 0 ∷ []) ≡ xs
+words-joined xs = join-flat (λ x. x ∷ []) xs ∙ singles xs
+
 -- ---- pieces of w elements each
 
 module _ (w : ℕ) (g : ℕ → List ℕ) (each : (x : ℕ) → length (g x) ≡ w) where

@@ -84,12 +84,16 @@ pub record SlotTag (s : Sections) (i : ℕ) : Type 0 where
   pub none : nodeView s i ≡ node.NotFound → getD (slotOf s i) 2 0 ≡ 0
   pub zero : getD (slotOf s i) 2 0 ≡ 0 → nodeView s i ≡ node.NotFound
 
--- where nothing is refused: slot k is that of the k-th number, so equal numbers have equal slots; later words are as they were
+-- slot k is that of the k-th number, so equal numbers have equal slots; words after the last slot are as they were
 pub record PageSlots (s : Sections) (numbers slots : List ℕ) : Type 0 where
   pub slot : (k : ℕ) → k < length numbers → take slotWords (drop (slotWords * k) (pageAfter s numbers slots)) ≡ slotOf s (getD numbers k 0)
   pub equal : (j k : ℕ) → j < length numbers → k < length numbers → getD numbers j 0 ≡ getD numbers k 0
       → take slotWords (drop (slotWords * j) (pageAfter s numbers slots)) ≡ take slotWords (drop (slotWords * k) (pageAfter s numbers slots))
   pub later : drop (slotWords * length numbers) (pageAfter s numbers slots) ≡ drop (slotWords * length numbers) slots
+
+-- where the page is not refused
+abbrev pub PagesWritten : Type 0
+PagesWritten = (s : Sections) (numbers slots : List ℕ) → pageRule (length numbers) (length slots) ≡ 0 → PageSlots s numbers slots
 
 -- names on an `unfolding` line what a computation with this module needs
 unfoldable pub pages : Unit {0}

@@ -1,8 +1,8 @@
 // A page of nodes: many nodes in one call, in slots of twelve words, and the view of a slot's words.
 ghost use mathlib.Core.Path.{_≡_};
-ghost use Prim.Native.Nat.{_+_, _≤_};
+ghost use Prim.Native.Nat.{_≤_};
 ghost use mathlib.Core.List.{_++_};
-ghost use lib.ListN.{length, take, drop};
+ghost use lib.ListN.{length, drop};
 ghost use Rattle.image.specs.Sections.{commonWords};
 ghost use Rattle.image.specs.Header.{sectionsBy};
 ghost use Rattle.pages.specs.Page.{slotWords, nodeSlot, noSlot, slotOf, slotRecord, viewOfRecord, slotView, pageRule, pageAfter};
@@ -17,7 +17,7 @@ use views::entries::RecordFound;
 pub const SLOT_WORDS: usize = 12;
 
 // Words of a slot that are a node's: f6 is the last.
-const RECORD_WORDS: usize = NodeRecord::F6 + 1;
+pub const RECORD_WORDS: usize = NodeRecord::F6 + 1;
 
 // The slot of a node that has a view: parent, place, tag and f0 to f6, then 0 and 0.
 fn node_slot(node: NodeRecord) -> [u32; 12]
@@ -68,23 +68,23 @@ fn slot_of(bytes: &[u8], view: ImageView, id: u32) -> [u32; 12]
     }
 }
 
-// Writes a slot from `at` on.
-fn put_slot(slot: &[u32; 12], slots: &mut [u32], at: usize)
-    requires { ⌜ at + slotWords ≤ length (now slots) ⌝ }
-    ensures { λ _. ⌜ now (slots .exit) ≡ take at (now (slots .entry)) ++ now (slot .entry) ++ drop (at + slotWords) (now (slots .entry)) ⌝ }
+// Writes a slot at the start of words that hold it.
+fn put_slot(slot: &[u32; 12], out: &mut [u32])
+    requires { ⌜ (length (now slot) ≡ slotWords) × (slotWords ≤ length (now out)) ⌝ }
+    ensures { λ _. ⌜ now (out .exit) ≡ now (slot .entry) ++ drop slotWords (now (out .entry)) ⌝ }
 {
-    slots[at] = slot[0];
-    slots[at + 1] = slot[1];
-    slots[at + 2] = slot[2];
-    slots[at + 3] = slot[3];
-    slots[at + 4] = slot[4];
-    slots[at + 5] = slot[5];
-    slots[at + 6] = slot[6];
-    slots[at + 7] = slot[7];
-    slots[at + 8] = slot[8];
-    slots[at + 9] = slot[9];
-    slots[at + 10] = slot[10];
-    slots[at + 11] = slot[11];
+    out[0] = slot[0];
+    out[1] = slot[1];
+    out[2] = slot[2];
+    out[3] = slot[3];
+    out[4] = slot[4];
+    out[5] = slot[5];
+    out[6] = slot[6];
+    out[7] = slot[7];
+    out[8] = slot[8];
+    out[9] = slot[9];
+    out[10] = slot[10];
+    out[11] = slot[11];
 }
 
 // Writes the slot of each number, one behind the other; words after the last slot stay. 24, and nothing is written, where fewer than
@@ -99,7 +99,7 @@ pub fn page(bytes: &[u8], view: ImageView, numbers: &[u32], slots: &mut [u32]) -
     let mut k = 0;
     while k < numbers.len() {
         let slot = slot_of(bytes, view, numbers[k]);
-        put_slot(&slot, slots, SLOT_WORDS * k);
+        put_slot(&slot, &mut slots[SLOT_WORDS * k..]);
         k += 1;
     }
     0

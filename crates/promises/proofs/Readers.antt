@@ -9,6 +9,7 @@ use borrow.Author.Tests.{eq-eqb, ne-eqb, lt-ltb, le-ltb}
 use Rattle.laws.proofs.Flags.{both-true}
 use Rattle.words.specs.Words.{NONE}
 use Rattle.image.specs.Sections.{Sections, nodeCount, childCount, namedCount, definitionCount, itemCount, definitionWord, itemWord, parentOf, placeOf, tagOf, f, inside, isContainer, insideContainer}
+use Rattle.image.specs.Entries.{nodeIn}
 use Rattle.image.specs.declared.ImageView.{ImageView}
 use Rattle.image.specs.Refusals.{notFound}
 use Rattle.image.proofs.Tests.{inside-true}
@@ -26,6 +27,8 @@ use Rattle.views.specs.View.{signed, span, optionalWord, nodeView}
 use Rattle.views.specs.Children.{childCountOf, namedCountOf, childQuery, namedEntry, namedQuery}
 use Rattle.views.specs.Lists.{definitionQuery, itemEntry, itemQuery}
 use Rattle.depth.specs.Depth.{depthOf, StepsToRoot}
+use Rattle.pages.specs.Page.{noSlot, slotOf}
+use Rattle.pages.proofs.Slots.{slot-missing, slot-found, slot-views}
 use Rattle.depth.proofs.Steps.{of-same, climb-next, steps-parent, depth-counted, outside-none}
 use Rattle.promises.specs.Promises.{ReachesRoot}
 use Rattle.promises.specs.Readers.{stepUp, ascend, DepthRead, ChildRead, NamedRead, Reads, NumberedItemRead, DefinitionItemRead, DefinitionRead, ImageReads, AcceptedReads}
@@ -137,6 +140,10 @@ module _ (s : Sections) (g : Kept s) where
   unfolding depthOf
   no-depth i h = ap ofCount (outside-none s (nodeCount s) i (rw (le-ltb i (nodeCount s) h)))
 
+  no-slot : (i : ℕ) → nodeCount s ≤ i → slotOf s i ≡ noSlot
+  unfolding nodeView
+  no-slot i h = sym (slot-missing s i (rw (le-ltb i (nodeCount s) h)))
+
   -- ---- children
 
   module _ (i : ℕ) (h : i < nodeCount s) where
@@ -189,6 +196,8 @@ module _ (s : Sections) (g : Kept s) where
           viewed = ap ofNode (v .view-is);
           texts = view-whole s i (kindOf (tagOf s i)) (v .kind) (g .rules .fields i h) (v .kind-is);
           lists = view-read s i (kindOf (tagOf s i)) (v .kind) (g .rules .fields i h) (v .kind-is);
+          slot = sym (slot-found s i (viewAt i h) (sym (v .view-is)) (nodeIn s i) refl);
+          slot-viewed = ap ofNode (slot-views s i ∙ v .view-is);
           ascends = λ k l. ascends-to (up .steps) i h (up .arrives) k (omega (arith, up .few));
           parentless = λ e. elim (ℕ-discrete i 0) [
             | yes z ↦ z
@@ -241,7 +250,7 @@ module _ (s : Sections) (g : Kept s) where
       }
 
   pub image-reads : ImageReads s
-  image-reads = record { nodes = reads s g; no-depth = no-depth s g; definitions = definition-read; items = each-item }
+  image-reads = record { nodes = reads s g; no-depth = no-depth s g; no-slot = no-slot s g; definitions = definition-read; items = each-item }
 
 -- ---- after a load
 

@@ -7,6 +7,7 @@ use lib.ListN.{length}
 use Rattle.laws.specs.Lists.{Below}
 use Rattle.words.specs.Words.{wordAt}
 use Rattle.image.specs.Sections.{Sections, goodBytes, nodeCount, definitionCount, itemCount, f, isContainer}
+use Rattle.image.specs.Entries.{nodeIn}
 use Rattle.image.specs.declared.ImageView.{ImageView}
 use Rattle.image.specs.Header.{sectionsBy}
 use Rattle.image.specs.Refusals.{notFound}
@@ -31,6 +32,7 @@ use Rattle.views.specs.View.{nodeView}
 use Rattle.views.specs.Children.{childCountOf, namedCountOf, childQuery, namedQuery, textQuery, shownText}
 use Rattle.views.specs.Lists.{listPart, listEntry, listOrigin, definitionQuery, itemEntry, itemQuery}
 use Rattle.depth.specs.Depth.{depthOf}
+use Rattle.pages.specs.Page.{nodeSlot, noSlot, slotOf, slotView}
 use Rattle.promises.specs.Promises.{ReachesRoot}
 use Rattle.promises.specs.Answers.{given, refused, ofLoaded, ofNode, ofFound, ofCount, ofNamed, ofText, ofEntry, ofDefinition, ofItem}
 
@@ -167,6 +169,9 @@ pub record Reads (s : Sections) (i : ℕ) : Type 0 where
   pub viewed : ofNode (nodeView s i) ≡ given view
   pub texts : (t : Span) → List·Memᴰ t (viewTexts (view .kind)) → Whole s t
   pub lists : (p : Span) → List·Memᴰ p (viewLists (view .kind)) → ListRead s p
+  -- in a page its slot is its words as the image holds them and two zeros, and the view of the slot's words is the node's
+  pub slot : slotOf s i ≡ nodeSlot (nodeIn s i)
+  pub slot-viewed : ofNode (slotView s (slotOf s i)) ≡ given view
   -- fewer steps than nodes lead to node 0, which alone has no parent
   pub ascends : (k : ℕ) → nodeCount s ≤ suc k → ascend s k i ≡ 0
   pub parentless : view .parent ≡ word.Absent → i ≡ 0
@@ -202,8 +207,9 @@ pub record DefinitionRead (s : Sections) (d : ℕ) : Type 0 where
 
 pub record ImageReads (s : Sections) : Type 0 where
   pub nodes : (i : ℕ) → i < nodeCount s → Reads s i
-  -- past the last node there is no depth
+  -- past the last node there is no depth, and a slot is 18 and eleven zeros
   pub no-depth : (i : ℕ) → nodeCount s ≤ i → ofCount (depthOf s i) ≡ refused notFound
+  pub no-slot : (i : ℕ) → nodeCount s ≤ i → slotOf s i ≡ noSlot
   pub definitions : (d : ℕ) → d < definitionCount s → DefinitionRead s d
   pub items : (k : ℕ) → k < itemCount s → NumberedItemRead s k
 

@@ -1,12 +1,12 @@
 -- What is promised of exported queries: of any bytes, how many words an answer has, so that 18 means that there is none where the view
 -- and the answer are long enough; of accepted bytes, that nothing sticks at the edge: an exported query answers exactly if the inner
 -- one does, with its words.
-use Prim.Native.Nat.{ℕ, _+_, _≤_}
+use Prim.Native.Nat.{ℕ, _+_, _*_, _≤_, _<_}
 use mathlib.Core.Path.{_≡_}
 use mathlib.Core.List.{List, [], _∷_}
 use mathlib.Core.Bool.{Bool}
 use mathlib.Core.Option.{Option, none, some}
-use lib.ListN.{length}
+use lib.ListN.{length, getD, take, drop}
 use Rattle.laws.specs.Lists.{Below}
 use Rattle.image.specs.Sections.{Sections, definitionCount}
 use Rattle.image.specs.Header.{viewOf, sectionsOf}
@@ -23,10 +23,11 @@ use Rattle.lookups.specs.declared.ListItemAnswer.the-variants as listed
 use Rattle.lookups.specs.Lookup.{findNamed, listItem}
 use Rattle.walks.specs.Walk.{components, resolve}
 use Rattle.depth.specs.Depth.{depthOf}
+use Rattle.pages.specs.Page.{slotWords, pageRule, pageAfter, slotView}
 use Rattle.answers.specs.AnswerWords.{numberOf, unsigned, foundAnswer, countAnswer, namedAnswer, placeAnswer, entryAnswer, definitionAnswer, itemAnswer, listCountWords}
 use Rattle.answers.specs.NodeViewWords.{nodeAnswer, listPlace}
 use Rattle.story_image.specs.Exported.{viewLength, wordsOfView, writtenAfter}
-use Rattle.story_image.specs.Queries.{atList, firstWords, answerOfNodeView, answerOfDepth, answerOfText, answerOfChildCount, answerOfChild, answerOfNamedChildCount, answerOfNamedChild, answerOfFindNamedChild, answerOfListPayload, answerOfListCounts, answerOfNodeListEntry, answerOfNodeListOrigin, answerOfDefinitionCount, answerOfDefinition, answerOfFirstItem, answerOfDefinitionItem, answerOfListItem, answerOfWalk}
+use Rattle.story_image.specs.Queries.{atList, firstWords, answerOfNodeView, pageNumber, pageWritten, answerOfSlotView, answerOfDepth, answerOfText, answerOfChildCount, answerOfChild, answerOfNamedChildCount, answerOfNamedChild, answerOfFindNamedChild, answerOfListPayload, answerOfListCounts, answerOfNodeListEntry, answerOfNodeListOrigin, answerOfDefinitionCount, answerOfDefinition, answerOfFirstItem, answerOfDefinitionItem, answerOfListItem, answerOfWalk}
 
 -- ---- the words of answers, without a case for numbers that a word does not hold
 
@@ -57,9 +58,16 @@ pub record ViewOf (bs view : List ℕ) : Type 0 where
   pub long : viewLength ≤ length lent
   pub written : view ≡ writtenAfter 0 (wordsOfView (viewOf bs)) lent
 
+-- an exported page against the inner one: the same number and the same words
+pub record PageExports (bs view : List ℕ) (s : Sections) (numbers slots : List ℕ) : Type 0 where
+  pub number : pageNumber (length view) (length numbers) (length slots) ≡ pageRule (length numbers) (length slots)
+  pub written : pageWritten bs view numbers slots ≡ pageAfter s numbers slots
+
 -- each exported query by the words of a view, against the inner query on the image's sections
 pub record Exports (bs view : List ℕ) (s : Sections) : Type 0 where
   pub node-view : (i : ℕ) → Answers 10 (answerOfNodeView bs view i) (nodeAnswer (nodeView s i))
+  pub page : (numbers slots : List ℕ) → PageExports bs view s numbers slots
+  pub slot-view : (slot : List ℕ) → Answers 10 (answerOfSlotView bs view slot) (nodeAnswer (slotView s slot))
   pub depth : (i : ℕ) → Answers 1 (answerOfDepth bs view i) (countAnswer (depthOf s i))
   pub text : (at len : ℕ) → Answers 2 (answerOfText bs view at len) (wordsOfText (viewOf bs .strings .offset) (textQuery s (span at len)))
   pub child-count : (i : ℕ) → Answers 1 (answerOfChildCount bs view i) (countAnswer (childCountOf s i))
@@ -85,3 +93,11 @@ pub record Exports (bs view : List ℕ) (s : Sections) : Type 0 where
 -- of all bytes that a load accepts
 abbrev pub AcceptedExports : Type 0
 AcceptedExports = (bs view : List ℕ) (work : ℕ) → Below 256 bs → loadRule bs work ≡ 0 → ViewOf bs view → Exports bs view (sectionsOf bs)
+
+-- ---- of all bytes and all views: a page and the view of a slot's words against the lone call
+
+-- of a page that is not refused, the view of the words of slot k, under the same view, is what the lone call gives for the k-th number
+abbrev pub PagedViews : Type 0
+PagedViews =
+    (bs view numbers slots : List ℕ) → pageNumber (length view) (length numbers) (length slots) ≡ 0 → (k : ℕ) → k < length numbers
+    → answerOfSlotView bs view (take slotWords (drop (slotWords * k) (pageWritten bs view numbers slots))) ≡ answerOfNodeView bs view (getD numbers k 0)

@@ -1,11 +1,13 @@
 -- What each exported query answers, on an image's bytes and the words of a view: its words, or none.
 use Prim.Native.Nat.{ℕ}
 use mathlib.Core.List.{List, [], _∷_}
-use mathlib.Core.Bool.{Bool}
+use mathlib.Core.Bool.{Bool, cond}
 use mathlib.Core.Option.{Option, none, some}
 use lib.ListN.{length}
+use lib.Dec.{leb}
 use Rattle.image.specs.Sections.{Sections, definitionCount}
 use Rattle.image.specs.Header.{sectionsBy}
+use Rattle.image.specs.Refusals.{notFound}
 use Rattle.index.specs.Definitions.{firstItem}
 use Rattle.views.specs.declared.Span.{Span}
 use Rattle.views.specs.declared.DefinitionAnswer.{DefinitionAnswer}
@@ -16,9 +18,10 @@ use Rattle.views.specs.Lists.{listPart, listEntry, listOrigin, definitionQuery,
 use Rattle.lookups.specs.Lookup.{findNamed, listItem}
 use Rattle.walks.specs.Walk.{components, resolve}
 use Rattle.depth.specs.Depth.{depthOf}
+use Rattle.pages.specs.Page.{pageRule, pageAfter, slotView}
 use Rattle.answers.specs.AnswerWords.{countWords, foundAnswer, countAnswer, namedAnswer, placeAnswer, partWords, partAnswer, entryAnswer, definitionAnswer, itemAnswer, listItemAnswer, listCountWords}
 use Rattle.answers.specs.NodeViewWords.{nodeAnswer, listPlace}
-use Rattle.story_image.specs.Exported.{under}
+use Rattle.story_image.specs.Exported.{viewLength, viewBy, under}
 
 -- of a list value, where the node is one
 abbrev pub atList : Option Span → (Span → Option (List ℕ)) → Option (List ℕ)
@@ -30,9 +33,20 @@ abbrev pub firstWords : Sections → ℕ → DefinitionAnswer → Option (List �
 firstWords s d (definition.Definition found) = some (firstItem s d ∷ [])
 firstWords s d definition.NotFound = none
 
+-- the number of a page, by how many words of a view, numbers and words of slots are lent: 18 before all else under too few of a view
+unfoldable pub pageNumber : ℕ → ℕ → ℕ → ℕ
+pageNumber view numbers slots = cond (leb viewLength view) (pageRule numbers slots) notFound
+
 module _ (bytes view : List ℕ) where
   abbrev pub answerOfNodeView : ℕ → Option (List ℕ)
   answerOfNodeView node = under view (λ v. nodeAnswer (nodeView (sectionsBy bytes v) node))
+
+  -- the slots of a page on return; under a view of too few words nothing is written
+  unfoldable pub pageWritten : List ℕ → List ℕ → List ℕ
+  pageWritten numbers slots = cond (leb viewLength (length view)) (pageAfter (sectionsBy bytes (viewBy view)) numbers slots) slots
+
+  abbrev pub answerOfSlotView : List ℕ → Option (List ℕ)
+  answerOfSlotView slot = under view (λ v. nodeAnswer (slotView (sectionsBy bytes v) slot))
 
   abbrev pub answerOfDepth : ℕ → Option (List ℕ)
   answerOfDepth node = under view (λ v. countAnswer (depthOf (sectionsBy bytes v) node))

@@ -1,17 +1,17 @@
 -- A merge sort of the first n words of a list, with words after them to work in and tables behind those: what its merge keeps, and why its parts add up.
 use Prim.Native.Nat.{ℕ, _+_, _-_, suc, _≤_, _<_}
 use mathlib.Core.Path.{_≡_, refl, sym, ap, _∙_}
-use mathlib.Core.List.{List, [], _∷_, _++_, append-assoc, append-nil}
+use mathlib.Core.List.{List, [], _∷_, _++_, append-assoc}
 use mathlib.Core.Bool.{Bool, true, false}
 use native.Mathlib.Nat.{add-zero, zero-add}
 use native.Mathlib.Omega.{arith}
 use native.Mathlib.Numerals.{add-one}
 use borrow.Author.Tests.{ltb-true, ltb-false}
 use lib.Dec.{ltb}
-use lib.ListN.{length, take, drop, set, getD, length-set, length-append, length-drop, List·getD-append, drop-of-length-le}
-use lib.Seq.{drop-cons, take-suc-set, take-all, take-add, drop-drop, getD-drop, drop-set-lt, length-take-le, take-at, drop-at, paste, paste-suc, length-paste, getD-take}
+use lib.ListN.{length, take, drop, set, getD, length-set, length-append, length-drop, List·getD-append}
+use lib.Seq.{drop-cons, take-suc-set, take-add, drop-drop, getD-drop, drop-set-lt, length-take-le, take-at, drop-at, paste, paste-suc, length-paste, getD-take}
 use Rattle.laws.specs.Sorted.{isort}
-use Rattle.laws.proofs.Lists.{drop-more}
+use Rattle.laws.proofs.Lists.{drop-more, to-end, part-back}
 use Rattle.write_sorting.specs.Sorted.{merge, rightFirst, takesRight, Strict, part, Ordered}
 use Rattle.write_sorting.proofs.Laws.{cases, differ, merge-nil, sort-append, first-left, first-right}
 use Rattle.write_sorting.proofs.OrderedLists.{ordered-isort, merge-ordered}
@@ -174,11 +174,10 @@ abbrev pub back : ℕ → List ℕ → List ℕ → List ℕ
 back m w y = take m w ++ (y ++ drop (length w - m) (drop m w))
 
 pub lent-part : (w : List ℕ) (m : ℕ) → m ≤ length w → lent m w ≡ drop m w
-lent-part w m h = take-all (length w - m) (drop m w) (omega (arith, length-drop m w))
+lent-part w m h = to-end m w
 
 pub lent-back : (w y : List ℕ) (m : ℕ) → m ≤ length w → back m w y ≡ take m w ++ y
-lent-back w y m h =
-    let e : drop (length w - m) (drop m w) ≡ [] = drop-of-length-le (drop m w) {i = length w - m} (omega (arith, length-drop m w)) in rw (e, append-nil)
+lent-back w y m h = part-back m w y
 
 -- the tables from `at` on, seen from the lent part
 pub lent-behind : (w : List ℕ) (m at : ℕ) → m ≤ at → at ≤ length w → drop (at - m) (lent m w) ≡ drop at w

@@ -1,63 +1,78 @@
+-- `pages::page` meets its contract. The loop's invariant: the slots of the numbers before k are written.
+use Prim.Native.Nat.{_-_}
+use denote.Ref.{now}
+use native.Mathlib.Omega.{arith}
+use lib.ListN.{length}
+use Rattle.image.specs.Header.{sectionsBy}
+use Rattle.pages.proofs.Slots.{slot-as-long, PageSoFar, page-refused, page-start, page-next, page-end}
+use borrow.Author.Needs.{needs}
 use Rattle.pages.proofs.page.Statement.{statement}
 use Rattle.pages.proofs.page.Tie as tie
-use Rattle.pages.proofs.page.Reads as reads
-use Rattle.pages.proofs.page.Lts as lts
-use Rattle.pages.proofs.put_slot.Reads as put-slot-reads
-use Rattle.pages.proofs.slot_of.Reads as slot-of-reads
 
 abbrev Inv-loop : tie.InvT-loop
-Inv-loop bytes view numbers slots₀ k₀ slots k = ?
+Inv-loop bytes view numbers slots₀ k₀ slots k = PageSoFar (sectionsBy bytes view) numbers slots₀ slots k
 
 abbrev μ-loop : tie.MeasureT-loop
-μ-loop bytes view numbers slots₀ k₀ slots k = ?
+μ-loop bytes view numbers slots₀ k₀ slots k = length numbers - k
 
--- src/lib.rt:97:9
 returns : tie.Need-returns Inv-loop μ-loop
-returns c = ?
+returns c =
+    let a = c .before .before .before .before .args in
+    page-refused (sectionsBy (now (a .bytes)) (a .view)) (now (a .numbers)) (now (a .slots)) (omega arith)
 
--- src/lib.rt:100:5
 loop-holds : tie.Need-loop-holds Inv-loop μ-loop
-loop-holds c = ?
+loop-holds c =
+    let a = c .before .before .before .before .args in
+    page-start (sectionsBy (now (a .bytes)) (a .view)) (now (a .numbers)) (now (a .slots)) (omega arith)
 
--- src/lib.rt:101:41
 mul-slot-of : tie.Need-mul-slot-of Inv-loop μ-loop
-mul-slot-of c = ?
+mul-slot-of c = search needs
 
--- src/lib.rt:101:41
 shared-slice-read-slot-of : tie.Need-shared-slice-read-slot-of Inv-loop μ-loop
-shared-slice-read-slot-of c = ?
+shared-slice-read-slot-of c = search needs
 
--- src/lib.rt:101:20
 slot-of-requires : tie.Need-slot-of-requires Inv-loop μ-loop
-slot-of-requires c κs = ?
+slot-of-requires c κs = search needs
 
--- src/lib.rt:102:32
 mul-put-slot : tie.Need-mul-put-slot Inv-loop μ-loop
-mul-put-slot c = ?
+mul-put-slot c = search needs
 
--- src/lib.rt:102:9
+mul-put-slot-2 : tie.Need-mul-put-slot-2 Inv-loop μ-loop
+mul-put-slot-2 c = search needs
+
+sub-put-slot : tie.Need-sub-put-slot Inv-loop μ-loop
+sub-put-slot c = search needs
+
+part-put-slot-start : tie.Need-part-put-slot-start Inv-loop μ-loop
+part-put-slot-start c = search needs
+
+part-put-slot-end : tie.Need-part-put-slot-end Inv-loop μ-loop
+part-put-slot-end c = search needs
+
 put-slot-requires : tie.Need-put-slot-requires Inv-loop μ-loop
-put-slot-requires c κs = ?
+put-slot-requires c κs = (slot-as-long _ _ _ (c .before .before .slot-of .ensures), search needs)
 
--- src/lib.rt:103:9
 add-k : tie.Need-add-k Inv-loop μ-loop
-add-k c = ?
+add-k c = search needs
 
--- src/lib.rt:100:5
 loop-less : tie.Need-loop-less Inv-loop μ-loop
-loop-less c = ?
+loop-less c = search needs
 
--- src/lib.rt:100:5
 loop-again : tie.Need-loop-again Inv-loop μ-loop
-loop-again c = ?
+loop-again c =
+    let l = c .before .before .before .before .before .before .before .before in
+    let a = l .before .before .before .before .before .args in
+    page-next (sectionsBy (now (a .bytes)) (a .view)) (now (a .numbers)) (now (a .slots)) (l .loop .slots) (l .loop .k) (l .loop .inv) _ _
+    (c .before .before .before .before .before .before .before .loop-test .taken) (c .before .before .before .before .before .slot-of .ensures) (c .before .before .put-slot .ensures)
 
--- src/lib.rt:92:1
 same-length : tie.Need-same-length Inv-loop μ-loop
-same-length c = ?
+same-length c = search needs
 
--- src/lib.rt:92:1
 returns-2 : tie.Need-returns-2 Inv-loop μ-loop
-returns-2 c = ?
+returns-2 c =
+    let l = c .before in
+    let a = l .before .before .before .before .before .args in
+    page-end (sectionsBy (now (a .bytes)) (a .view)) (now (a .numbers)) (now (a .slots)) (l .loop .slots) (l .loop .k) (l .loop .inv) (c .loop-test .left)
 
 pub page-spec : {M : Type 1} → statement M
 page-spec =
@@ -71,6 +86,10 @@ page-spec =
     shared-slice-read-slot-of
     slot-of-requires
     mul-put-slot
+    mul-put-slot-2
+    sub-put-slot
+    part-put-slot-start
+    part-put-slot-end
     put-slot-requires
     add-k
     loop-less

@@ -1,26 +1,21 @@
+-- `pages::slot_view` meets its contract.
+use mathlib.Core.Path.{_∙_}
+use Rattle.pages.proofs.Slots.{slot-short, slot-viewed}
 use borrow.Author.Needs.{needs}
 use Rattle.pages.proofs.slot_view.Statement.{statement}
 use Rattle.pages.proofs.slot_view.Tie as tie
-use Rattle.pages.proofs.slot_view.Reads as reads
-use Rattle.pages.proofs.slot_view.Lts as lts
-use Rattle.pages.proofs.slot_record.Reads as slot-record-reads
-use Rattle.pages.proofs.view_of_record.Reads as view-of-record-reads
 
--- src/lib.rt:132:9
 returns : tie.Need-returns
-returns c = ?
+returns c = slot-short _ _ (c .if1 .taken)
 
--- src/lib.rt:134:33
 slot-record-requires : tie.Need-slot-record-requires
 slot-record-requires c κs = search needs
 
--- src/lib.rt:134:5
 view-of-record-requires : tie.Need-view-of-record-requires
 view-of-record-requires c κs = search needs
 
--- src/lib.rt:128:1
 returns-2 : tie.Need-returns-2
-returns-2 c = ?
+returns-2 c = c .view-of-record .ensures ∙ slot-viewed _ _ (c .before .before .if1 .left) _ (c .before .slot-record .ensures)
 
 pub slot-view-spec : {M : Type 1} → statement M
 slot-view-spec =

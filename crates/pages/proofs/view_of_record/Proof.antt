@@ -1,26 +1,29 @@
+-- `pages::view_of_record` meets its contract.
+use mathlib.Core.Path.{sym, ap, _∙_}
+use denote.Ref.{now}
+use lib.ListN.{length}
+use Rattle.image.specs.Header.{sectionsBy}
+use Rattle.image.proofs.Views.{payload-by, strings-by}
+use Rattle.pages.proofs.Slots.{record-viewed}
 use borrow.Author.Needs.{needs}
 use Rattle.pages.proofs.view_of_record.Statement.{statement}
 use Rattle.pages.proofs.view_of_record.Tie as tie
-use Rattle.pages.proofs.view_of_record.Reads as reads
-use Rattle.pages.proofs.view_of_record.Lts as lts
-use Rattle.image.proofs.section_part.Reads as section-part-reads
-use Rattle.views.proofs.view.record_view.Reads as record-view-reads
 
--- src/lib.rt:53:9
 section-part-requires : tie.Need-section-part-requires
 section-part-requires c κs = search needs
 
--- src/lib.rt:54:9
 section-part-requires-2 : tie.Need-section-part-requires-2
 section-part-requires-2 c κs = search needs
 
--- src/lib.rt:55:5
 record-view-requires : tie.Need-record-view-requires
 record-view-requires c κs = search needs
 
--- src/lib.rt:50:1
 returns : tie.Need-returns
-returns c = ?
+returns c =
+    let a = c .before .before .before .before .args in
+    let payload = ap length (payload-by (now (a .bytes)) (a .view) ∙ sym (c .before .before .section-part .ensures)) in
+    let strings = strings-by (now (a .bytes)) (a .view) ∙ sym (c .before .section-part2 .ensures) in
+    record-viewed (sectionsBy (now (a .bytes)) (a .view)) (a .node) _ _ payload strings _ (c .record-view .ensures)
 
 pub view-of-record-spec : {M : Type 1} → statement M
 view-of-record-spec =
