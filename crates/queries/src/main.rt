@@ -1,8 +1,9 @@
-// Runs FORMAT.md's examples of list items by name, of a relative walk and of depths through the code. Standard input holds seven images,
-// each behind its length. Of the first three all but depths is asked: one with the definitions red and size, which both hold low; one whose
-// root has a glue as its child; and that one with a bit of its checksum turned, which is refused. Of the others the depths of nodes: the
-// smallest; one whose nodes 1 and 2 are each the other's parent, which is refused; one with a container that is only a named child; and
-// a chain of six containers, the last of which is node 1.
+// Runs FORMAT.md's examples of list items by name, of a relative walk, of depths and of pages through the code. Standard input holds nine
+// images, each behind its length. Of the first three items and walks are asked: one with the definitions red and size, which both hold low;
+// one whose root has a glue as its child; and that one with a bit of its checksum turned, which is refused. Of the next four the depths of
+// nodes: the smallest; one whose nodes 1 and 2 are each the other's parent, which is refused; one with a container that is only a named
+// child; and a chain of six containers, the last of which is node 1. Pages of the one with the named child, and of the last two: a root
+// with a child of tag 15, which is refused; and forty nodes of all kinds but lists.
 ghost use Prim.Native.Nat.{_≤_};
 use image::ImageView;
 use image::Opened;
@@ -13,6 +14,8 @@ use load::Loaded;
 use lookups::ListItemAnswer;
 use views::Count;
 use views::Found;
+
+mod page; // page.rt: pages of nodes
 
 fn print(text: &[u8]) {
     io::write_all(STDOUT_FILENO, text);
@@ -154,7 +157,7 @@ fn part(records: &[u8], at: u32) -> &[u8]
     )
 }
 
-// The images that are asked all but depths.
+// The images that are asked items and walks.
 fn run_all(records: &[u8]) {
     run(part(records, 0));
     run(part(records, 210));
@@ -169,9 +172,17 @@ fn run_depths(records: &[u8]) {
     depths(b"chain", part(records, 1341));
 }
 
+// The images that are asked pages.
+fn run_pages(records: &[u8]) {
+    page::run_four(part(records, 1030));
+    page::run_refused(part(records, 1774));
+    page::run_forty(part(records, 1962));
+}
+
 fn main() {
     let mut buffer = io::large_buffer();
     let n = io::read_full(STDIN_FILENO, &mut buffer);
     run_all(&buffer[..n]);
     run_depths(&buffer[..n]);
+    run_pages(&buffer[..n]);
 }

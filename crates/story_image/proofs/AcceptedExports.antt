@@ -41,6 +41,7 @@ use Rattle.views.specs.Children.{childCountOf, namedCountOf, childQuery, namedQ
 use Rattle.views.specs.Lists.{listPart, listEntry, listOrigin, definitionQuery, itemQuery}
 use Rattle.walks.specs.Walk.{components, resolve}
 use Rattle.depth.specs.Depth.{depthOf}
+use Rattle.pages.specs.Page.{slotView}
 use Rattle.lookups.specs.declared.ListItem.{ListItem}
 use Rattle.lookups.specs.declared.ListItemAnswer.{ListItemAnswer}
 use Rattle.lookups.specs.declared.ListItemAnswer.the-variants as listed
@@ -56,8 +57,9 @@ use Rattle.answers.proofs.Records.{eight}
 use Rattle.answers.proofs.ListPlaces.{Lies, list-lies}
 use Rattle.story_image.specs.Exported.{viewLength, wordsOfView, viewBy, under, writtenAfter}
 use Rattle.story_image.specs.Queries.{atList, firstWords}
-use Rattle.story_image.specs.Accepted.{Answers, ViewOf, Exports, AcceptedExports, wordsOfPart, wordsOfText, wordsOfListItem}
+use Rattle.story_image.specs.Accepted.{Answers, ViewOf, PageExports, Exports, AcceptedExports, wordsOfPart, wordsOfText, wordsOfListItem}
 use Rattle.story_image.proofs.Views.{view-back, enough}
+use Rattle.story_image.proofs.Pages.{page-under}
 
 -- ---- how many words an answer has
 
@@ -156,6 +158,11 @@ module _ (bs view : List ℕ) (versioned : viewOf bs .version ≡ version) (v : 
 
   pub asked-as : (query : ImageView → Option (List ℕ)) → under view query ≡ query (viewOf bs)
   asked-as query = sym (enough view query view-long (viewOf bs) view-same)
+
+  paged-as : (numbers slots : List ℕ) → PageExports bs view (sectionsBy bs (viewOf bs)) numbers slots
+  paged-as numbers slots =
+      let p = page-under bs view numbers slots view-long (viewOf bs) view-same _ _ refl refl in
+      record { number = sym (p .0); written = sym (p .1) }
 
 -- ---- the numbers of a list item are below the counts
 
@@ -282,6 +289,8 @@ module _ (bs view : List ℕ) (o : Opens bs) (short : length bs < 2 ^ 32) (v : V
   exports =
       record {
         node-view = λ i. answering 10 _ _ (asked-as bs view (right-version bs o) v _) (node-size (nodeView s i));
+        page = λ numbers slots. paged-as bs view (right-version bs o) v numbers slots;
+        slot-view = λ slot. answering 10 _ _ (asked-as bs view (right-version bs o) v _) (node-size (slotView s slot));
         depth = λ i. answering 1 _ _ (asked-as bs view (right-version bs o) v _) (count-size (depthOf s i));
         text = λ at len. answering 2 _ _ (asked-as bs view (right-version bs o) v _ ∙ text-whole bs o short (span at len)) (text-size _ (textQuery s (span at len)));
         child-count = λ i. answering 1 _ _ (asked-as bs view (right-version bs o) v _) (count-size (childCountOf s i));

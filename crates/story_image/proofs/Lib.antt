@@ -1,4 +1,5 @@
 pub mod Views
+pub mod Pages
 pub mod Loads
 pub mod Writes
 pub mod TextParts
