@@ -1,4 +1,5 @@
 pub mod AnswerSlices
 pub mod Bits
 pub mod Records
+pub mod TextTags
 pub mod ListPlaces

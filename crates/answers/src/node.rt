@@ -155,7 +155,8 @@ fn text_kind(tag: u32, f0: u32, f1: u32, f2: u32, f4: u32, strings: &[u8]) -> Ki
     }
 }
 
-// The words of a record's kind: one decision over the tag's number.
+// The words of a record's kind: one decision over the tag's number. Kinds made of a text share one arm, so that the strings are not laid
+// down in memory for a call.
 fn kind_words(node: NodeRecord, payload: usize, strings: &[u8]) -> KindFound
     ensures { λ r. ⌜ wordsFound r ≡ wordsOfKind (kindView (now (strings .entry)) payload node (kindOf (node .tag))) ⌝ }
 {
@@ -165,28 +166,18 @@ fn kind_words(node: NodeRecord, payload: usize, strings: &[u8]) -> KindFound
         tag::CHOICE => KindFound::Kind(text_alone(tag::CHOICE, no_span(), node.f2, 0, node.f3)),
         tag::DIVERT => divert(node, strings.len()),
         tag::GLUE => KindFound::Kind(value_alone(tag::GLUE, 0)),
-        tag::COMMAND | tag::STRING_VALUE | tag::TARGET_VALUE => text_kind(
-            tag,
-            node.f0,
-            node.f1,
-            node.f2,
-            node.f4,
-            strings,
-        ),
-        tag::OPERATOR..=tag::TAG => text_kind(tag, node.f0, node.f1, node.f2, node.f4, strings),
         tag::BOOL_VALUE => KindFound::Kind(value_alone(tag::BOOL_VALUE, bit_of(node.f0))),
         tag::INT_VALUE => KindFound::Kind(value_alone(tag::INT_VALUE, node.f0)),
         tag::FLOAT_VALUE => KindFound::Kind(value_alone(tag::FLOAT_VALUE, node.f0)),
         tag::LIST_VALUE => list(payload, node.f0, node.f1),
-        tag::POINTER_VALUE => text_kind(tag, node.f0, node.f1, node.f2, node.f4, strings),
-        tag::ASSIGNMENT..=tag::REFERENCE => text_kind(
-            tag,
-            node.f0,
-            node.f1,
-            node.f2,
-            node.f4,
-            strings,
-        ),
+        tag::COMMAND
+        | tag::OPERATOR
+        | tag::TAG
+        | tag::STRING_VALUE
+        | tag::TARGET_VALUE
+        | tag::POINTER_VALUE
+        | tag::ASSIGNMENT
+        | tag::REFERENCE => { text_kind(tag, node.f0, node.f1, node.f2, node.f4, strings) }
         tag::VOID => KindFound::Kind(value_alone(tag::VOID, 0)),
         _ => KindFound::NotFound,
     }
