@@ -88,10 +88,12 @@ fn short_view() {
 #[test]
 fn words_of_numbers() {
     assert_eq!((Refusal(0).words(), Refusal(25).words()), ("", ""));
+    // rows before it number commands and operators
+    let table = FORMAT.split("\n## Numbers\n").nth(1).unwrap();
     for number in 1..=24 {
         let words = Refusal(number).words();
         assert!(README.contains(&format!("| {number} | {} |\n", words.replace("BLINKIMG", "`BLINKIMG`"))), "{words}");
-        assert!(FORMAT.contains(&format!("\n| {number} | ")));
+        assert!(table.contains(&format!("\n| {number} | ")), "FORMAT has no row {number}");
     }
     for (name, refusal) in [
         ("BAD_HEADER", Refusal::BAD_HEADER),
