@@ -3,10 +3,10 @@
  *
  * A slice is lent as pointer and length (a count of elements, not of bytes). It must not be written by others during
  * the call; its pointer is not null, also where the length is 0, and is aligned for its type. Slices that are written
- * (work, view, answer, slots, output, written) overlap nothing else. That is all that is asked of a caller: every function
- * takes any bytes, any words and any numbers, and ends. No function allocates, keeps what it was lent, has state, or
- * changes a byte of an image; calls from several threads at once are fine. The tables of the checksum take about 5 KB
- * of stack in a load and in a write.
+ * (work, view, answer, slots, output, written) overlap nothing else. That is all that is asked of a caller: every
+ * function takes any bytes, any words and any numbers, and ends. No function allocates, keeps what it was lent, has
+ * state, or changes a byte of an image; calls from several threads at once are fine. The tables of the checksum take
+ * about 5 KB of stack in a load and in a write.
  *
  * In short:
  *
@@ -253,8 +253,8 @@ enum {
     STORY_IMAGE_NODE_WORDS
 };
 
-/* Words of a page's slot: a node as the image holds it, then two zeros. docs/FORMAT.md has the fields of each kind; what
- * they mean, story_image_slot_view tells. */
+/* Words of a page's slot: a node as the image holds it, then two zeros. docs/FORMAT.md has the fields of each kind;
+ * what they mean, story_image_slot_view tells. */
 enum {
     STORY_IMAGE_SLOT_PARENT,
     STORY_IMAGE_SLOT_PLACE,
@@ -379,16 +379,16 @@ uint32_t story_image_node_view(const uint8_t *bytes, size_t length, const uint32
 
 /* Many nodes in one call: for each number, in their order, a slot of STORY_IMAGE_SLOT_WORDS words: parent, place, kind
  * and f0 to f6 as the image holds them, then 0 and 0. For a number without a view (story_image_node_view gives 18; on
- * accepted bytes one that is not below the node count) the slot is 18 and eleven zeros: its kind, 0, tells it from every
- * other, its first word does not, since a node's parent may be 18. Numbers may repeat. Returns 0; words after the last
- * slot stay as they were. 24 where slots_length is less than STORY_IMAGE_SLOT_WORDS a number, before any node is looked
- * at. 18, before all else, under a view that is too short. With 24 and 18 nothing is written. No numbers: 0. */
+ * accepted bytes one that is not below the node count) the slot is 18 and eleven zeros: its kind, 0, tells it from
+ * every other, its first word does not, since a node's parent may be 18. Numbers may repeat. Returns 0; words after the
+ * last slot stay as they were. 24 where slots_length is less than STORY_IMAGE_SLOT_WORDS a number, before any node is
+ * looked at. 18, before all else, under a view that is too short. With 24 and 18 nothing is written. No numbers: 0. */
 uint32_t story_image_page(const uint8_t *bytes, size_t length, const uint32_t *view, size_t view_length,
                           const uint32_t *numbers, size_t numbers_length, uint32_t *slots, size_t slots_length);
 
-/* STORY_IMAGE_NODE_WORDS words: the view of a slot's words, the very one that story_image_node_view gives for the slot's
- * number; 18 where that gives 18. Words that are of no slot are taken as a node's too, on the image's strings and
- * payload; fewer than ten give 18, and those past the tenth are not looked at. */
+/* STORY_IMAGE_NODE_WORDS words: the view of a slot's words, the very one that story_image_node_view gives for the
+ * slot's number; 18 where that gives 18. Words that are of no slot are taken as a node's too, on the image's strings
+ * and payload; fewer than ten give 18, and those past the tenth are not looked at. */
 uint32_t story_image_slot_view(const uint8_t *bytes, size_t length, const uint32_t *view, size_t view_length,
                                const uint32_t *slot, size_t slot_length, uint32_t *answer, size_t answer_length);
 

@@ -1,8 +1,9 @@
-//! A program without the standard library and without an allocator: writes a draft and loads it. Exit status 0 if all is right.
+//! A program without the standard library and without an allocator: writes a draft, loads it and asks for a page. Exit
+//! status 0 if all is right.
 #![no_std]
 #![no_main]
 
-use story_image::{DraftBuilder, Image, NodeKind, NodeKindView, Room, ValueView, load_words};
+use story_image::{DraftBuilder, Image, NodeKind, NodeKindView, Room, Slot, ValueView, load_words};
 
 // the C library, which the start of a program needs
 #[link(name = "c")]
@@ -31,8 +32,13 @@ pub extern "C" fn main() -> i32 {
     let Ok(bytes) = draft.finish().write(21, &mut work, &mut output) else { return 3 };
     let mut work = [0; 10];
     let Ok(image) = Image::load(bytes, &mut work[..load_words(bytes)]) else { return 4 };
-    match image.node_view(1).map(|node| node.kind) {
+    let mut slots = [Slot::default(); 3];
+    let Ok(page) = image.page(&[1, 0, 2], &mut slots) else { return 5 };
+    if page.nodes().any(|(node, view)| view != image.node_view(node)) || page.slots()[2].has_view() {
+        return 6;
+    }
+    match page.node_view(0).map(|node| node.kind) {
         Some(NodeKindView::Value(ValueView::String("Good evening."))) => 0,
-        _ => 5,
+        _ => 7,
     }
 }

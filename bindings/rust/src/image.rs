@@ -142,8 +142,8 @@ impl<'a> Image<'a> {
         (0..self.node_count()).map_while(|node| self.node_view(node))
     }
 
-    /// Many nodes in one call: a slot for each number, in their order. Numbers may repeat; one that is no node has a slot
-    /// without a view. Slots past the numbers stay as they were. With fewer slots than numbers: 24
+    /// Many nodes in one call: a slot for each number, in their order. Numbers may repeat; one that is no node has a
+    /// slot without a view. Slots past the numbers stay as they were. With fewer slots than numbers: 24
     /// ([`Refusal::TOO_FEW_SLOTS`]), and none is written.
     ///
     /// ```
@@ -166,8 +166,13 @@ impl<'a> Image<'a> {
         Ok(Page::new(*self, numbers, &slots[..numbers.len()]))
     }
 
-    /// The view of a slot that a page of this image has for the number: its texts are those of a node of the image.
-    pub(crate) fn slot_view(&self, node: u32, slot: &Slot) -> Option<NodeView<'a>> {
+    /// The view of a slot.
+    ///
+    /// # Safety
+    ///
+    /// A page of this image has the slot for the number. Its texts are then a node's, which the load found to be UTF-8;
+    /// other words could name any part of the strings.
+    pub(crate) unsafe fn slot_view(&self, node: u32, slot: &Slot) -> Option<NodeView<'a>> {
         self.asked.slot_view_with(node, &slot.0, self)
     }
 

@@ -3,8 +3,8 @@
 use crate::image::{Image, NodeView};
 use crate::node::optional;
 
-/// A node's words in a page, as the image holds them: parent, place, kind, f0 to f6, then two zeros. For a number without
-/// a view: 18 and eleven zeros.
+/// A node's words in a page, as the image holds them: parent, place, kind, f0 to f6, then two zeros. For a number
+/// without a view: 18 and eleven zeros.
 #[repr(transparent)]
 #[derive(Clone, Copy, Debug, Default, PartialEq, Eq, Hash)]
 pub struct Slot(pub [u32; Slot::WORDS]);
@@ -47,7 +47,19 @@ impl Slot {
     }
 }
 
-/// The nodes of a page, by their order on it. [`Image::page`] makes it.
+/// The nodes of a page, by their order on it. [`Image::page`] makes it, and borrows the slots as long as it is used, so
+/// that they stay as they were written.
+///
+/// ```compile_fail,E0506
+/// # use story_image::{Image, Slot, load_words};
+/// # let bytes = include_bytes!(concat!(env!("CARGO_MANIFEST_DIR"), "/../../samples/step.image"));
+/// # let image = Image::load(bytes, &mut vec![0; load_words(bytes)])?;
+/// let mut slots = [Slot::default(); 1];
+/// let page = image.page(&[1], &mut slots)?;
+/// slots[0] = Slot::default(); // refused by the compiler
+/// assert!(page.node_view(0).is_some());
+/// # Ok::<(), story_image::Refusal>(())
+/// ```
 #[derive(Clone, Copy, Debug)]
 pub struct Page<'a, 'p> {
     image: Image<'a>,
@@ -73,7 +85,8 @@ impl<'a, 'p> Page<'a, 'p> {
     /// The view of the page's node at `index`: what [`Image::node_view`] gives for its number.
     pub fn node_view(&self, index: usize) -> Option<NodeView<'a>> {
         let (&node, slot) = (self.numbers.get(index)?, self.slots.get(index)?);
-        self.image.slot_view(node, slot)
+        // SAFETY: only `Image::page` makes a page, of the slots that it wrote for the numbers; both are borrowed since.
+        unsafe { self.image.slot_view(node, slot) }
     }
 
     /// The number and the view of each node of the page, in order.

@@ -183,9 +183,9 @@ impl<'a> Queries<'a> {
         ask!(self, story_image_node_view, node => |words| Some(*words))
     }
 
-    /// Writes a slot of [`Slot::WORDS`](crate::Slot::WORDS) words for each number, in their order: the node's words as the image holds them,
-    /// then 0 and 0; 18 and eleven zeros for a number without a view. Words after the last slot stay as they were. With
-    /// fewer words a number: 24 ([`Refusal::TOO_FEW_SLOTS`]), and nothing is written.
+    /// Writes a slot of [`Slot::WORDS`](crate::Slot::WORDS) words for each number, in their order: the node's words as
+    /// the image holds them, then 0 and 0; 18 and eleven zeros for a number without a view. Words after the last slot
+    /// stay as they were. With fewer words a number: 24 ([`Refusal::TOO_FEW_SLOTS`]), and nothing is written.
     pub fn page(&self, numbers: &[u32], slots: &mut [u32]) -> Result<(), Refusal> {
         let (bytes, view) = (self.bytes, &self.words);
         // SAFETY: the slices live through the call, and the slots, which alone are written, are borrowed alone.
@@ -214,8 +214,8 @@ impl<'a> Queries<'a> {
         ask!(self, story_image_slot_view, slot.as_ptr(), slot.len() => |words| node::view_of(node, words, parts))
     }
 
-    /// The view of a slot's words: for a slot that [`page`](Self::page) wrote, what [`node_view`](Self::node_view) gives
-    /// for its number. Any ten words are taken as a node's; nothing for fewer, and none past them is looked at.
+    /// The view of a slot's words: for a slot that [`page`](Self::page) wrote, what [`node_view`](Self::node_view)
+    /// gives for its number. Any ten words are taken as a node's; nothing for fewer, and none past them is looked at.
     pub fn slot_view(&self, slot: &[u32]) -> Option<NodeView> {
         self.slot_view_with(NONE, slot, &Places)
     }

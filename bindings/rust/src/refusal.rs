@@ -50,7 +50,7 @@ refusals! {
     21 DRAFT_SHAPE "a draft's root, parents, tree or order of definitions is wrong"
     22 DRAFT_PATHS "two containers of a draft have one path, or one has neither name nor place"
     23 NO_ROOM "the output is too short, or the image would have more than 4294967295 bytes"
-    24 TOO_FEW_SLOTS "fewer words are lent than a slot for each number takes"
+    24 TOO_FEW_SLOTS "fewer words are lent than a slot for each number takes: twelve"
 }
 
 impl Refusal {
