@@ -12,7 +12,8 @@ const SCREEN: usize = 40;
 /// Screens of a round, 100,000 nodes: so that the clock does not count.
 const SCREENS: usize = 2_500;
 
-const SIDES: [&str; 2] = ["forty calls", "one call"];
+const ONE_CALL: [&str; 2] = ["forty calls", "one call"];
+const WITH_VIEWS: [&str; 2] = ["forty calls", "one call, forty slot views"];
 
 pub fn run(input: &Input, long: Duration) -> u64 {
     let image = &input.image;
@@ -21,12 +22,10 @@ pub fn run(input: &Input, long: Duration) -> u64 {
     let any: Vec<u32> = (0..SCREENS * SCREEN).map(|_| random.below(count) as u32).collect();
     let in_a_row: Vec<u32> = (0..SCREENS * SCREEN).map(|node| (node % count) as u32).collect();
     let mut measured = 0;
-    for (nodes, page, views) in
-        [(&any, "page, any nodes", "and slot views"), (&in_a_row, "page, in a row", "and slot views")]
-    {
+    for (name, nodes) in [("page, any nodes", &any), ("page, in a row", &in_a_row)] {
         let screens = Screens { image, view, nodes };
-        measured += duel(page, SIDES, long, || screens.calls(), Some(|| screens.pages(false)));
-        measured += duel(views, SIDES, long, || screens.calls(), Some(|| screens.pages(true)));
+        measured += duel(name, ONE_CALL, long, || screens.calls(), Some(|| screens.pages(false)));
+        measured += duel(name, WITH_VIEWS, long, || screens.calls(), Some(|| screens.pages(true)));
     }
     measured
 }
