@@ -1,9 +1,18 @@
 //! Both sides measured in one process, in turns, by processor time: load, node views, depths, walks and list look-ups,
-//! writing; then the leaves by themselves, and the size of the library.
+//! writing; pages against lone calls; then the leaves by themselves, and the size of the library.
 
 mod archive;
 mod inputs;
 mod leaves;
+#[cfg(feature = "queries")]
+mod pages;
+
+#[cfg(not(feature = "queries"))]
+mod pages {
+    pub fn run(_: &super::Input, _: super::Duration) -> u64 {
+        0
+    }
+}
 
 pub use inputs::lapped_chain;
 
@@ -16,22 +25,33 @@ use std::time::{Duration, Instant};
 /// At most so many rounds, and at least three.
 const ROUNDS: usize = 15;
 
-/// The other side of all but the leaves.
-const PUBLISHED: &str = "published";
+/// The sides of all but the leaves and pages: the other, and ours.
+const PUBLISHED: [&str; 2] = ["published", OURS];
+const OURS: &str = "ours";
 
-/// Measures each thing for so many seconds, or until all rounds are done; of the inputs, those with the words in their name.
+/// In the place of words: pages alone, of every input that is asked.
+const PAGES: &str = "pages";
+
+/// Measures each thing for so many seconds, or until all rounds are done; of the inputs, those with the words in their
+/// name, or pages alone.
 pub fn run(seconds: u64, words: &str) -> bool {
     let long = Duration::from_secs(seconds);
     let mut random = Random::new(5);
     println!("median of up to {ROUNDS} rounds; ratio of ours to the published Rust: median (lowest to highest)");
-    let mut measured = 0;
+    println!("pages: ratio of one call to forty, which shall be at most 0.7");
+    let (mut measured, pages_alone) = (0, words == PAGES);
     for make in inputs::ALL {
         let input = make(&mut random);
-        if !input.name.contains(words) {
+        if !(if pages_alone { input.asked } else { input.name.contains(words) }) {
             continue;
         }
         println!("{}: {} bytes, {} nodes", input.name, input.image.len(), input.nodes());
-        measured += measure(&input, long);
+        if !pages_alone {
+            measured += measure(&input, long);
+        }
+        if input.asked {
+            measured += pages::run(&input, long);
+        }
     }
     if words.is_empty() {
         measured += leaves::run(long, &mut random) + archive::run();
@@ -43,7 +63,7 @@ pub fn run(seconds: u64, words: &str) -> bool {
 /// Times of both sides, taken in turns.
 fn duel(
     name: &str,
-    other: &str,
+    [other, one]: [&str; 2],
     long: Duration,
     mut theirs: impl FnMut() -> Duration,
     mut ours: Option<impl FnMut() -> Duration>,
@@ -68,7 +88,7 @@ fn duel(
     let middle = their.len() / 2;
     match our.get(middle) {
         Some(mine) => println!(
-            "    {name:16} {other} {:>12.3?} ours {mine:>12.3?} ratio {:.2} ({:.2} to {:.2})",
+            "    {name:16} {other} {:>12.3?} {one} {mine:>12.3?} ratio {:.2} ({:.2} to {:.2})",
             their[middle],
             ratios[middle],
             ratios[0],

@@ -2,6 +2,7 @@
 
 use crate::depths;
 use crate::library::{Library, View, header_view, load_words};
+use crate::pages;
 use crate::parts::{HEADER, word_at};
 use crate::queries;
 use crate::random::Random;
@@ -39,8 +40,11 @@ pub fn image(name: &'static str, bytes: &[u8], ours: Option<&dyn Library>, rando
             strange::asked(bytes, view, asked, random, tally);
         }
     } else if bytes.len() >= HEADER {
+        let (view, ours) = (&header_view(bytes), ours.and_then(Library::queries));
         let name = if row > 5 { "depth, refused image" } else { "depth, other view" };
-        depths::strange(name, bytes, &header_view(bytes), ours.and_then(Library::queries), tally);
+        depths::strange(name, bytes, view, ours, tally);
+        let name = pages::NAMES[if row > 5 { 1 } else { 2 }];
+        pages::strange(&pages::Asked { name, bytes, view, ours }, random, tally);
     }
 }
 

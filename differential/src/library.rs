@@ -30,6 +30,11 @@ pub trait Library {
 /// Absence of an answer is number 18.
 pub trait Queries {
     fn node_view(&self, bytes: &[u8], view: &View, node: u32) -> Option<NodeView>;
+    /// The number; a slot of twelve words is written for each of the numbers. The view may be too short.
+    fn page(&self, bytes: &[u8], view: &[u32], numbers: &[u32], slots: &mut [u32]) -> u32;
+    /// The words of a node's view, and of the view of a slot's words, under a view that may be too short.
+    fn node_words(&self, bytes: &[u8], view: &[u32], node: u32) -> Option<[u32; 10]>;
+    fn slot_words(&self, bytes: &[u8], view: &[u32], slot: &[u32]) -> Option<[u32; 10]>;
     /// The number of parent steps to node 0.
     fn depth(&self, bytes: &[u8], view: &View, node: u32) -> Option<u32>;
     fn child_count(&self, bytes: &[u8], view: &View, node: u32) -> Option<u32>;

@@ -13,6 +13,7 @@ mod images;
 mod library;
 #[cfg(feature = "ours")]
 mod ours;
+mod pages;
 mod parts;
 mod progress;
 mod published;

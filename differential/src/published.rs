@@ -2,7 +2,8 @@
 
 use crate::depths::{Way, by_words};
 use crate::library::{Entry, Library, Place, Queries, View, Writer, header_view, load_words, write_words};
-use crate::parts::word_at;
+use crate::pages::{Nodes, SLOT, slot_of};
+use crate::parts::{NONE, word_at};
 use crate::rows::{row_of, writer_row};
 use reference::{Draft, Image, Kind, ListEntries, Named, NodeView, Step, Written};
 
@@ -13,6 +14,13 @@ pub enum Mistake {
     WorkLeft,
     NoSeven,
     ViewParent,
+    PageLastWords,
+    PageNone,
+    PageNoView,
+    PageLater,
+    PageFew,
+    PageShort,
+    SlotEighteen,
     DepthRoot,
     DepthBound,
     DepthCircle,
@@ -32,11 +40,18 @@ pub enum Mistake {
     DraftNumber,
 }
 
-pub const MISTAKES: [Mistake; 21] = [
+pub const MISTAKES: [Mistake; 28] = [
     Mistake::Number,
     Mistake::WorkLeft,
     Mistake::NoSeven,
     Mistake::ViewParent,
+    Mistake::PageLastWords,
+    Mistake::PageNone,
+    Mistake::PageNoView,
+    Mistake::PageLater,
+    Mistake::PageFew,
+    Mistake::PageShort,
+    Mistake::SlotEighteen,
     Mistake::DepthRoot,
     Mistake::DepthBound,
     Mistake::DepthCircle,
@@ -117,6 +132,40 @@ impl Queries for Published {
             view.parent = None;
         }
         Some(view)
+    }
+
+    /// By the image's words, as the published Rust has no such query.
+    fn page(&self, bytes: &[u8], view: &[u32], numbers: &[u32], slots: &mut [u32]) -> u32 {
+        let few = slots.len() < SLOT * numbers.len();
+        let Some(view) = view.first_chunk() else {
+            return if few && self.has(Mistake::PageShort) { 24 } else { 18 };
+        };
+        if few && !self.has(Mistake::PageFew) {
+            return 24;
+        }
+        let nodes = Nodes::new(bytes, view);
+        for (number, slot) in numbers.iter().zip(slots.chunks_exact_mut(SLOT)) {
+            let number = if self.has(Mistake::PageNone) && *number == NONE { 0 } else { *number };
+            let record = nodes.record(number).filter(|record| self.has(Mistake::PageNoView) || nodes.has_view(record));
+            let words = if self.has(Mistake::PageLastWords) { SLOT - 2 } else { SLOT };
+            slot[..words].copy_from_slice(&slot_of(record)[..words]);
+        }
+        if self.has(Mistake::PageLater) {
+            slots[SLOT * numbers.len()..].fill(0);
+        }
+        if few { 24 } else { 0 }
+    }
+
+    /// In the place of a view's words the node's own: they are asked for by number and by slot, and must be the same.
+    fn node_words(&self, bytes: &[u8], view: &[u32], node: u32) -> Option<[u32; 10]> {
+        let nodes = Nodes::new(bytes, view.first_chunk()?);
+        nodes.record(node).filter(|record| nodes.has_view(record))
+    }
+
+    fn slot_words(&self, bytes: &[u8], view: &[u32], slot: &[u32]) -> Option<[u32; 10]> {
+        let taken_as_empty = self.has(Mistake::SlotEighteen) && slot[0] == 18;
+        let nodes = Nodes::new(bytes, view.first_chunk()?);
+        slot.first_chunk().copied().filter(|record| nodes.has_view(record) && !taken_as_empty)
     }
 
     /// By the parent words, as the published Rust has no such query.

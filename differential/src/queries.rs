@@ -1,7 +1,8 @@
 //! Every query on an accepted image, on both sides.
 
 use crate::depths;
-use crate::library::{Queries, View};
+use crate::library::{Queries, View, header_view};
+use crate::pages;
 use crate::parts::NONE;
 use crate::random::Random;
 use crate::tally::Tally;
@@ -53,7 +54,9 @@ pub fn all(image: &Image<'_>, bytes: &[u8], ours: Ours<'_>, random: &mut Random,
         asking.node(node);
         asking.names(node, random);
     }
-    asking.depths();
+    let views = depths::views(image);
+    asking.depths(&views);
+    asking.page(&views, random);
     asking.definitions(random);
     for _ in 0..8 {
         asking.walk(random);
@@ -88,9 +91,9 @@ impl Asking<'_> {
     }
 
     /// Of all nodes, and of numbers outside.
-    fn depths(&mut self) {
-        let (views, count) = (depths::views(self.image), self.image.node_count() as u32);
-        let depths = depths::by_views(&views);
+    fn depths(&mut self, views: &[Option<NodeView>]) {
+        let count = self.image.node_count() as u32;
+        let depths = depths::by_views(views);
         for node in (0..count).chain([count, count + 1, NONE]) {
             let theirs = depths.get(node as usize).copied().flatten();
             self.same("depth", theirs, |ours, bytes, view| ours.depth(bytes, view, node));
@@ -100,6 +103,12 @@ impl Asking<'_> {
         self.tally.met("accepted, containers that are only named children", named_only);
         let greatest = self.tally.met.entry("accepted, greatest depth").or_default();
         *greatest = depths.into_iter().flatten().map(u64::from).fold(*greatest, u64::max);
+    }
+
+    fn page(&mut self, views: &[Option<NodeView>], random: &Random) {
+        let (ours, view) = (self.ours.map(|(ours, _)| ours), &header_view(self.bytes));
+        let asked = pages::Asked { name: pages::NAMES[0], bytes: self.bytes, view, ours };
+        pages::accepted(&asked, views, random, self.tally);
     }
 
     /// Whether a node is no ordered child of its parent.

@@ -1,5 +1,6 @@
 //! A small random generator (xorshift), so that a run is repeated by its seed.
 
+#[derive(Clone)]
 pub struct Random(u64);
 
 impl Random {

@@ -5,6 +5,7 @@ use crate::depths;
 use crate::drafts::Case;
 use crate::images::image;
 use crate::library::Library;
+use crate::pages;
 use crate::published::{MISTAKES, Mistake, Published};
 use crate::queries::KINDS;
 use crate::random::Random;
@@ -80,6 +81,15 @@ fn coverage(tally: &mut Tally) {
     }
     for (what, count) in &tally.met {
         need(*count > 0, format!("depth, {what}"));
+    }
+    for name in pages::NAMES {
+        need(tally.queries.contains_key(name), format!("query {name}"));
+    }
+    for ((what, on_accepted), [accepted, others]) in pages::CASES.iter().zip(tally.pages) {
+        need(
+            others > 0 && (accepted > 0) == *on_accepted,
+            format!("pages, {what}: accepted {accepted}, others {others}"),
+        );
     }
     for (message, row) in WRITER {
         need(row == 23 || tally.written.contains_key(message), format!("writer: {message}"));

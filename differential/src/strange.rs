@@ -1,8 +1,9 @@
 //! What the published Rust cannot be asked: queries on bytes that were not accepted or under another view, which must
-//! end with parts inside the bytes, and depth there; names that are no text; walks along wrong words.
+//! end with parts inside the bytes, and depth and pages there; names that are no text; walks along wrong words.
 
 use crate::depths;
 use crate::library::{Queries, View};
+use crate::pages;
 use crate::parts::NONE;
 use crate::random::Random;
 use crate::stories::edge;
@@ -29,6 +30,8 @@ pub fn bytes(bytes: &[u8], view: &View, ours: &dyn Queries, random: &mut Random,
     }
     tally.check(outside == 0, || format!("{outside} parts outside strange bytes"), &bytes);
     depths::strange("depth, other view", &bytes, &view, Some(ours), tally);
+    let asked = pages::Asked { name: pages::NAMES[2], bytes: &bytes, view: &view, ours: Some(ours) };
+    pages::strange(&asked, random, tally);
 }
 
 /// Asks everything about a node; counts parts that lie outside.

@@ -1,5 +1,6 @@
 //! Counts of a run: answers by row, reason, kind and query, and what passed and failed.
 
+use crate::pages::CASES;
 use std::collections::BTreeMap;
 
 #[derive(Default)]
@@ -11,6 +12,8 @@ pub struct Tally {
     pub queries: BTreeMap<&'static str, [u64; 2]>,
     /// What was met where depth was asked.
     pub met: BTreeMap<&'static str, u64>,
+    /// What was met where pages were asked: on accepted images, and on other bytes or under other views.
+    pub pages: [[u64; 2]; CASES.len()],
     /// By how they were made: how many, and how many of them are accepted.
     pub images: BTreeMap<&'static str, [u64; 2]>,
     pub drafts: BTreeMap<&'static str, u64>,
@@ -73,6 +76,10 @@ impl Tally {
             println!("    {name:30} {found:>10} {nothing:>10}");
         }
         print("met where depth was asked", self.met.iter());
+        println!("met where pages were asked: accepted, others");
+        for ((name, _), [accepted, others]) in CASES.iter().zip(self.pages) {
+            println!("    {name:50} {accepted:>10} {others:>10}");
+        }
         print("drafts by how they were made", self.drafts.iter());
         print("what the published writer did", self.written.iter());
         if !self.numbers.is_empty() {

@@ -16,7 +16,7 @@ pub use linked::run;
 #[cfg(leaves)]
 mod linked {
     use super::{Duration, Random};
-    use crate::bench::{black_box, duel, timed};
+    use crate::bench::{OURS, black_box, duel, timed};
 
     unsafe extern "C" {
         fn leaf_crc(bytes: *const u8, length: usize) -> u32;
@@ -73,7 +73,7 @@ mod linked {
             let theirs =
                 || timed(|| (0..turns).fold(0, |sum, _| sum ^ plain_crc(black_box(&table), black_box(&bytes))));
             let ours = || timed(|| (0..turns).fold(0, |sum, _| sum ^ crc(black_box(&bytes))));
-            measured += duel(&format!("{turns} of {length} bytes"), "loop", long, theirs, Some(ours));
+            measured += duel(&format!("{turns} of {length} bytes"), ["loop", OURS], long, theirs, Some(ours));
         }
         measured
     }
@@ -111,7 +111,7 @@ mod linked {
                 let is_text = |text: &&String| core::str::from_utf8(black_box(text.as_bytes())).is_ok();
                 let theirs = || timed(|| texts.iter().filter(is_text).count());
                 let ours = || timed(|| texts.iter().filter(|text| valid(black_box(text.as_bytes()))).count());
-                measured += duel(&format!("{count} of {length} bytes"), "core", long, theirs, Some(ours));
+                measured += duel(&format!("{count} of {length} bytes"), ["core", OURS], long, theirs, Some(ours));
             }
         }
         measured
@@ -132,8 +132,8 @@ mod linked {
                 let ours_same = || timed(|| (0..turns).filter(|_| equal(black_box(&a), black_box(&b))).count());
                 let name = format!("{turns} of {length} bytes");
                 measured += match last {
-                    true => duel(&name, "core", long, less, Some(ours_less)),
-                    false => duel(&name, "core", long, same, Some(ours_same)),
+                    true => duel(&name, ["core", OURS], long, less, Some(ours_less)),
+                    false => duel(&name, ["core", OURS], long, same, Some(ours_same)),
                 };
             }
         }

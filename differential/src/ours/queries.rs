@@ -1,10 +1,11 @@
 //! Queries.
 
 use super::Ours;
+use crate::images::MARK;
 use crate::library::{Entry, Place, Queries, View};
 use reference::{Kind, Named, NodeView, Step};
 use story_image::raw::{self, ListPlace, TextPlace};
-use story_image::{NodeKindOf, ValueOf};
+use story_image::{NodeKindOf, ValueOf, ffi};
 
 fn asked<'a>(bytes: &'a [u8], view: &View) -> raw::Queries<'a> {
     raw::Queries::new(bytes, story_image::View::from(*view))
@@ -72,10 +73,55 @@ fn kind_of(kind: NodeKindOf<TextPlace, ListPlace>) -> Kind {
     }
 }
 
+/// The words of a view where the call gives 0. Where it gives 18 they must have stayed, and it gives nothing else.
+fn words(call: impl FnOnce(*mut u32, usize) -> u32) -> Option<[u32; 10]> {
+    let mut answer = [MARK; 10];
+    let number = call(answer.as_mut_ptr(), answer.len());
+    assert!(number == 0 || number == 18 && answer == [MARK; 10], "{number}, {answer:x?}");
+    (number == 0).then_some(answer)
+}
+
 impl Queries for Ours {
     fn node_view(&self, bytes: &[u8], view: &View, node: u32) -> Option<NodeView> {
         let view = asked(bytes, view).node_view(node)?;
         Some(NodeView { parent: view.parent, place: view.child_index, kind: kind_of(view.kind) })
+    }
+
+    fn page(&self, bytes: &[u8], view: &[u32], numbers: &[u32], slots: &mut [u32]) -> u32 {
+        let (slots, slots_length) = (slots.as_mut_ptr(), slots.len());
+        let (numbers, numbers_length) = (numbers.as_ptr(), numbers.len());
+        let (length, view_length) = (bytes.len(), view.len());
+        // SAFETY: the slices live through the call, and the slots, which alone are written, are borrowed alone.
+        unsafe {
+            ffi::story_image_page(
+                bytes.as_ptr(),
+                length,
+                view.as_ptr(),
+                view_length,
+                numbers,
+                numbers_length,
+                slots,
+                slots_length,
+            )
+        }
+    }
+
+    fn node_words(&self, bytes: &[u8], view: &[u32], node: u32) -> Option<[u32; 10]> {
+        let (length, view_length) = (bytes.len(), view.len());
+        let (bytes, view) = (bytes.as_ptr(), view.as_ptr());
+        words(|answer, room| {
+            // SAFETY: the slices live through the call, and the answer alone is written.
+            unsafe { ffi::story_image_node_view(bytes, length, view, view_length, node, answer, room) }
+        })
+    }
+
+    fn slot_words(&self, bytes: &[u8], view: &[u32], slot: &[u32]) -> Option<[u32; 10]> {
+        let (length, view_length, slot_length) = (bytes.len(), view.len(), slot.len());
+        let (bytes, view, slot) = (bytes.as_ptr(), view.as_ptr(), slot.as_ptr());
+        words(|answer, room| {
+            // SAFETY: as above.
+            unsafe { ffi::story_image_slot_view(bytes, length, view, view_length, slot, slot_length, answer, room) }
+        })
     }
 
     fn depth(&self, bytes: &[u8], view: &View, node: u32) -> Option<u32> {
