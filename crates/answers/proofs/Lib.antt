@@ -2,5 +2,4 @@ pub mod AnswerSlices
 pub mod Bits
 pub mod Records
 pub mod TextTags
-pub mod Asked
 pub mod ListPlaces

@@ -3,23 +3,16 @@ use Prim.Native.Nat.{ℕ, _+_}
 use mathlib.Core.List.{List}
 use mathlib.Core.Bool.{cond}
 use mathlib.Core.Option.{Option, none, some}
-use lib.ListN.{length}
 use lib.Dec.{leb, eqb}
 use Rattle.words.specs.Words.{NONE}
 use Rattle.names.specs.declared.Number.{Number}
 use Rattle.names.specs.declared.Number.the-variants as number
 use Rattle.image.specs.declared.NodeRecord.{NodeRecord}
-use Rattle.image.specs.Sections.{Sections, commonWords}
 use Rattle.image.specs.Tags.{listTag}
 use Rattle.views.specs.declared.Span.{Span}
 use Rattle.views.specs.declared.KindAnswer.{KindAnswer}
 use Rattle.views.specs.declared.KindAnswer.the-variants as kindly
-use Rattle.views.specs.declared.NodeAnswer.{NodeAnswer}
-use Rattle.views.specs.declared.entries.RecordFound.{RecordFound}
-use Rattle.views.specs.declared.entries.RecordFound.the-variants as node
-use Rattle.views.specs.View.{span, nodeView}
-use Rattle.views.specs.Found.{nodeFound}
-use Rattle.pages.specs.Page.{slotRecord, viewOfRecord}
+use Rattle.views.specs.View.{span}
 use Rattle.answers.specs.declared.lists.ListPlace.{ListPlace}
 use Rattle.answers.specs.declared.lists.ListPlace.the-variants as place
 use Rattle.answers.specs.declared.node.KindWords.{KindWords}
@@ -63,11 +56,3 @@ listPlaceIn payload r = cond (eqb (r .tag) listTag) (cond (leb (r .f0 + r .f1) p
 -- the fields that a kind made of a text may have, in a record whose other words are 0
 abbrev pub fieldsOf : ℕ → ℕ → ℕ → ℕ → ℕ → NodeRecord
 fieldsOf tag f0 f1 f2 f4 = record { parent = 0; place = 0; tag = tag; f0 = f0; f1 = f1; f2 = f2; f3 = 0; f4 = f4; f5 = 0; f6 = 0 }
-
--- the record that a view is asked of: a slot's words, or node i where fewer are lent than a node has
-unfoldable pub recordAsked : Sections → ℕ → List ℕ → RecordFound
-recordAsked s i slot = cond (leb commonWords (length slot)) (node.Record (slotRecord slot)) (nodeFound s i)
-
--- and its view
-unfoldable pub viewAsked : Sections → ℕ → List ℕ → NodeAnswer
-viewAsked s i slot = cond (leb commonWords (length slot)) (viewOfRecord s (slotRecord slot)) (nodeView s i)

@@ -19,11 +19,12 @@ ghost use lib.Dec.{eqb};
 ghost use lib.ListN.{length, drop};
 ghost use Rattle.image.specs.Header.{sectionsBy};
 ghost use Rattle.records.specs.Fields.{kindOf};
-ghost use Rattle.views.specs.View.{kindView, recordView};
+ghost use Rattle.views.specs.View.{kindView, recordView, nodeView};
+ghost use Rattle.pages.specs.Page.{slotView};
 ghost use Rattle.views.specs.Shown.{containerView, divertView, listView, withName, textKind};
 ghost use Rattle.answers.specs.AnswerWords.{Answered, bitIf};
 ghost use Rattle.answers.specs.NodeViewWords.{nodeAnswer};
-ghost use Rattle.answers.specs.RecordWords.{eightOf, wordsFound, wordsOfKind, textAlone, valueAlone, numberFound, fieldsOf, recordAsked, viewAsked};
+ghost use Rattle.answers.specs.RecordWords.{eightOf, wordsFound, wordsOfKind, textAlone, valueAlone, numberFound, fieldsOf};
 
 // Words of a node's view.
 pub const NODE_VIEW_WORDS: usize = 10;
@@ -200,7 +201,7 @@ fn put_ten(parent: u32, place: u32, kind: KindWords, out: &mut [u32])
 }
 
 // The words of a record's view, beside a payload of so many bytes and the strings.
-fn put_record_view(node: NodeRecord, payload: usize, strings: &[u8], answer: &mut [u32]) -> u32
+pub fn put_record_view(node: NodeRecord, payload: usize, strings: &[u8], answer: &mut [u32]) -> u32
     ensures { λ r. ⌜ Answered (nodeAnswer (recordView (now (strings .entry)) payload node)) (now (answer .entry)) (now (answer .exit)) r ⌝ }
 {
     if answer.len() < NODE_VIEW_WORDS {
@@ -215,22 +216,23 @@ fn put_record_view(node: NodeRecord, payload: usize, strings: &[u8], answer: &mu
     }
 }
 
-// The record that a view is asked of: a slot's words, or node `id` where fewer words are lent than a node has.
-fn record_asked(bytes: &[u8], view: ImageView, id: u32, slot: &[u32]) -> RecordFound
-    ensures { λ r. ⌜ r ≡ recordAsked (sectionsBy (now (bytes .entry)) view) id (now (slot .entry)) ⌝ }
+// The words of the view of a slot's words.
+pub fn put_slot_view(bytes: &[u8], view: ImageView, slot: &[u32], answer: &mut [u32]) -> u32
+    ensures { λ r. ⌜ Answered (nodeAnswer (slotView (sectionsBy (now (bytes .entry)) view) (now (slot .entry)))) (now (answer .entry)) (now (answer .exit)) r ⌝ }
 {
     if slot.len() < pages::RECORD_WORDS {
-        return views::entries::node_of(bytes, view, id);
+        return NOT_FOUND;
     }
-    RecordFound::Record(pages::slot_record(slot))
+    let payload = image::section_part(bytes, view.payload, ImageView::PAYLOAD_SIZE);
+    let strings = image::section_part(bytes, view.strings, ImageView::STRINGS_SIZE);
+    put_record_view(pages::slot_record(slot), payload.len(), strings, answer)
 }
 
-// The words of the view of a slot's words, or of node `id` where fewer are lent than a node has. One function for both, so that the
-// decision over the tag is compiled into its one caller.
-pub fn put_view(bytes: &[u8], view: ImageView, id: u32, slot: &[u32], answer: &mut [u32]) -> u32
-    ensures { λ r. ⌜ Answered (nodeAnswer (viewAsked (sectionsBy (now (bytes .entry)) view) id (now (slot .entry)))) (now (answer .entry)) (now (answer .exit)) r ⌝ }
+// The words of a node's view.
+pub fn put_node_view(bytes: &[u8], view: ImageView, id: u32, answer: &mut [u32]) -> u32
+    ensures { λ r. ⌜ Answered (nodeAnswer (nodeView (sectionsBy (now (bytes .entry)) view) id)) (now (answer .entry)) (now (answer .exit)) r ⌝ }
 {
-    match record_asked(bytes, view, id, slot) {
+    match views::entries::node_of(bytes, view, id) {
         RecordFound::NotFound => NOT_FOUND,
         RecordFound::Record(node) => {
             let payload = image::section_part(bytes, view.payload, ImageView::PAYLOAD_SIZE);

@@ -1,25 +1,22 @@
--- A page and the view of a slot's words under lent words of a view; the view of its slots against the lone call.
+-- A page under lent words of a view, and the view of its slots against the lone call.
 use Prim.Native.Nat.{ℕ, _*_, _≤_, _<_}
 use mathlib.Core.Path.{_≡_, refl, sym, ap, _∙_}
-use mathlib.Core.List.{List, []}
+use mathlib.Core.List.{List}
 use mathlib.Core.Bool.{Bool, true, false, cond}
 use native.Mathlib.Omega.{arith}
 use mathlib.Core.Option.{none}
 use lib.ListN.{length, getD, take, drop}
 use lib.Dec.{leb}
 use borrow.Author.Tests.{le-leb, lt-leb}
-use Rattle.words.specs.Words.{NONE}
 use Rattle.image.specs.declared.ImageView.{ImageView}
 use Rattle.image.specs.Sections.{Sections}
 use Rattle.image.specs.Header.{sectionsBy}
 use Rattle.pages.specs.Page.{slotWords, pageRule, pageAfter, slotView}
 use Rattle.pages.proofs.Slots.{slot-views, pages-written}
-use Rattle.views.specs.declared.NodeAnswer.{NodeAnswer}
 use Rattle.views.specs.View.{nodeView}
 use Rattle.answers.specs.NodeViewWords.{nodeAnswer}
-use Rattle.answers.proofs.Asked.{asked-node, asked-slot}
 use Rattle.story_image.specs.Exported.{viewLength, viewBy, under}
-use Rattle.story_image.specs.Queries.{answerOfView, answerOfNodeView, answerOfSlotView, pageNumber, pageWritten}
+use Rattle.story_image.specs.Queries.{pageNumber, pageWritten}
 use Rattle.story_image.specs.Accepted.{PagedViews}
 
 module _ (bytes view numbers slots : List ℕ) where
@@ -39,23 +36,6 @@ module _ (bytes view numbers slots : List ℕ) where
   page-under h v e r now p q =
       let t = le-leb viewLength (length view) h in
       (rw t p, rw t (q ∙ ap (λ (w : ImageView). pageAfter (sectionsBy bytes w) numbers slots) e))
-
--- ---- both views go through one function
-
-module _ (bytes view : List ℕ) where
-  -- without a slot's words it asks the node
-  pub node-viewed : (node : ℕ) → answerOfView bytes view node [] ≡ answerOfNodeView bytes view node
-  unfolding under
-  node-viewed node =
-      ap (λ (a : NodeAnswer). cond (leb viewLength (length view)) (nodeAnswer a) none) (asked-node (sectionsBy bytes (viewBy view)) node)
-
-  -- with NONE for the node it asks a slot's words
-  pub slot-viewed : (slot : List ℕ) → answerOfView bytes view NONE slot ≡ answerOfSlotView bytes view slot
-  unfolding under
-  slot-viewed slot =
-      ap (λ (a : NodeAnswer). cond (leb viewLength (length view)) (nodeAnswer a) none) (asked-slot (sectionsBy bytes (viewBy view)) slot)
-
--- ---- slots against the lone call
 
 -- the view of slot k is what the lone call gives for the k-th number
 slot-same : (s : Sections) (numbers slots : List ℕ) → pageRule (length numbers) (length slots) ≡ 0 → (k : ℕ) → k < length numbers

@@ -21,7 +21,6 @@ use Rattle.depth.specs.Depth.{depthOf}
 use Rattle.pages.specs.Page.{pageRule, pageAfter, slotView}
 use Rattle.answers.specs.AnswerWords.{countWords, foundAnswer, countAnswer, namedAnswer, placeAnswer, partWords, partAnswer, entryAnswer, definitionAnswer, itemAnswer, listItemAnswer, listCountWords}
 use Rattle.answers.specs.NodeViewWords.{nodeAnswer, listPlace}
-use Rattle.answers.specs.RecordWords.{viewAsked}
 use Rattle.story_image.specs.Exported.{viewLength, viewBy, under}
 
 -- of a list value, where the node is one
@@ -39,19 +38,15 @@ unfoldable pub pageNumber : ℕ → ℕ → ℕ → ℕ
 pageNumber view numbers slots = cond (leb viewLength view) (pageRule numbers slots) notFound
 
 module _ (bytes view : List ℕ) where
-  -- of the function that both views go through: of a slot's words, or of a node where fewer are lent than a node has
-  abbrev pub answerOfView : ℕ → List ℕ → Option (List ℕ)
-  answerOfView node slot = under view (λ v. nodeAnswer (viewAsked (sectionsBy bytes v) node slot))
-
   abbrev pub answerOfNodeView : ℕ → Option (List ℕ)
   answerOfNodeView node = under view (λ v. nodeAnswer (nodeView (sectionsBy bytes v) node))
-
-  abbrev pub answerOfSlotView : List ℕ → Option (List ℕ)
-  answerOfSlotView slot = under view (λ v. nodeAnswer (slotView (sectionsBy bytes v) slot))
 
   -- the slots of a page on return; under a view of too few words nothing is written
   unfoldable pub pageWritten : List ℕ → List ℕ → List ℕ
   pageWritten numbers slots = cond (leb viewLength (length view)) (pageAfter (sectionsBy bytes (viewBy view)) numbers slots) slots
+
+  abbrev pub answerOfSlotView : List ℕ → Option (List ℕ)
+  answerOfSlotView slot = under view (λ v. nodeAnswer (slotView (sectionsBy bytes v) slot))
 
   abbrev pub answerOfDepth : ℕ → Option (List ℕ)
   answerOfDepth node = under view (λ v. countAnswer (depthOf (sectionsBy bytes v) node))

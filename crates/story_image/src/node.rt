@@ -1,22 +1,11 @@
-// A node's view, the view of a slot's words, a node's depth, and where a text lies in the image.
+// A node's view, its depth, and where a text lies in the image.
 use crate::VIEW_WORDS;
 use crate::view_of;
-use image::NONE;
 use image::refusal::NOT_FOUND;
 use views::Span;
 ghost use mathlib.Core.Path.{_≡_};
 ghost use Rattle.answers.specs.AnswerWords.{Answered};
-ghost use Rattle.story_image.specs.Queries.{answerOfView, answerOfNodeView, answerOfSlotView, answerOfDepth, answerOfText};
-
-// The words of the view of a slot's words, or of a node where fewer are lent than a node has.
-fn put_view(bytes: &[u8], view: &[u32], node: u32, slot: &[u32], answer: &mut [u32]) -> u32
-    ensures { λ r. ⌜ Answered (answerOfView (now (bytes .entry)) (now (view .entry)) node (now (slot .entry))) (now (answer .entry)) (now (answer .exit)) r ⌝ }
-{
-    if view.len() < VIEW_WORDS {
-        return NOT_FOUND;
-    }
-    answers::node::put_view(bytes, view_of(view), node, slot, answer)
-}
+ghost use Rattle.story_image.specs.Queries.{answerOfNodeView, answerOfDepth, answerOfText};
 
 // A node's view: parent, place, kind, text, text_length, variable, variable_length, target, value, flags.
 #[no_mangle]
@@ -28,21 +17,10 @@ pub extern "C" fn story_image_node_view(
 ) -> u32
     ensures { λ r. ⌜ Answered (answerOfNodeView (now (bytes .entry)) (now (view .entry)) node) (now (answer .entry)) (now (answer .exit)) r ⌝ }
 {
-    let slot: &[u32] = &[0];
-    put_view(bytes, view, node, &slot[..0], answer)
-}
-
-// The view of a slot's words, in the words of a node's view.
-#[no_mangle]
-pub extern "C" fn story_image_slot_view(
-    bytes: &[u8],
-    view: &[u32],
-    slot: &[u32],
-    answer: &mut [u32],
-) -> u32
-    ensures { λ r. ⌜ Answered (answerOfSlotView (now (bytes .entry)) (now (view .entry)) (now (slot .entry))) (now (answer .entry)) (now (answer .exit)) r ⌝ }
-{
-    put_view(bytes, view, NONE, slot, answer)
+    if view.len() < VIEW_WORDS {
+        return NOT_FOUND;
+    }
+    answers::node::put_node_view(bytes, view_of(view), node, answer)
 }
 
 // The depth of a node: the number of parent steps to node 0.
