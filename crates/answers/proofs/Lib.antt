@@ -1,5 +1,4 @@
 pub mod AnswerSlices
 pub mod Bits
 pub mod Records
-pub mod TextTags
 pub mod ListPlaces

@@ -2,7 +2,7 @@
 use Prim.Native.Nat.{ℕ, _+_, _*_, _-_, _/_, _≤_, _<_}
 use mathlib.Core.Path.{_≡_, refl, sym, ap, _∙_}
 use mathlib.Core.List.{List, [], _∷_, _++_}
-use mathlib.Core.Bool.{Bool, true, false, cond}
+use mathlib.Core.Bool.{Bool, true, false, cond, false≢true}
 use native.Mathlib.Omega.{arith}
 use native.Mathlib.Decide.{decLt}
 use lib.ListN.{length, getD, take, drop}
@@ -17,11 +17,14 @@ use Rattle.words.proofs.SlotLoop.{SlotsSoFar, slots-start, slots-next-part, slo
 use Rattle.image.specs.declared.NodeRecord.{NodeRecord}
 use Rattle.image.specs.Sections.{Sections, commonWords, inside}
 use Rattle.image.specs.Entries.{nodeIn}
-use Rattle.records.specs.Fields.{kinds}
+use Rattle.records.specs.Fields.{kinds, kindOf}
+use Rattle.views.specs.declared.KindAnswer.{KindAnswer}
+use Rattle.views.specs.declared.KindAnswer.the-variants as kindly
 use Rattle.views.specs.declared.NodeView.{NodeView}
 use Rattle.views.specs.declared.NodeAnswer.{NodeAnswer}
 use Rattle.views.specs.declared.NodeAnswer.the-variants as node
-use Rattle.views.specs.View.{kindView, recordView, nodeView}
+use Rattle.views.specs.View.{kindView, withKind, recordView, nodeView}
+use Rattle.pages.specs.Viewed.{hasKind}
 use Rattle.pages.specs.Page.{slotWords, nodeSlot, noSlot, slotBy, slotOf, pageRule, pageAfter, slotRecord, viewOfRecord, slotView, SlotViews, SlotTag, PageSlots, PagesWritten}
 
 apart : (v : NodeView) → node.NotFound ≡ node.View v → ⊥
@@ -37,6 +40,27 @@ module _ (s : Sections) (i : ℕ) where
   pub slot-found : (v : NodeView) → node.View v ≡ nodeView s i → (x : NodeRecord) → x ≡ nodeIn s i → nodeSlot x ≡ slotOf s i
   unfolding slotOf
   slot-found v h x e = rw (← h) (ap nodeSlot e)
+
+  kind-slot : (strings : List ℕ) (payload : ℕ) (x : NodeRecord) (k : KindAnswer) → withKind strings payload x k ≡ nodeView s i → x ≡ nodeIn s i
+      → hasKind k ≡ true → nodeSlot x ≡ slotOf s i
+  kind-slot strings payload x (kindly.Kind w) e q h = slot-found _ e x q
+  kind-slot strings payload x kindly.NotFound e q h = absurd (false≢true h)
+
+  kindless-slot : (strings : List ℕ) (payload : ℕ) (x : NodeRecord) (k : KindAnswer) → withKind strings payload x k ≡ nodeView s i → hasKind k ≡ false
+      → noSlot ≡ slotOf s i
+  kindless-slot strings payload x (kindly.Kind w) e h = absurd (false≢true (sym h))
+  kindless-slot strings payload x kindly.NotFound e h = slot-missing e
+
+  -- by the record of a node, and whether it has a kind
+  module _ (strings : List ℕ) (payload : ℕ) (x : NodeRecord) (e : recordView strings payload x ≡ nodeView s i) (b : Bool)
+      (h : b ≡ hasKind (kindView strings payload x (kindOf (x .tag)))) where
+    pub viewed-slot : x ≡ nodeIn s i → b ≡ true → nodeSlot x ≡ slotOf s i
+    unfolding recordView
+    viewed-slot q t = kind-slot strings payload x (kindView strings payload x (kindOf (x .tag))) e q (sym h ∙ t)
+
+    pub viewless-slot : b ≡ false → noSlot ≡ slotOf s i
+    unfolding recordView
+    viewless-slot t = kindless-slot strings payload x (kindView strings payload x (kindOf (x .tag))) e (sym h ∙ t)
 
 by-length : (a : NodeAnswer) (r : NodeRecord) → length (slotBy a r) ≡ slotWords
 by-length (node.View v) r = refl

@@ -1,15 +1,18 @@
 // A page of nodes: many nodes in one call, in slots of twelve words, and the view of a slot's words.
+mod viewed; // viewed.rt: whether a record has a view
+
 ghost use mathlib.Core.Path.{_≡_};
 ghost use Prim.Native.Nat.{_≤_};
 ghost use mathlib.Core.List.{_++_};
 ghost use lib.ListN.{length, drop};
 ghost use Rattle.image.specs.Sections.{commonWords};
 ghost use Rattle.image.specs.Header.{sectionsBy};
-ghost use Rattle.pages.specs.Page.{slotWords, nodeSlot, noSlot, slotOf, slotRecord, viewOfRecord, slotView, pageRule, pageAfter};
+ghost use Rattle.pages.specs.Page.{slotWords, nodeSlot, noSlot, slotOf, slotRecord, slotView, pageRule, pageAfter};
 use image::ImageView;
 use image::NodeRecord;
 use image::refusal::NOT_FOUND;
 use image::refusal::TOO_FEW_SLOTS;
+use viewed::has_kind;
 use views::NodeAnswer;
 use views::entries::RecordFound;
 
@@ -46,25 +49,21 @@ fn no_slot() -> [u32; 12]
     [NOT_FOUND, 0, 0, 0, 0, 0, 0, 0, 0, 0, 0, 0]
 }
 
-// The view of a record beside the payload and strings that a view bounds.
-fn view_of_record(bytes: &[u8], view: ImageView, node: NodeRecord) -> NodeAnswer
-    ensures { λ r. ⌜ r ≡ viewOfRecord (sectionsBy (now (bytes .entry)) view) node ⌝ }
-{
-    let payload = image::section_part(bytes, view.payload, ImageView::PAYLOAD_SIZE);
-    let strings = image::section_part(bytes, view.strings, ImageView::STRINGS_SIZE);
-    views::view::record_view(node, payload.len(), strings)
-}
-
 // The slot of node `id`.
 fn slot_of(bytes: &[u8], view: ImageView, id: u32) -> [u32; 12]
     ensures { λ r. ⌜ r ≡ slotOf (sectionsBy (now (bytes .entry)) view) id ⌝ }
 {
     match views::entries::node_of(bytes, view, id) {
         RecordFound::NotFound => no_slot(),
-        RecordFound::Record(node) => match view_of_record(bytes, view, node) {
-            NodeAnswer::NotFound => no_slot(),
-            NodeAnswer::View(_) => node_slot(node),
-        },
+        RecordFound::Record(node) => {
+            let payload = image::section_part(bytes, view.payload, ImageView::PAYLOAD_SIZE);
+            let strings = image::section_part(bytes, view.strings, ImageView::STRINGS_SIZE);
+            if has_kind(node, payload.len(), strings) {
+                node_slot(node)
+            } else {
+                no_slot()
+            }
+        }
     }
 }
 
@@ -131,5 +130,7 @@ pub fn slot_view(bytes: &[u8], view: ImageView, slot: &[u32]) -> NodeAnswer
     if slot.len() < RECORD_WORDS {
         return NodeAnswer::NotFound;
     }
-    view_of_record(bytes, view, slot_record(slot))
+    let payload = image::section_part(bytes, view.payload, ImageView::PAYLOAD_SIZE);
+    let strings = image::section_part(bytes, view.strings, ImageView::STRINGS_SIZE);
+    views::view::record_view(slot_record(slot), payload.len(), strings)
 }

@@ -6,7 +6,7 @@ use mathlib.Core.Path.{refl, ap, _∙_}
 use Rattle.answers.specs.RecordWords.{wordsOfKind}
 use Rattle.views.proofs.Tags.{at-container, at-divert, at-list, at-unknown}
 use Rattle.answers.proofs.Records.{choice-viewed, glue-viewed, bool-viewed, int-viewed, float-viewed, void-viewed, text-fields}
-use Rattle.answers.proofs.TextTags.{from-nineteen, text-single, text-below, text-above}
+use Rattle.pages.proofs.TextTags.{from-nineteen, text-single, text-below, text-above}
 use borrow.Author.Needs.{needs}
 use Rattle.answers.proofs.node.kind_words.Statement.{statement}
 use Rattle.answers.proofs.node.kind_words.Tie as tie
