@@ -3,6 +3,7 @@ pub mod Numbers
 pub mod Spellings
 pub mod Copies
 pub mod PackedNames
+pub mod Parts
 pub mod Hashes
 pub mod Commands
 pub mod Operators

@@ -45,5 +45,11 @@ module _ (packed starts : List ℕ) (names : List (List ℕ)) (k : ℕ) where
   pub part-asks : (a e : ℕ) → a ≡ start → e ≡ end → Lies → (a ≤ e) × (e ≤ length packed) × (e - a ≤ 11)
   part-asks a e p q l = rw (p, q) (l .order, l .inside, l .short)
 
+  part-text : (a e : ℕ) → a ≡ start → e ≡ end → Lies → take (e - a) (drop a packed) ≡ getD names k []
+  part-text a e p q l = rw (p, q) (l .text)
+
   pub part-gives : (a e : ℕ) (w : Name) → a ≡ start → e ≡ end → Lies → w ≡ nameOf (take (e - a) (drop a packed)) → w ≡ nameOf (getD names k [])
-  part-gives a e w p q l r = let t : take (e - a) (drop a packed) ≡ getD names k [] = rw (p, q) (l .text) in r ∙ ap nameOf t
+  part-gives a e w p q l r = r ∙ ap nameOf (part-text a e p q l)
+
+  pub part-same : (a e : ℕ) (t : List ℕ) (b : Bool) → a ≡ start → e ≡ end → Lies → b ≡ same t (take (e - a) (drop a packed)) → b ≡ same t (getD names k [])
+  part-same a e t b p q l r = r ∙ ap (same t) (part-text a e p q l)

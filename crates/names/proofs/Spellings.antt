@@ -1,14 +1,10 @@
--- A name as it is handed back, and a text compared with it.
-use Prim.Native.Nat.{ℕ, _-_, _≤_}
+-- A name as it is handed back.
+use Prim.Native.Nat.{ℕ, _-_}
 use mathlib.Core.Path.{_≡_, sym, _∙_}
 use mathlib.Core.List.{List}
-use mathlib.Core.Bool.{Bool}
 use mathlib.Core.Option.{some}
-use native.Mathlib.Omega.{arith}
-use lib.ListN.{length, replicate, length-append}
+use lib.ListN.{length, replicate}
 use lib.Seq.{take-append-seam}
-use Rattle.texts.specs.Text.{same}
-use Rattle.names.specs.declared.Name.{Name}
 use Rattle.names.specs.Names.{numberIn}
 use Rattle.names.specs.Spelling.{elementNamed, nameOf, spelled}
 use Rattle.names.proofs.Numbers.{Numbered, nameIn, name-number, named-text}
@@ -16,12 +12,6 @@ use Rattle.names.proofs.Numbers.{Numbered, nameIn, name-number, named-t
 -- what is handed back spells the name
 pub name-spelled : (t : List ℕ) → spelled (nameOf t) ≡ t
 name-spelled t = take-append-seam t (replicate (11 - length t) 0)
-
-pub name-held : (t : List ℕ) → nameOf t .len ≤ length (nameOf t .bytes)
-name-held t = omega (arith, length-append t (replicate (11 - length t) 0))
-
-pub compared : (t name : List ℕ) (w : Name) (r s : Bool) → r ≡ same t (spelled w) → w ≡ nameOf name → r ≡ s → same t name ≡ s
-compared t name w r s e p q = rw (← q, e, p, name-spelled name)
 
 module _ {A : Type 0} {number : A → ℕ} {kinds : List A} {names : List (List ℕ)} (n : Numbered number kinds names) where
   -- what is handed back for a kind is a known name, the kind's own

@@ -2,13 +2,14 @@
 use crate::Name;
 use crate::Number;
 use crate::hash;
-use crate::is_spelled;
+use crate::is_name_in;
 use crate::name_in;
 use crate::wide;
 ghost use mathlib.Core.Path.{_≡_};
 ghost use mathlib.Core.List.{[]};
 ghost use Prim.Native.Nat.{ℕ, _<_};
 ghost use lib.ListN.{getD};
+ghost use Rattle.texts.specs.Text.{same};
 ghost use Rattle.names.specs.Names.{commands, numberIn};
 ghost use Rattle.names.specs.Spelling.{elementAt, nameOf, numbered};
 ghost use Rattle.names.specs.ControlCommand.{commandNumber, commandTypes, knownCommand, commandNamed};
@@ -78,7 +79,11 @@ const COMMANDS: [CommandType; 26] = [
     CommandType::EndTag,
 ];
 
-// Where each name starts among the names, one after the other, and where the last one ends.
+// The names, one after the other.
+const NAMES: [u8; 101] =
+    *b"evout/evdupop~ret->->str/strnopchoiceCntturnturnsreadcrndsrndvisitseqthreaddoneendlistIntrangelrnd#/#";
+
+// Where each name starts among the names, and where the last one ends.
 const STARTS: [u8; 27] = [
     0,
     2,
@@ -223,13 +228,22 @@ fn name_at(number: u8) -> Name
     ensures { λ r. ⌜ r ≡ nameOf (getD commands number []) ⌝ }
 {
     let at = number as usize;
-    let start = wide(STARTS[at]);
-    let end = wide(STARTS[at + 1]);
-    name_in(
-        b"evout/evdupop~ret->->str/strnopchoiceCntturnturnsreadcrndsrndvisitseqthreaddoneendlistIntrangelrnd#/#",
-        start,
-        end,
-    )
+    let starts = STARTS;
+    let start = wide(starts[at]);
+    let end = wide(starts[at + 1]);
+    name_in(&NAMES, start, end)
+}
+
+// Whether a text is the name of a number.
+fn is_name(number: u8, text: &[u8]) -> bool
+    requires { ⌜ number < 26 ⌝ }
+    ensures { λ r. ⌜ r ≡ same (now (text .entry)) (getD commands number []) ⌝ }
+{
+    let at = number as usize;
+    let starts = STARTS;
+    let start = wide(starts[at]);
+    let end = wide(starts[at + 1]);
+    is_name_in(&NAMES, start, end, text)
 }
 
 // How a command is spelled.
@@ -252,7 +266,7 @@ pub fn command_number(text: &[u8]) -> Number
     ensures { λ r. ⌜ numbered r ≡ numberIn commands (now (text .entry)) ⌝ }
 {
     let number = only(text);
-    if is_spelled(name_at(number), text) {
+    if is_name(number, text) {
         Number::Known(number)
     } else {
         Number::Unknown

@@ -6,7 +6,7 @@ ghost use mathlib.Core.Path.{_≡_};
 ghost use Prim.Native.Nat.{_-_, _≤_, _<_};
 ghost use lib.ListN.{length, take, drop};
 ghost use Rattle.texts.specs.Text.{same};
-ghost use Rattle.names.specs.Spelling.{nameOf, spelled, hashOf};
+ghost use Rattle.names.specs.Spelling.{nameOf, hashOf};
 
 // A name's bytes, with zeros behind them.
 pub struct Name {
@@ -50,14 +50,23 @@ fn name_in(names: &[u8], start: usize, end: usize) -> Name
     name_of(&names[start..end])
 }
 
-// The text is the name's bytes.
-fn is_spelled(name: Name, text: &[u8]) -> bool
-    requires { ⌜ name .len ≤ length (name .bytes) ⌝ }
-    ensures { λ r. ⌜ r ≡ same (now (text .entry)) (spelled name) ⌝ }
+// Whether a text is the name that lies among others, from start to end.
+fn is_name_in(names: &[u8], start: usize, end: usize, text: &[u8]) -> bool
+    requires { ⌜ (start ≤ end) × (end ≤ length (now names)) ⌝ }
+    ensures { λ r. ⌜ r ≡ same (now (text .entry)) (take (end - start) (drop start (now (names .entry)))) ⌝ }
 {
-    let len = name.len;
-    let bytes = name.bytes;
-    texts::equal(text, &bytes[..len])
+    let len = text.len();
+    if end - start != len {
+        return false;
+    }
+    let mut i = 0;
+    while i < len {
+        if text[i] != names[start + i] {
+            return false;
+        }
+        i += 1;
+    }
+    true
 }
 
 // No two commands agree in it modulo 58, and no two operators modulo 54.

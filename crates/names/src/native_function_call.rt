@@ -2,13 +2,14 @@
 use crate::Name;
 use crate::Number;
 use crate::hash;
-use crate::is_spelled;
+use crate::is_name_in;
 use crate::name_in;
 use crate::wide;
 ghost use mathlib.Core.Path.{_≡_};
 ghost use mathlib.Core.List.{[]};
 ghost use Prim.Native.Nat.{ℕ, _<_};
 ghost use lib.ListN.{getD};
+ghost use Rattle.texts.specs.Text.{same};
 ghost use Rattle.names.specs.Names.{operators, numberIn};
 ghost use Rattle.names.specs.Spelling.{elementAt, nameOf, numbered};
 ghost use Rattle.names.specs.NativeFunctionCall.{operatorNumber, ops, knownOperator, operatorNamed};
@@ -88,7 +89,11 @@ const OPERATORS: [Op; 31] = [
     Op::Invert,
 ];
 
-// Where each name starts among the names, one after the other, and where the last one ends.
+// The names, one after the other.
+const NAMES: [u8; 109] =
+    *b"+-/*%_==><>=<=!=!&&||MINMAXPOWFLOORCEILINGINTFLOAT?!?^LIST_MINLIST_MAXLIST_ALLLIST_COUNTLIST_VALUELIST_INVERT";
+
+// Where each name starts among the names, and where the last one ends.
 const STARTS: [u8; 32] = [
     0,
     1,
@@ -239,13 +244,22 @@ fn name_at(number: u8) -> Name
     ensures { λ r. ⌜ r ≡ nameOf (getD operators number []) ⌝ }
 {
     let at = number as usize;
-    let start = wide(STARTS[at]);
-    let end = wide(STARTS[at + 1]);
-    name_in(
-        b"+-/*%_==><>=<=!=!&&||MINMAXPOWFLOORCEILINGINTFLOAT?!?^LIST_MINLIST_MAXLIST_ALLLIST_COUNTLIST_VALUELIST_INVERT",
-        start,
-        end,
-    )
+    let starts = STARTS;
+    let start = wide(starts[at]);
+    let end = wide(starts[at + 1]);
+    name_in(&NAMES, start, end)
+}
+
+// Whether a text is the name of a number.
+fn is_name(number: u8, text: &[u8]) -> bool
+    requires { ⌜ number < 31 ⌝ }
+    ensures { λ r. ⌜ r ≡ same (now (text .entry)) (getD operators number []) ⌝ }
+{
+    let at = number as usize;
+    let starts = STARTS;
+    let start = wide(starts[at]);
+    let end = wide(starts[at + 1]);
+    is_name_in(&NAMES, start, end, text)
 }
 
 // How an operator is spelled.
@@ -268,7 +282,7 @@ pub fn operator_number(text: &[u8]) -> Number
     ensures { λ r. ⌜ numbered r ≡ numberIn operators (now (text .entry)) ⌝ }
 {
     let number = only(text);
-    if is_spelled(name_at(number), text) {
+    if is_name(number, text) {
         Number::Known(number)
     } else {
         Number::Unknown

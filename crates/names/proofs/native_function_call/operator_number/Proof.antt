@@ -1,11 +1,6 @@
 -- `names::native_function_call::operator_number` meets its contract.
-use mathlib.Core.Path.{sym}
-use mathlib.Core.List.{[]}
-use mathlib.Core.Bool.{true, false}
+use mathlib.Core.Path.{sym, _∙_}
 use borrow.Author.Needs.{needs}
-use lib.ListN.{getD}
-use Rattle.names.specs.Names.{operators}
-use Rattle.names.proofs.Spellings.{name-held, compared}
 use Rattle.names.proofs.Operators.{number-yes, number-no}
 use Rattle.names.proofs.native_function_call.operator_number.Statement.{statement}
 use Rattle.names.proofs.native_function_call.operator_number.Tie as tie
@@ -13,23 +8,18 @@ use Rattle.names.proofs.native_function_call.operator_number.Tie as tie
 only-requires : tie.Need-only-requires
 only-requires c κs = search needs
 
-name-at-requires : tie.Need-name-at-requires
-name-at-requires c κs = search needs
-
-is-spelled-requires : tie.Need-is-spelled-requires
-is-spelled-requires c κs = rw (c .name-at .ensures) (name-held (getD operators (c .before .only .result) []))
+is-name-requires : tie.Need-is-name-requires
+is-name-requires c κs = search needs
 
 returns : tie.Need-returns
 returns c =
     sym
-    (number-yes _ (c .before .before .before .only .result) (c .before .before .before .only .ensures .0)
-    (compared _ _ _ _ true (c .before .is-spelled .ensures) (c .before .before .name-at .ensures) (c .if1 .taken)))
+    (number-yes _ (c .before .before .only .result) (c .before .before .only .ensures .0) (sym (c .before .is-name .ensures) ∙ c .if1 .taken))
 
 returns-2 : tie.Need-returns-2
 returns-2 c =
     sym
-    (number-no _ (c .before .before .before .only .result) (c .before .before .before .only .ensures .1)
-    (compared _ _ _ _ false (c .before .is-spelled .ensures) (c .before .before .name-at .ensures) (c .if1 .left)))
+    (number-no _ (c .before .before .only .result) (c .before .before .only .ensures .1) (sym (c .before .is-name .ensures) ∙ c .if1 .left))
 
 pub operator-number-spec : {M : Type 1} → statement M
-operator-number-spec = tie.close (tie.spec only-requires name-at-requires is-spelled-requires returns returns-2)
+operator-number-spec = tie.close (tie.spec only-requires is-name-requires returns returns-2)
