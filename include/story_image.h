@@ -361,13 +361,14 @@ uint32_t story_image_load(const uint8_t *bytes, size_t length, uint32_t *work, s
                           size_t view_length);
 
 /* Queries. Each returns 0 and writes its words at the start of the answer, or returns 18 and leaves the answer as it
- * was. The view is lent as the words that story_image_load wrote. A view of fewer than STORY_IMAGE_VIEW_WORDS words,
- * or an answer too short for the query's words, gives 18, as 'no such node' does: story_image_view_whole tells the
- * first apart, and how many words an answer has is fixed for each query. Any bytes and any view may be asked: a
- * section outside the bytes counts as empty, and an answer's parts lie inside the bytes. On accepted bytes a node
- * below the node count has a view, texts are there and UTF-8, targets are below the node count. A text is an offset
- * and a length in the strings; story_image_text gives its place in the bytes. A signed value is handed over as its 32
- * bits: (int32_t)word. A float's bits are copied into one with memcpy. */
+ * was; story_image_page, which has slots for its answer, also gives 24. The view is lent as the words that
+ * story_image_load wrote. A view of fewer than STORY_IMAGE_VIEW_WORDS words, or an answer too short for the query's
+ * words, gives 18, as 'no such node' does: story_image_view_whole tells the first apart, and how many words an answer
+ * has is fixed for each query. Any bytes and any view may be asked: a section outside the bytes counts as empty, and an
+ * answer's parts lie inside the bytes. On accepted bytes a node below the node count has a view, texts are there and
+ * UTF-8, targets are below the node count. A text is an offset and a length in the strings; story_image_text gives its
+ * place in the bytes. A signed value is handed over as its 32 bits: (int32_t)word. A float's bits are copied into one
+ * with memcpy. */
 
 /* Whether a view has at least STORY_IMAGE_VIEW_WORDS words. Under such a view, and with an answer that holds the
  * query's words, a query returns 18 only if there is nothing to answer. */
