@@ -3,3 +3,4 @@ pub mod Bits
 pub mod Records
 pub mod TextTags
 pub mod ListPlaces
+pub mod ViewWords
