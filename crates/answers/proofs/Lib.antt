@@ -2,3 +2,4 @@ pub mod AnswerSlices
 pub mod Bits
 pub mod Records
 pub mod ListPlaces
+pub mod ViewWords

@@ -20,7 +20,6 @@ ghost use lib.ListN.{length, drop};
 ghost use Rattle.image.specs.Header.{sectionsBy};
 ghost use Rattle.records.specs.Fields.{kindOf};
 ghost use Rattle.views.specs.View.{kindView, recordView, nodeView};
-ghost use Rattle.pages.specs.Page.{slotView};
 ghost use Rattle.views.specs.Shown.{containerView, divertView, listView, withName, textKind};
 ghost use Rattle.answers.specs.AnswerWords.{Answered, bitIf};
 ghost use Rattle.answers.specs.NodeViewWords.{nodeAnswer};
@@ -45,7 +44,7 @@ pub enum KindFound {
 }
 
 // A kind that has no second text.
-fn text_alone(tag: u32, text: Span, target: u32, value: u32, flags: u32) -> KindWords
+pub fn text_alone(tag: u32, text: Span, target: u32, value: u32, flags: u32) -> KindWords
     ensures { λ r. ⌜ r ≡ textAlone tag text target value flags ⌝ }
 {
     KindWords {
@@ -59,7 +58,7 @@ fn text_alone(tag: u32, text: Span, target: u32, value: u32, flags: u32) -> Kind
 }
 
 // A kind with a value alone, or with nothing.
-fn value_alone(tag: u32, value: u32) -> KindWords
+pub fn value_alone(tag: u32, value: u32) -> KindWords
     ensures { λ r. ⌜ r ≡ valueAlone tag value ⌝ }
 {
     text_alone(tag, no_span(), NONE, value, 0)
@@ -201,7 +200,7 @@ fn put_ten(parent: u32, place: u32, kind: KindWords, out: &mut [u32])
 }
 
 // The words of a record's view, beside a payload of so many bytes and the strings.
-pub fn put_record_view(node: NodeRecord, payload: usize, strings: &[u8], answer: &mut [u32]) -> u32
+fn put_record_view(node: NodeRecord, payload: usize, strings: &[u8], answer: &mut [u32]) -> u32
     ensures { λ r. ⌜ Answered (nodeAnswer (recordView (now (strings .entry)) payload node)) (now (answer .entry)) (now (answer .exit)) r ⌝ }
 {
     if answer.len() < NODE_VIEW_WORDS {
@@ -214,18 +213,6 @@ pub fn put_record_view(node: NodeRecord, payload: usize, strings: &[u8], answer:
             0
         }
     }
-}
-
-// The words of the view of a slot's words.
-pub fn put_slot_view(bytes: &[u8], view: ImageView, slot: &[u32], answer: &mut [u32]) -> u32
-    ensures { λ r. ⌜ Answered (nodeAnswer (slotView (sectionsBy (now (bytes .entry)) view) (now (slot .entry)))) (now (answer .entry)) (now (answer .exit)) r ⌝ }
-{
-    if slot.len() < pages::RECORD_WORDS {
-        return NOT_FOUND;
-    }
-    let payload = image::section_part(bytes, view.payload, ImageView::PAYLOAD_SIZE);
-    let strings = image::section_part(bytes, view.strings, ImageView::STRINGS_SIZE);
-    put_record_view(pages::slot_record(slot), payload.len(), strings, answer)
 }
 
 // The words of a node's view.

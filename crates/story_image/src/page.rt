@@ -38,5 +38,5 @@ pub extern "C" fn story_image_slot_view(
     if view.len() < VIEW_WORDS {
         return NOT_FOUND;
     }
-    answers::node::put_slot_view(bytes, view_of(view), slot, answer)
+    answers::view_words::put_node(pages::slot_view(bytes, view_of(view), slot), answer)
 }
