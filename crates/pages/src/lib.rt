@@ -20,7 +20,7 @@ use views::entries::RecordFound;
 pub const SLOT_WORDS: usize = 12;
 
 // Words of a slot that are a node's: f6 is the last.
-pub const RECORD_WORDS: usize = NodeRecord::F6 + 1;
+const RECORD_WORDS: usize = NodeRecord::F6 + 1;
 
 // The slot of a node that has a view: parent, place, tag and f0 to f6, then 0 and 0.
 fn node_slot(node: NodeRecord) -> [u32; 12]
@@ -105,7 +105,7 @@ pub fn page(bytes: &[u8], view: ImageView, numbers: &[u32], slots: &mut [u32]) -
 }
 
 // The node that a slot's words are.
-pub fn slot_record(slot: &[u32]) -> NodeRecord
+fn slot_record(slot: &[u32]) -> NodeRecord
     requires { ⌜ commonWords ≤ length (now slot) ⌝ }
     ensures { λ r. ⌜ r ≡ slotRecord (now (slot .entry)) ⌝ }
 {
