@@ -70,8 +70,15 @@ pub slot-length : (s : Sections) (i : ℕ) → length (slotOf s i) ≡ slotWords
 unfolding slotOf
 slot-length s i = by-length (nodeView s i) (nodeIn s i)
 
-pub slot-as-long : (s : Sections) (i : ℕ) (slot : List ℕ) → slot ≡ slotOf s i → length slot ≡ slotWords
-slot-as-long s i slot e = ap length e ∙ slot-length s i
+-- a slot over the start of words, and over one that was written there before
+module _ (s : Sections) (i : ℕ) (out slot now : List ℕ) (e : slot ≡ slotOf s i) where
+  pub slot-over : now ≡ slot ++ drop slotWords out → now ≡ slotOf s i ++ drop slotWords out
+  slot-over h = h ∙ ap (λ (l : List ℕ). l ++ drop slotWords out) e
+
+  pub slot-again : (first mid : List ℕ) → length first ≡ slotWords → mid ≡ first ++ drop slotWords out → now ≡ slot ++ drop slotWords mid
+      → now ≡ slotOf s i ++ drop slotWords out
+  slot-again first mid l m h =
+      slot-over (h ∙ ap (λ (z : List ℕ). slot ++ z) (ap (drop slotWords) m ∙ drop-at first (drop slotWords out) slotWords l))
 
 -- ---- a slot written word by word
 

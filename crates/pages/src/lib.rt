@@ -49,26 +49,8 @@ fn no_slot() -> [u32; 12]
     [NOT_FOUND, 0, 0, 0, 0, 0, 0, 0, 0, 0, 0, 0]
 }
 
-// The slot of node `id`.
-fn slot_of(bytes: &[u8], view: ImageView, id: u32) -> [u32; 12]
-    ensures { λ r. ⌜ r ≡ slotOf (sectionsBy (now (bytes .entry)) view) id ⌝ }
-{
-    match views::entries::node_of(bytes, view, id) {
-        RecordFound::NotFound => no_slot(),
-        RecordFound::Record(node) => {
-            let payload = image::section_part(bytes, view.payload, ImageView::PAYLOAD_SIZE);
-            let strings = image::section_part(bytes, view.strings, ImageView::STRINGS_SIZE);
-            if has_kind(node, payload.len(), strings) {
-                node_slot(node)
-            } else {
-                no_slot()
-            }
-        }
-    }
-}
-
 // Writes a slot at the start of words that hold it.
-fn put_slot(slot: &[u32; 12], out: &mut [u32])
+fn put_words(slot: &[u32; 12], out: &mut [u32])
     requires { ⌜ (length (now slot) ≡ slotWords) × (slotWords ≤ length (now out)) ⌝ }
     ensures { λ _. ⌜ now (out .exit) ≡ now (slot .entry) ++ drop slotWords (now (out .entry)) ⌝ }
 {
@@ -86,6 +68,27 @@ fn put_slot(slot: &[u32; 12], out: &mut [u32])
     out[11] = slot[11];
 }
 
+// Writes the slot of node `id` at the start of words that hold it. The node's words are copied first, all at once; that a node has no view
+// is rare.
+fn put_slot(bytes: &[u8], view: ImageView, id: u32, out: &mut [u32])
+    requires { ⌜ slotWords ≤ length (now out) ⌝ }
+    ensures { λ _. ⌜ now (out .exit) ≡ slotOf (sectionsBy (now (bytes .entry)) view) id ++ drop slotWords (now (out .entry)) ⌝ }
+{
+    match views::entries::node_of(bytes, view, id) {
+        RecordFound::NotFound => {
+            put_words(&no_slot(), out);
+        }
+        RecordFound::Record(node) => {
+            put_words(&node_slot(node), out);
+            let payload = image::section_part(bytes, view.payload, ImageView::PAYLOAD_SIZE);
+            let strings = image::section_part(bytes, view.strings, ImageView::STRINGS_SIZE);
+            if !has_kind(node, payload.len(), strings) {
+                put_words(&no_slot(), out);
+            }
+        }
+    }
+}
+
 // Writes the slot of each number, one behind the other; words after the last slot stay. 24, and nothing is written, where fewer than
 // twelve words a number are lent: that is tested before any node.
 pub fn page(bytes: &[u8], view: ImageView, numbers: &[u32], slots: &mut [u32]) -> u32
@@ -97,8 +100,7 @@ pub fn page(bytes: &[u8], view: ImageView, numbers: &[u32], slots: &mut [u32]) -
     }
     let mut k = 0;
     while k < numbers.len() {
-        let slot = slot_of(bytes, view, numbers[k]);
-        put_slot(&slot, &mut slots[SLOT_WORDS * k..]);
+        put_slot(bytes, view, numbers[k], &mut slots[SLOT_WORDS * k..]);
         k += 1;
     }
     0

@@ -1,10 +1,11 @@
 -- `pages::page` meets its contract. The loop's invariant: the slots of the numbers before k are written.
 use Prim.Native.Nat.{_-_}
+use mathlib.Core.Path.{refl}
 use denote.Ref.{now}
 use native.Mathlib.Omega.{arith}
 use lib.ListN.{length}
 use Rattle.image.specs.Header.{sectionsBy}
-use Rattle.pages.proofs.Slots.{slot-as-long, PageSoFar, page-refused, page-start, page-next, page-end}
+use Rattle.pages.proofs.Slots.{PageSoFar, page-refused, page-start, page-next, page-end}
 use borrow.Author.Needs.{needs}
 use Rattle.pages.proofs.page.Statement.{statement}
 use Rattle.pages.proofs.page.Tie as tie
@@ -25,20 +26,17 @@ loop-holds c =
     let a = c .before .before .before .before .args in
     page-start (sectionsBy (now (a .bytes)) (a .view)) (now (a .numbers)) (now (a .slots)) (omega arith)
 
-mul-slot-of : tie.Need-mul-slot-of Inv-loop μ-loop
-mul-slot-of c = search needs
-
-shared-slice-read-slot-of : tie.Need-shared-slice-read-slot-of Inv-loop μ-loop
-shared-slice-read-slot-of c = search needs
-
-slot-of-requires : tie.Need-slot-of-requires Inv-loop μ-loop
-slot-of-requires c κs = search needs
-
 mul-put-slot : tie.Need-mul-put-slot Inv-loop μ-loop
 mul-put-slot c = search needs
 
+shared-slice-read-put-slot : tie.Need-shared-slice-read-put-slot Inv-loop μ-loop
+shared-slice-read-put-slot c = search needs
+
 mul-put-slot-2 : tie.Need-mul-put-slot-2 Inv-loop μ-loop
 mul-put-slot-2 c = search needs
+
+mul-put-slot-3 : tie.Need-mul-put-slot-3 Inv-loop μ-loop
+mul-put-slot-3 c = search needs
 
 sub-put-slot : tie.Need-sub-put-slot Inv-loop μ-loop
 sub-put-slot c = search needs
@@ -50,7 +48,7 @@ part-put-slot-end : tie.Need-part-put-slot-end Inv-loop μ-loop
 part-put-slot-end c = search needs
 
 put-slot-requires : tie.Need-put-slot-requires Inv-loop μ-loop
-put-slot-requires c κs = (slot-as-long _ _ _ (c .before .before .slot-of .ensures), search needs)
+put-slot-requires c κs = search needs
 
 add-k : tie.Need-add-k Inv-loop μ-loop
 add-k c = search needs
@@ -60,10 +58,9 @@ loop-less c = search needs
 
 loop-again : tie.Need-loop-again Inv-loop μ-loop
 loop-again c =
-    let l = c .before .before .before .before .before .before .before .before in
+    let l = c .before .before .before .before .before .before in
     let a = l .before .before .before .before .before .args in
-    page-next (sectionsBy (now (a .bytes)) (a .view)) (now (a .numbers)) (now (a .slots)) (l .loop .slots) (l .loop .k) (l .loop .inv) _ _
-    (c .before .before .before .before .before .before .before .loop-test .taken) (c .before .before .before .before .before .slot-of .ensures) (c .before .before .put-slot .ensures)
+    page-next (sectionsBy (now (a .bytes)) (a .view)) (now (a .numbers)) (now (a .slots)) (l .loop .slots) (l .loop .k) (l .loop .inv) _ _ (c .before .before .before .before .before .loop-test .taken) refl (c .before .before .put-slot .ensures)
 
 same-length : tie.Need-same-length Inv-loop μ-loop
 same-length c = search needs
@@ -82,11 +79,10 @@ page-spec =
     μ-loop
     returns
     loop-holds
-    mul-slot-of
-    shared-slice-read-slot-of
-    slot-of-requires
     mul-put-slot
+    shared-slice-read-put-slot
     mul-put-slot-2
+    mul-put-slot-3
     sub-put-slot
     part-put-slot-start
     part-put-slot-end
