@@ -32,10 +32,12 @@ fn print_optional(word: OptionalWord) {
 fn print_view(answer: NodeAnswer) {
     match answer {
         NodeAnswer::View(node) => {
+            let parent = node.parent;
+            let place = node.child_index;
             print(b"; parent");
-            print_optional(node.parent);
+            print_optional(parent);
             print(b" place");
-            print_optional(node.child_index);
+            print_optional(place);
         }
         NodeAnswer::NotFound => {
             print(b"; no-18");
