@@ -166,16 +166,6 @@ impl<'a> Image<'a> {
         Ok(Page::new(*self, numbers, &slots[..numbers.len()]))
     }
 
-    /// The view of a slot.
-    ///
-    /// # Safety
-    ///
-    /// A page of this image has the slot for the number. Its texts are then a node's, which the load found to be UTF-8;
-    /// other words could name any part of the strings.
-    pub(crate) unsafe fn slot_view(&self, node: u32, slot: &Slot) -> Option<NodeView<'a>> {
-        self.asked.slot_view_with(node, &slot.0, self)
-    }
-
     /// The depth of a node: exactly the number of parent steps from it to node 0. Every node below the node count has one,
     /// smaller than the node count; nothing for a node outside. The call takes as many steps as it counts.
     ///

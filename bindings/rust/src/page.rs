@@ -82,15 +82,14 @@ impl<'a, 'p> Page<'a, 'p> {
         self.slots
     }
 
-    /// The view of the page's node at `index`: what [`Image::node_view`] gives for its number.
+    /// The view of the page's node at `index`. It is what [`Image::node_view`] gives for its number, and is asked so: the
+    /// view of the slot's words is proved to be the same, and takes longer.
     pub fn node_view(&self, index: usize) -> Option<NodeView<'a>> {
-        let (&node, slot) = (self.numbers.get(index)?, self.slots.get(index)?);
-        // SAFETY: only `Image::page` makes a page, of the slots that it wrote for the numbers; both are borrowed since.
-        unsafe { self.image.slot_view(node, slot) }
+        self.image.node_view(*self.numbers.get(index)?)
     }
 
     /// The number and the view of each node of the page, in order.
     pub fn nodes(&self) -> impl Iterator<Item = (u32, Option<NodeView<'a>>)> + '_ {
-        self.numbers.iter().enumerate().map(|(index, &node)| (node, self.node_view(index)))
+        self.numbers.iter().map(|&node| (node, self.image.node_view(node)))
     }
 }

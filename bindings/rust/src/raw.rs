@@ -203,21 +203,10 @@ impl<'a> Queries<'a> {
         })
     }
 
-    /// The view of a slot's words, with texts and lists as `parts` hands them back. `node` is the slot's number.
-    #[inline]
-    pub(crate) fn slot_view_with<P: Parts>(
-        &self,
-        node: u32,
-        slot: &[u32],
-        parts: &P,
-    ) -> Option<NodeViewOf<P::Text, P::List>> {
-        ask!(self, story_image_slot_view, slot.as_ptr(), slot.len() => |words| node::view_of(node, words, parts))
-    }
-
     /// The view of a slot's words: for a slot that [`page`](Self::page) wrote, what [`node_view`](Self::node_view)
     /// gives for its number. Any ten words are taken as a node's; nothing for fewer, and none past them is looked at.
     pub fn slot_view(&self, slot: &[u32]) -> Option<NodeView> {
-        self.slot_view_with(NONE, slot, &Places)
+        ask!(self, story_image_slot_view, slot.as_ptr(), slot.len() => |words| node::view_of(NONE, words, &Places))
     }
 
     /// The ten words of a slot's view, as include/story_image.h has them.
