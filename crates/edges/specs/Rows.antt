@@ -3,13 +3,14 @@ use Prim.Native.Nat.{ℕ, zero, suc, _+_}
 use mathlib.Core.Path.{_≡_, refl}
 use mathlib.Core.List.{List, [], _∷_, _++_}
 use mathlib.Core.Bool.{Bool, true, false}
-use lib.ListN.{length, take, set, getD}
+use lib.ListN.{length, take, set, getD, replicate}
 use Rattle.words.specs.Words.{NONE}
 use Rattle.texts.specs.Text.{ascii}
 use Rattle.image.specs.Sections.{Sections}
 use Rattle.image.specs.Encoding.{imageOf, encodings}
 use Rattle.load.specs.Load.{loadRule, loads}
 use Rattle.views.specs.Children.{childQuery, childrens}
+use Rattle.pages.specs.Page.{slotOf, pageRule, pageAfter, pages}
 use Rattle.promises.specs.Answers.{ofFound}
 use Rattle.draft_image.specs.Encode.{encodeRule, encodes}
 use Rattle.edges.specs.Examples.{smallestImage, containerWords, nodeEntry, plainSections, rootNamed, rootDraft, withChild, examples}
@@ -135,11 +136,37 @@ draft-rows =
       write-7 = refl;
     }
 
+-- row 24, and pages: of the smallest image and of a root with a child, whose tag is one that there is or none
+pub record PageRows : Type 0 where
+  pub row-24 : pageRule 2 23 ≡ 24
+  pub enough : pageRule 2 24 ≡ 0
+  pub no-numbers : pageRule 0 0 ≡ 0
+  pub untouched : pageAfter (rootNamed NONE NONE) (9 ∷ 0 ∷ []) (replicate 23 7) ≡ replicate 23 7
+  pub slots : pageAfter (rootNamed NONE NONE) (0 ∷ 0 ∷ NONE ∷ 1 ∷ []) (replicate 49 7)
+      ≡ (NONE ∷ NONE ∷ 1 ∷ NONE ∷ NONE ∷ 0 ∷ 0 ∷ 0 ∷ 0 ∷ 0 ∷ 0 ∷ 0 ∷ []) ++ (NONE ∷ NONE ∷ 1 ∷ NONE ∷ NONE ∷ 0 ∷ 0 ∷ 0 ∷ 0 ∷ 0 ∷ 0 ∷ 0 ∷ [])
+      ++ (18 ∷ replicate 11 0) ++ (18 ∷ replicate 11 0) ++ (7 ∷ [])
+  pub tag-5 : take 3 (slotOf (withChild 5 []) 1) ≡ 0 ∷ 0 ∷ 5 ∷ []
+  pub tag-15 : slotOf (withChild 15 []) 1 ≡ 18 ∷ replicate 11 0
+
+page-rows : PageRows
+unfolding rowDrafts pages
+page-rows =
+    record {
+      row-24 = refl;
+      enough = refl;
+      no-numbers = refl;
+      untouched = refl;
+      slots = refl;
+      tag-5 = refl;
+      tag-15 = refl;
+    }
+
 pub record Rows : Type 0 where
   pub header : HeaderRows
   pub record-rules : RecordRows
   pub tree : TreeRows
   pub draft : DraftRows
+  pub page : PageRows
 
 pub all : Rows
-all = record { header = header-rows; record-rules = record-rows; tree = tree-rows; draft = draft-rows }
+all = record { header = header-rows; record-rules = record-rows; tree = tree-rows; draft = draft-rows; page = page-rows }

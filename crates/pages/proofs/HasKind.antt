@@ -37,33 +37,9 @@ module _ (strings : List ℕ) (payload : ℕ) (r : NodeRecord) where
   at : (k : ℕ) → r .tag ≡ k → (b : Bool) → b ≡ hasKind (kindView strings payload r (kindOf k)) → Told b
   at k e b h = h ∙ ap (λ (t : ℕ). hasKind (kindView strings payload r (kindOf t))) (sym e)
 
-  pub container-kind : r .tag ≡ 1 → Told true
-  unfolding kindView kinds
-  container-kind e = at 1 e true refl
-
-  pub choice-kind : r .tag ≡ 2 → Told true
-  unfolding kindView kinds
-  choice-kind e = at 2 e true refl
-
-  pub glue-kind : r .tag ≡ 5 → Told true
-  unfolding kindView kinds
-  glue-kind e = at 5 e true refl
-
-  pub bool-kind : r .tag ≡ 8 → Told true
-  unfolding kindView kinds
-  bool-kind e = at 8 e true refl
-
-  pub int-kind : r .tag ≡ 9 → Told true
-  unfolding kindView kinds
-  int-kind e = at 9 e true refl
-
-  pub float-kind : r .tag ≡ 10 → Told true
-  unfolding kindView kinds
-  float-kind e = at 10 e true refl
-
-  pub void-kind : r .tag ≡ 18 → Told true
-  unfolding kindView kinds
-  void-kind e = at 18 e true refl
+  -- a kind that every record of its tag has
+  pub plain-kind : (k : ℕ) → r .tag ≡ k → hasKind (kindView strings payload r (kindOf k)) ≡ true → Told true
+  plain-kind k e h = at k e true (sym h)
 
   pub divert-kind : r .tag ≡ 4 → (b : Bool) → b ≡ leb (r .f6 / 8) 2 → Told b
   unfolding kindView kinds

@@ -1,9 +1,12 @@
 -- `pages::viewed::has_kind` meets its contract.
+use mathlib.Core.Path.{refl}
 use mathlib.Core.Logic.{inl, inr, ⊎-elim}
 use native.Mathlib.Omega.{arith}
 use denote.Ref.{now}
+use Rattle.records.specs.Fields.{kinds}
+use Rattle.views.specs.View.{kindView}
 use Rattle.pages.proofs.TextTags.{from-nineteen, text-single, text-below, text-above}
-use Rattle.pages.proofs.HasKind.{container-kind, choice-kind, divert-kind, glue-kind, bool-kind, int-kind, float-kind, list-kind, void-kind, no-kind, text-kind}
+use Rattle.pages.proofs.HasKind.{plain-kind, divert-kind, list-kind, no-kind, text-kind}
 use borrow.Author.Needs.{needs}
 use Rattle.pages.proofs.viewed.has_kind.Statement.{statement}
 use Rattle.pages.proofs.viewed.has_kind.Tie as tie
@@ -18,31 +21,38 @@ text-fits-requires : tie.Need-text-fits-requires
 text-fits-requires c κs = search needs
 
 returns : tie.Need-returns
-returns c = let a = c .before .before .args in container-kind (now (a .strings)) (a .payload) (a .node) (c .match .keys1)
+unfolding kindView kinds
+returns c = let a = c .before .before .args in plain-kind (now (a .strings)) (a .payload) (a .node) 1 (c .match .keys1) refl
 
 returns-2 : tie.Need-returns-2
-returns-2 c = let a = c .before .before .args in choice-kind (now (a .strings)) (a .payload) (a .node) (c .match .keys2)
+unfolding kindView kinds
+returns-2 c = let a = c .before .before .args in plain-kind (now (a .strings)) (a .payload) (a .node) 2 (c .match .keys2) refl
 
 returns-3 : tie.Need-returns-3
 returns-3 c = let a = c .before .before .before .args in divert-kind (now (a .strings)) (a .payload) (a .node) (c .before .match .keys3) _ (c .push-type-known .ensures)
 
 returns-4 : tie.Need-returns-4
-returns-4 c = let a = c .before .before .args in glue-kind (now (a .strings)) (a .payload) (a .node) (c .match .keys4)
+unfolding kindView kinds
+returns-4 c = let a = c .before .before .args in plain-kind (now (a .strings)) (a .payload) (a .node) 5 (c .match .keys4) refl
 
 returns-5 : tie.Need-returns-5
-returns-5 c = let a = c .before .before .args in bool-kind (now (a .strings)) (a .payload) (a .node) (c .match .keys5)
+unfolding kindView kinds
+returns-5 c = let a = c .before .before .args in plain-kind (now (a .strings)) (a .payload) (a .node) 8 (c .match .keys5) refl
 
 returns-6 : tie.Need-returns-6
-returns-6 c = let a = c .before .before .args in int-kind (now (a .strings)) (a .payload) (a .node) (c .match .keys6)
+unfolding kindView kinds
+returns-6 c = let a = c .before .before .args in plain-kind (now (a .strings)) (a .payload) (a .node) 9 (c .match .keys6) refl
 
 returns-7 : tie.Need-returns-7
-returns-7 c = let a = c .before .before .args in float-kind (now (a .strings)) (a .payload) (a .node) (c .match .keys7)
+unfolding kindView kinds
+returns-7 c = let a = c .before .before .args in plain-kind (now (a .strings)) (a .payload) (a .node) 10 (c .match .keys7) refl
 
 returns-8 : tie.Need-returns-8
 returns-8 c = let a = c .before .before .before .args in list-kind (now (a .strings)) (a .payload) (a .node) (c .before .match .keys8) _ (c .list-inside .ensures)
 
 returns-9 : tie.Need-returns-9
-returns-9 c = let a = c .before .before .args in void-kind (now (a .strings)) (a .payload) (a .node) (c .match .keys10)
+unfolding kindView kinds
+returns-9 c = let a = c .before .before .args in plain-kind (now (a .strings)) (a .payload) (a .node) 18 (c .match .keys10) refl
 
 returns-10 : tie.Need-returns-10
 returns-10 c = let a = c .before .before .before .args in no-kind (now (a .strings)) (a .payload) (a .node) (inl (search needs))
