@@ -1,7 +1,7 @@
 -- Whether there is a view: of a kind as it is viewed, and of a text by the tag. Laws tie the latter to the views; it need not be believed.
 use Prim.Native.Nat.{ℕ}
 use mathlib.Core.List.{List}
-use mathlib.Core.Bool.{Bool, true, false, cond, _&&_}
+use mathlib.Core.Bool.{Bool, true, false, cond}
 use lib.ListN.{length}
 use lib.Dec.{eqb}
 use Rattle.image.specs.Sections.{textOrEmpty}
