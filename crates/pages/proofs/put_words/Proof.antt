@@ -1,9 +1,9 @@
 -- `pages::put_words` meets its contract.
+use mathlib.Core.Path.{refl}
 use denote.Ref.{now}
 use native.Mathlib.Omega.{arith}
 use lib.ListN.{length-set}
-use lib.Seq.{length-sets}
-use Rattle.pages.proofs.Slots.{twelve, slot-put}
+use Rattle.pages.proofs.Slots.{slot-put}
 use borrow.Author.Needs.{needs}
 use Rattle.pages.proofs.put_words.Statement.{statement}
 use Rattle.pages.proofs.put_words.Tie as tie
@@ -81,7 +81,7 @@ slice-write-out-12 : tie.Need-slice-write-out-12
 slice-write-out-12 c = simp length-set (omega arith)
 
 same-length : tie.Need-same-length
-same-length c = let a = c .before .before .before .before .before .before .before .before .before .before .before .before .args in length-sets (now (a .out)) 0 (twelve (now (a .slot)))
+same-length c = simp length-set refl
 
 returns : tie.Need-returns
 returns c = let p = c .before .before .before .before .before .before .before .before .before .before .before .before in slot-put (now (p .args .out)) (now (p .args .slot)) (p .pre .0) (p .pre .1)
