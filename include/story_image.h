@@ -3,10 +3,10 @@
  *
  * A slice is lent as pointer and length (a count of elements, not of bytes). It must not be written by others during
  * the call; its pointer is not null, also where the length is 0, and is aligned for its type. Slices that are written
- * (work, view, answer, slots, output, written) overlap nothing else. That is all that is asked of a caller: every
- * function takes any bytes, any words and any numbers, and ends. No function allocates, keeps what it was lent, has
- * state, or changes a byte of an image; calls from several threads at once are fine. The tables of the checksum take
- * about 5 KB of stack in a load and in a write.
+ * (work, view, answer, searched, slots, output, written) overlap nothing else. That is all that is asked of a caller:
+ * every function takes any bytes, any words and any numbers, and ends. No function allocates, keeps what it was lent,
+ * has state, or changes a byte of an image; calls from several threads at once are fine. The tables of the checksum
+ * take about 5 KB of stack in a load and in a write.
  *
  * In short:
  *
@@ -347,7 +347,8 @@ enum {
 };
 
 /* How many work words are needed is said at each call; those that are needed are zero on return, or as they were.
- * Words past them, and words of an answer, a view or an output past what is written, always stay as they were. */
+ * Words past them, and words of an answer, a count, a view or an output past what is written, always stay as they
+ * were. */
 
 /* Work words that suffice to load the bytes, whatever they are: nodes + children + named entries + 1. Never more than
  * length / 4, whatever the header says; 0 where a load refuses the header (1 to 5), and so needs none. */
@@ -465,9 +466,15 @@ uint32_t story_image_definition_first_item(const uint8_t *bytes, size_t length, 
 
 /* STORY_IMAGE_LIST_ITEM_WORDS words: the list item that a name means. What stands before the first dot is the
  * definition's name; without a dot the last definition that has the item answers. A name that is empty or White_Space
- * alone gives 18. The number of the item is among the items of all definitions, not among those of its own. */
+ * alone gives 18. The number of the item is among the items of all definitions, not among those of its own.
+ * STORY_IMAGE_COUNT_WORDS words of `searched`: how many definitions' items were searched, with 18 too, also where the
+ * answer is too short. Without a dot they are those from the last down to the one that answers, or all; with a dot 1 if
+ * what stands before the first dot is the name of a definition, else 0; 0 for a name that is empty or White_Space
+ * alone. A definition without items counts as searched. Where no word is lent no count is written. Under a view of too
+ * few words 18, and neither answer nor count is written. */
 uint32_t story_image_list_item(const uint8_t *bytes, size_t length, const uint32_t *view, size_t view_length,
-                               const uint8_t *name, size_t name_length, uint32_t *answer, size_t answer_length);
+                               const uint8_t *name, size_t name_length, uint32_t *answer, size_t answer_length,
+                               uint32_t *searched, size_t searched_length);
 
 /* STORY_IMAGE_FOUND_WORDS words: the node at the end of a path of STORY_IMAGE_STEP_WORDS words a component. Not
  * relative: the walk starts at the root, and `origin` is not looked at. Relative: the walk starts at `origin` if that

@@ -223,6 +223,7 @@ unsafe extern "C" {
         answer_length: usize,
     ) -> u32;
 
+    /// The count goes into the first word of `searched`, with 18 too.
     pub fn story_image_list_item(
         bytes: *const u8,
         length: usize,
@@ -232,6 +233,8 @@ unsafe extern "C" {
         name_length: usize,
         answer: *mut u32,
         answer_length: usize,
+        searched: *mut u32,
+        searched_length: usize,
     ) -> u32;
 
     /// Three words a component: kind (0 parent, 1 index, 2 name), then index and 0, or offset and length in `names`.

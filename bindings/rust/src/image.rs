@@ -5,7 +5,7 @@ use crate::lists::{DefinitionView, ListView};
 use crate::node::{NodeKindOf, NodeViewOf, Parts, ValueOf};
 use crate::page::{Page, Slot};
 use crate::path::{self, Step};
-use crate::raw::{ListItem, Queries, TextPlace};
+use crate::raw::{ItemSearch, ListItem, Queries, TextPlace};
 use crate::refusal::Refusal;
 use crate::view::View;
 
@@ -262,7 +262,7 @@ impl<'a> Image<'a> {
     /// for (index, definition) in image.definitions().enumerate() {
     ///     for (name, value) in image.definition_items(index as u32) {
     ///         let full = format!("{}.{name}", definition.name);
-    ///         assert_eq!(image.list_item(full).unwrap().value, value);
+    ///         assert_eq!(image.list_item(full).item.unwrap().value, value);
     ///     }
     /// }
     /// # Ok::<(), story_image::Refusal>(())
@@ -273,8 +273,20 @@ impl<'a> Image<'a> {
     }
 
     /// The item that a name means: what stands before the first dot is the definition's name; without a dot the last
-    /// definition that has the item answers.
-    pub fn list_item(&self, name: impl AsRef<[u8]>) -> Option<ListItem> {
+    /// definition that has the item answers. Beside it the number of definitions whose items were searched.
+    ///
+    /// ```
+    /// # use story_image::{Image, load_words};
+    /// # let bytes = include_bytes!(concat!(env!("CARGO_MANIFEST_DIR"), "/../../samples/step.image"));
+    /// # let image = Image::load(bytes, &mut vec![0; load_words(bytes)])?;
+    /// let search = image.list_item("red");
+    /// assert_eq!(search.item.map(|item| item.value), Some(3));
+    /// assert_eq!(search.searched, 2);
+    /// assert_eq!(image.list_item("lamp.red").searched, 1);
+    /// assert_eq!(image.list_item("no such item").searched, image.definition_count());
+    /// # Ok::<(), story_image::Refusal>(())
+    /// ```
+    pub fn list_item(&self, name: impl AsRef<[u8]>) -> ItemSearch {
         self.asked.list_item(name.as_ref())
     }
 

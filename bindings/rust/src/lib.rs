@@ -30,7 +30,7 @@ pub use names::{CommandType, Op};
 pub use node::{NodeKindOf, NodeViewOf, PushPopType, ValueOf};
 pub use page::{Page, Slot};
 pub use path::Step;
-pub use raw::ListItem;
+pub use raw::{ItemSearch, ListItem};
 pub use refusal::Refusal;
 pub use view::{Section, View};
 

@@ -72,6 +72,17 @@ pub struct ListItem {
     pub value: i32,
 }
 
+/// What a search for an item by its name gives.
+#[derive(Clone, Copy, Debug, PartialEq, Eq)]
+pub struct ItemSearch {
+    /// The item, if there is one.
+    pub item: Option<ListItem>,
+    /// How many definitions' items were searched: without a dot those from the last down to the one that answers, or
+    /// all; with a dot one if what stands before the first dot is the name of a definition, else none; for a name that
+    /// is empty or blank none.
+    pub searched: u32,
+}
+
 /// Bytes and the words of a view, to be asked.
 #[derive(Clone, Copy)]
 pub struct Queries<'a> {
@@ -320,11 +331,30 @@ impl<'a> Queries<'a> {
         })
     }
 
-    /// The item that a name means, with or without its definition's name and a dot in front.
-    pub fn list_item(&self, name: &[u8]) -> Option<ListItem> {
-        ask!(self, story_image_list_item, name.as_ptr(), name.len() => |&[definition, item, value]| {
-            Some(ListItem { definition, item, value: value as i32 })
-        })
+    /// The item that a name means, with or without its definition's name and a dot in front, and how many definitions'
+    /// items were searched.
+    pub fn list_item(&self, name: &[u8]) -> ItemSearch {
+        let (bytes, view) = (self.bytes, &self.words);
+        let mut searched = 0;
+        // SAFETY: the slices live through the call, and answer and count, which alone are written, are ours.
+        let item = ask(
+            |answer, length| unsafe {
+                ffi::story_image_list_item(
+                    bytes.as_ptr(),
+                    bytes.len(),
+                    view.as_ptr(),
+                    view.len(),
+                    name.as_ptr(),
+                    name.len(),
+                    answer,
+                    length,
+                    &mut searched,
+                    1,
+                )
+            },
+            |&[definition, item, value]| Some(ListItem { definition, item, value: value as i32 }),
+        );
+        ItemSearch { item, searched }
     }
 
     /// The node at the end of a path, as [`Image::resolve_path`](crate::Image::resolve_path).

@@ -8,6 +8,7 @@ use image::NodeRecord;
 use image::payload;
 use image::refusal::NOT_FOUND;
 use image::tag;
+use list_items::ItemSearch;
 use lookups::ListItem;
 use lookups::ListItemAnswer;
 use views::DefinitionAnswer;
@@ -19,10 +20,12 @@ use views::ListEntry;
 use views::Span;
 use views::entries::RecordFound;
 ghost use mathlib.Core.Path.{_≡_};
+ghost use mathlib.Core.List.{[], _∷_};
+ghost use mathlib.Core.Option.{some};
 ghost use Rattle.image.specs.Header.{sectionsBy};
 ghost use Rattle.views.specs.View.{nodeView};
 ghost use Rattle.answers.specs.AnswerWords.{entryWords, definitionViewWords, itemViewWords, countWords, foundItemWords};
-ghost use Rattle.answers.specs.AnswerWords.{Answered, entryAnswer, definitionAnswer, itemAnswer, listItemAnswer, listCountWords};
+ghost use Rattle.answers.specs.AnswerWords.{Answered, answerAfter, entryAnswer, definitionAnswer, itemAnswer, listItemAnswer, listCountWords};
 ghost use Rattle.answers.specs.NodeViewWords.{listPlace};
 ghost use Rattle.answers.specs.RecordWords.{foundListPlace, listPlaceIn};
 
@@ -157,6 +160,17 @@ pub fn put_list_item(found: ListItemAnswer, answer: &mut [u32]) -> u32
         ListItemAnswer::NotFound => NOT_FOUND,
         ListItemAnswer::Item(item) => put_item_numbers(item, answer),
     }
+}
+
+// The same of a search, and the number of definitions whose items it searched as the first word of `searched`, if a word is lent.
+pub fn put_search(search: ItemSearch, answer: &mut [u32], searched: &mut [u32]) -> u32
+    ensures answer { λ r. ⌜ Answered (listItemAnswer (search .answer)) (now (answer .entry)) (now (answer .exit)) r ⌝ }
+    ensures searched { λ _. ⌜ now (searched .exit) ≡ answerAfter (some (search .searched ∷ [])) (now (searched .entry)) ⌝ }
+{
+    let count = [search.searched];
+    put_answer(&count, searched);
+    let found = search.answer;
+    put_list_item(found, answer)
 }
 
 // Items and origins of a list value, out of its payload.

@@ -72,21 +72,33 @@ unfoldable pub withA : List ℕ → ℕ → ℕ → Sections
 withA strings at len =
     plainSections (containerWords NONE NONE NONE NONE 0 1 ++ containerWords 0 0 0 1 1 0) (1 ∷ []) (0 ∷ 0 ∷ 0 ∷ at ∷ len ∷ 1 ∷ []) strings
 
--- a root, and definitions red and size that both hold low
-unfoldable pub withLists : Sections
-withLists =
+-- a root, and definitions and items by their words, with names out of "redlowsize"
+abbrev listSections : List ℕ → List ℕ → Sections
+listSections definitions items =
     record {
       version = 2;
       nodes = containerWords NONE NONE NONE NONE 0 0;
       children = [];
       named = [];
-      definitions = 0 ∷ 3 ∷ 0 ∷ 1 ∷ 6 ∷ 4 ∷ 1 ∷ 1 ∷ [];
-      items = 3 ∷ 3 ∷ 1 ∷ 3 ∷ 3 ∷ 2 ∷ [];
+      definitions = definitions;
+      items = items;
       index = 0 ∷ 0 ∷ 0 ∷ [];
       payload = [];
       strings = ascii "redlowsize";
     }
 
+-- definitions red and size that both hold low
+unfoldable pub withLists : Sections
+withLists = listSections (0 ∷ 3 ∷ 0 ∷ 1 ∷ 6 ∷ 4 ∷ 1 ∷ 1 ∷ []) (3 ∷ 3 ∷ 1 ∷ 3 ∷ 3 ∷ 2 ∷ [])
+
+-- two definitions red, of which the first holds low and the second size
+unfoldable pub twoReds : Sections
+twoReds = listSections (0 ∷ 3 ∷ 0 ∷ 1 ∷ 0 ∷ 3 ∷ 1 ∷ 1 ∷ []) (3 ∷ 3 ∷ 1 ∷ 6 ∷ 4 ∷ 2 ∷ [])
+
+-- red holds low; of the items of size the last is outside
+unfoldable pub itemsOutside : Sections
+itemsOutside = listSections (0 ∷ 3 ∷ 0 ∷ 1 ∷ 6 ∷ 4 ∷ 1 ∷ 2 ∷ []) (3 ∷ 3 ∷ 1 ∷ 3 ∷ 3 ∷ 2 ∷ [])
+
 unfoldable pub examples : Unit {0}
-unfolding smallestImage headerAlone containerWords nodeEntry plainSections rootNamed rootDraft withChild withPlace3 withA withLists
+unfolding smallestImage headerAlone containerWords nodeEntry plainSections rootNamed rootDraft withChild withPlace3 withA withLists twoReds itemsOutside
 examples = tt

@@ -15,7 +15,9 @@ use Rattle.views.specs.View.{nodeView, views}
 use Rattle.lookups.specs.Lookup.{listItem, lookups}
 use Rattle.walks.specs.Walk.{resolve, walks}
 use Rattle.views.specs.declared.Found.the-variants.{Node}
-use Rattle.lookups.specs.declared.ListItemAnswer.the-variants.{Item}
+use Rattle.lookups.specs.declared.ListItemAnswer.the-variants.{Item, NotFound}
+use Rattle.list_items.specs.declared.ItemSearch.{ItemSearch}
+use Rattle.list_items.specs.Search.{listSearch, listSearches}
 use Rattle.draft_image.specs.Encode.{encodeRule, imageFor, encodes}
 use Rattle.views.specs.declared.OptionalText.the-variants.{Present, Absent}
 use Rattle.views.specs.declared.OptionalText.{OptionalText}
@@ -23,7 +25,7 @@ use Rattle.views.specs.declared.OptionalWord.the-variants as word
 use Rattle.views.specs.declared.NodeKindView.the-variants as kind
 use Rattle.views.specs.declared.NodeAnswer.{NodeAnswer}
 use Rattle.views.specs.declared.NodeAnswer.the-variants as node
-use Rattle.edges.specs.Examples.{smallestImage, headerAlone, rootNamed, rootDraft, withChild, withDivert, withPlace3, withA, withLists, examples}
+use Rattle.edges.specs.Examples.{smallestImage, headerAlone, rootNamed, rootDraft, withChild, withDivert, withPlace3, withA, withLists, twoReds, itemsOutside, examples}
 
 -- the view of a root: no parent, no place, flags 0, and the name
 abbrev rootView : OptionalText → NodeAnswer
@@ -128,12 +130,57 @@ query-lines =
       from-glue = refl;
     }
 
+-- what a search says: the item of a definition and its value, or nothing, and how many definitions' items were searched
+abbrev foundBy : ℕ → ℕ → ℕ → ℕ → ItemSearch
+foundBy d item value searched = record { answer = Item (record { definition = d; item = item; value = pos value }); searched = searched }
+
+abbrev nothingBy : ℕ → ItemSearch
+nothingBy searched = record { answer = NotFound; searched = searched }
+
+-- the same items by the search from the last definition on, and names that give none: no such origin, no such item, a space, U+3000 and
+-- a tab, nothing, a dot with nothing on one side
+pub record SearchLines : Type 0 where
+  pub low : listSearch withLists (ascii "low") ≡ foundBy 1 1 2 1
+  pub red-low : listSearch withLists (ascii "red.low") ≡ foundBy 0 0 1 1
+  pub no-low : listSearch withLists (ascii "no.low") ≡ nothingBy 0
+  pub high : listSearch withLists (ascii "high") ≡ nothingBy 2
+  pub red-high : listSearch withLists (ascii "red.high") ≡ nothingBy 1
+  pub blank-name : listSearch withLists (32 ∷ 227 ∷ 128 ∷ 128 ∷ 9 ∷ []) ≡ nothingBy 0
+  pub empty-name : listSearch withLists [] ≡ nothingBy 0
+  pub dot-low : listSearch withLists (ascii ".low") ≡ nothingBy 0
+  pub red-dot : listSearch withLists (ascii "red.") ≡ nothingBy 1
+  pub low-dot : listSearch withLists (ascii "low.") ≡ nothingBy 0
+  -- not accepted: two definitions of one name, of which the last decides; items that are not all inside, which count as searched
+  pub two-red : listSearch twoReds (ascii "red.low") ≡ nothingBy 1
+  pub two-red-plain : listSearch twoReds (ascii "low") ≡ foundBy 0 0 1 2
+  pub items-outside : listSearch itemsOutside (ascii "low") ≡ foundBy 0 0 1 2
+
+search-lines : SearchLines
+unfolding examples listSearches
+search-lines =
+    record {
+      low = refl;
+      red-low = refl;
+      no-low = refl;
+      high = refl;
+      red-high = refl;
+      blank-name = refl;
+      empty-name = refl;
+      dot-low = refl;
+      red-dot = refl;
+      low-dot = refl;
+      two-red = refl;
+      two-red-plain = refl;
+      items-outside = refl;
+    }
+
 pub record Edges : Type 0 where
   pub smallest : SmallestLines
   pub fields : FieldLines
   pub names : NameLines
   pub places : PlaceLines
   pub queries : QueryLines
+  pub searches : SearchLines
 
 pub edges : Edges
 edges =
@@ -143,4 +190,5 @@ edges =
       names = name-lines;
       places = place-lines;
       queries = query-lines;
+      searches = search-lines;
     }

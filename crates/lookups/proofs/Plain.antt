@@ -3,7 +3,7 @@ use Prim.Native.Nat.{ℕ, zero, suc, _+_, _*_, _≤_, _<_}
 use mathlib.Core.Path.{_≡_, refl, sym, ap, _∙_, subst}
 use mathlib.Core.List.{List}
 use mathlib.Core.Bool.{Bool, true, false, cond, _||_, not, true≢false}
-use mathlib.Core.Option.{Option, none, some}
+use mathlib.Core.Option.{Option, none, some, Option·none-ne-some}
 use native.Mathlib.Omega.{arith}
 use native.Mathlib.Nat.{add-zero, not-suc-le-zero}
 use native.Mathlib.Decide.{ℕ-discrete}
@@ -29,7 +29,6 @@ use Rattle.lookups.specs.declared.ListItemAnswer.the-variants as answer
 use Rattle.views.specs.View.{signed}
 use Rattle.lookups.specs.Lookup.{entryText, searched, foundAt, namedBy, findNamed, itemPlace, definitionName, answeringPlace, answers, listItemAt, listItemIn, lastItem}
 use Rattle.lookups.specs.Plain.{HasName, NodeNamed, NamedLookup, Holds, LastHolds, ItemLookup}
-use Rattle.lookups.proofs.Lookups.{chosen}
 use Rattle.lookups.proofs.HalvingSearch.{Rising, found-there, there-found}
 
 -- ---- a search among entries whose texts are u 0, u 1, .. and rise
@@ -152,7 +151,34 @@ module _ (t : ℕ → Bool) where
   last-none zero d e h = absurd (not-suc-le-zero h)
   last-none (suc n) d e h = none-step n d (t n) refl (last-none n d) e h
 
+-- by another test
+pub last-like : (n : ℕ) (t u : ℕ → Bool) → ((d : ℕ) → d < n → t d ≡ u d) → lastOf n t ≡ lastOf n u
+unfolding lastOf
+last-like zero t u h = refl
+last-like (suc n) t u h = rw (h n (omega arith), last-like n t u (λ d l. h d (omega arith)))
+
+-- where none passes, and where one is known to be the last
+pub last-none-of : (n : ℕ) (t : ℕ → Bool) → ((d : ℕ) → d < n → t d ≡ false) → lastOf n t ≡ none
+unfolding lastOf
+last-none-of zero t h = refl
+last-none-of (suc n) t h = rw (h n (omega arith)) (last-none-of n t (λ d l. h d (omega arith)))
+
+pub last-is : (n : ℕ) (t : ℕ → Bool) (d : ℕ) → Last n t d → lastOf n t ≡ some d
+unfolding lastOf
+last-is zero t d l = absurd (omega (arith, l .below))
+last-is (suc n) t d l = by (ℕ-discrete d n) (λ k. last-is n t d k)
+  where
+    by : Dec (d ≡ n) → (Last n t d → lastOf n t ≡ some d) → cond (t n) (some n) (lastOf n t) ≡ some d
+    by (yes e) next = rw (ap t (sym e) ∙ l .passes) (ap some (sym e))
+    by (no e) next =
+        rw (l .last n (omega (arith, l .below)) (omega arith))
+        (next (record { below = omega (arith, l .below); passes = l .passes; last = λ x a b. l .last x a (omega arith) }))
+
 -- ---- a list item
+
+chosen : (b : Bool) (x : Option ℕ) (j : ℕ) → cond b x none ≡ some j → (b ≡ true) × (x ≡ some j)
+chosen true x j e = (refl, e)
+chosen false x j e = absurd (Option·none-ne-some j e)
 
 item-entry-text : (s : Sections) (k : ℕ) → entryText (s .items) (s .strings) k ≡ textOrEmpty (s .strings) (itemWord s k 0) (itemWord s k 1)
 unfolding itemWord

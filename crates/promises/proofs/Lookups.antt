@@ -25,6 +25,7 @@ use Rattle.lookups.specs.declared.ListItemAnswer.the-variants as listed
 use Rattle.lookups.specs.Lookup.{findNamed, lastItem, listItem}
 use Rattle.lookups.specs.Plain.{HasName, NodeNamed, NamedLookup, Holds, LastHolds, ItemLookup}
 use Rattle.lookups.proofs.Plain.{named-read, passed-items-read}
+use Rattle.list_items.proofs.Plain.{same-answer, search-counted}
 use Rattle.promises.specs.Answers.{Answer, given, ofLoaded, ofFound, ofListItem}
 use Rattle.promises.specs.Rules.{Iff}
 use Rattle.promises.specs.Lookups.{NamedFound, ItemFound, Lookups, AcceptedLookups}
@@ -101,6 +102,8 @@ module _ (s : Sections) (g : Kept s) (p : RowsPassed s) where
         with-dot = λ name b d. item-number s passed true (beforeDot name) (afterDot name) (passed-items-read s (p .definitions) true (beforeDot name) (afterDot name)) (listItem s name) (rw (b, d));
         one-origin = definition-once s passed;
         without-dot = λ name b d. item-number s passed false name name (passed-items-read s (p .definitions) false name name) (listItem s name) (rw (b, d));
+        searched-answer = same-answer s (p .definitions);
+        search-count = search-counted s (p .definitions);
       }
 
 pub accepted-lookups : AcceptedLookups

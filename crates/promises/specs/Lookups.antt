@@ -16,6 +16,8 @@ use Rattle.lookups.specs.declared.ListItem.{ListItem}
 use Rattle.lookups.specs.declared.ListItemAnswer.{ListItemAnswer}
 use Rattle.lookups.specs.Lookup.{findNamed, listItem}
 use Rattle.lookups.specs.Plain.{HasName, NodeNamed, Holds, LastHolds}
+use Rattle.list_items.specs.Search.{listSearch}
+use Rattle.list_items.specs.Plain.{SearchCount}
 use Rattle.promises.specs.Answers.{given, ofLoaded, ofFound, ofListItem}
 use Rattle.promises.specs.Rules.{Iff}
 
@@ -49,6 +51,9 @@ pub record Lookups (s : Sections) : Type 0 where
   pub one-origin : (d e : ℕ) → d < definitionCount s → e < definitionCount s → definitionText s d ≡ definitionText s e → d ≡ e
   -- without: of the last definition that holds it
   pub without-dot : (name : List ℕ) → blank name ≡ false → hasDot name ≡ false → ItemFound s false name name (listItem s name)
+  -- the search from the last definition to the first gives these answers, and counts the definitions whose items it searched
+  pub searched-answer : (name : List ℕ) → listSearch s name .answer ≡ listItem s name
+  pub search-count : (name : List ℕ) → SearchCount s name (listSearch s name)
 
 -- of bytes that a load accepts, with the view that it answers
 abbrev pub AcceptedLookups : Type 0

@@ -1,9 +1,9 @@
-// Runs FORMAT.md's examples of list items by name, of a relative walk, of depths and of pages through the code. Standard input holds nine
+// Runs FORMAT.md's examples of list items by name, of a relative walk, of depths and of pages through the code. Standard input holds ten
 // images, each behind its length. Of the first three items and walks are asked: one with the definitions red and size, which both hold low;
 // one whose root has a glue as its child; and that one with a bit of its checksum turned, which is refused. Of the next four the depths of
 // nodes: the smallest; one whose nodes 1 and 2 are each the other's parent, which is refused; one with a container that is only a named
-// child; and a chain of six containers, the last of which is node 1. Pages of the one with the named child, and of the last two: a root
-// with a child of tag 15, which is refused; and forty nodes of all kinds but lists.
+// child; and a chain of six containers, the last of which is node 1. Pages of the one with the named child, and of the next two: a root
+// with a child of tag 15, which is refused; and forty nodes of all kinds but lists. The last has sixty definitions of twenty items.
 ghost use Prim.Native.Nat.{_≤_};
 use image::ImageView;
 use image::Opened;
@@ -11,10 +11,10 @@ use image::Section;
 use libc::STDIN_FILENO;
 use libc::STDOUT_FILENO;
 use load::Loaded;
-use lookups::ListItemAnswer;
 use views::Count;
 use views::Found;
 
+mod items; // items.rt: list items by name
 mod page; // page.rt: pages of nodes
 
 fn print(text: &[u8]) {
@@ -23,23 +23,6 @@ fn print(text: &[u8]) {
 
 fn print_number(n: u64) {
     io::print_decimal(STDOUT_FILENO, n);
-}
-
-// The definition that answers, or 18.
-fn print_item(name: &[u8], answer: ListItemAnswer) {
-    print(name);
-    match answer {
-        ListItemAnswer::Item(item) => {
-            print(b": definition ");
-            print_number(item.definition as u64);
-            print(b", item ");
-            print_number(item.item as u64);
-        }
-        ListItemAnswer::NotFound => {
-            print(b": 18");
-        }
-    }
-    print(b"\n");
 }
 
 fn print_found(answer: Found) {
@@ -53,15 +36,6 @@ fn print_found(answer: Found) {
         }
     }
     print(b"\n");
-}
-
-// Items by name.
-fn items(bytes: &[u8], view: ImageView) {
-    print_item(b"low", lookups::list_item(bytes, view, b"low"));
-    print_item(b"red.low", lookups::list_item(bytes, view, b"red.low"));
-    print_item(b"size.low", lookups::list_item(bytes, view, b"size.low"));
-    print_item(b"high", lookups::list_item(bytes, view, b"high"));
-    print_item(b" ", lookups::list_item(bytes, view, b" "));
 }
 
 // Walks and children.
@@ -79,7 +53,7 @@ fn walk(bytes: &[u8], view: ImageView) {
 
 // Every query on an image.
 fn both(bytes: &[u8], view: ImageView) {
-    items(bytes, view);
+    items::ask_two(bytes, view);
     walk(bytes, view);
 }
 
@@ -185,4 +159,5 @@ fn main() {
     run_all(&buffer[..n]);
     run_depths(&buffer[..n]);
     run_pages(&buffer[..n]);
+    items::run_sixty(part(&buffer[..n], 3833));
 }

@@ -157,7 +157,9 @@ fn definition_item(fields: &[u8], image: &[u8], view: ImageView) -> bool {
 // Number, definition, item among all, value; the name's length, the name.
 fn list_item(fields: &[u8], image: &[u8], view: ImageView) -> bool {
     let name = image::text_part(fields, 20, words::get(fields, 16));
-    match lookups::list_item(image, view, name) {
+    let search = list_items::list_item(image, view, name);
+    let answer = search.answer;
+    match answer {
         ListItemAnswer::Item(item) => item_agrees(fields, item),
         ListItemAnswer::NotFound => nothing(fields, 0),
     }

@@ -17,7 +17,7 @@ use Rattle.image.specs.declared.ImageView.{ImageView}
 use Rattle.image.specs.Sections.{Sections, definitionCount, itemCount, present}
 use Rattle.image.specs.Header.{version, headerRule, viewOf, sectionsBy, sectionsOf, versionAt}
 use Rattle.image.proofs.OpenedHeader.{Opens, opens, view-inside, view-counts, length-word}
-use Rattle.index.specs.Definitions.{firstItem, numberOfItems}
+use Rattle.index.specs.Definitions.{firstItem, numberOfItems, definitionsRule}
 use Rattle.load.specs.Load.{loadRule}
 use Rattle.views.specs.declared.Span.{Span}
 use Rattle.views.specs.declared.Found.{Found}
@@ -50,15 +50,18 @@ use Rattle.texts.specs.Dots.{hasDot, beforeDot, afterDot}
 use Rattle.utf8.specs.White.{blank}
 use Rattle.lookups.specs.Lookup.{definitionName, itemPlace, answeringPlace, searched, answers, listItemIn, listItemAt, lastItem, findNamed, listItem}
 use Rattle.lookups.proofs.Lookups.{place-below}
-use Rattle.answers.specs.AnswerWords.{numberOf, countWords, foundAnswer, countAnswer, namedAnswer, placeAnswer, partWords, partAnswer, entryAnswer, definitionAnswer, itemAnswer, foundItemWords, listItemAnswer, listCountWords}
+use Rattle.list_items.specs.Search.{listSearch}
+use Rattle.list_items.proofs.Plain.{same-answer}
+use Rattle.promises.proofs.Acceptance.{load-accepted, accepted-passed}
+use Rattle.answers.specs.AnswerWords.{answerAfter, numberOf, countWords, foundAnswer, countAnswer, namedAnswer, placeAnswer, partWords, partAnswer, entryAnswer, definitionAnswer, itemAnswer, foundItemWords, listItemAnswer, listCountWords}
 use Rattle.answers.specs.NodeViewWords.{nodeAnswer, listPlace}
 use Rattle.answers.proofs.AnswerSlices.{count-some, part-some}
 use Rattle.answers.proofs.Records.{eight}
 use Rattle.answers.proofs.ListPlaces.{Lies, list-lies}
 use Rattle.story_image.specs.Exported.{viewLength, wordsOfView, viewBy, under, writtenAfter}
-use Rattle.story_image.specs.Queries.{atList, firstWords}
+use Rattle.story_image.specs.Queries.{atList, firstWords, searchedAfter}
 use Rattle.story_image.specs.Accepted.{Answers, ViewOf, PageExports, Exports, AcceptedExports, wordsOfPart, wordsOfText, wordsOfListItem}
-use Rattle.story_image.proofs.Views.{view-back, enough}
+use Rattle.story_image.proofs.Views.{view-back, enough, searched-under}
 use Rattle.story_image.proofs.Pages.{page-under}
 
 -- ---- how many words an answer has
@@ -163,6 +166,10 @@ module _ (bs view : List ℕ) (versioned : viewOf bs .version ≡ version) (v : 
   paged-as numbers slots =
       let p = page-under bs view numbers slots view-long (viewOf bs) view-same _ _ refl refl in
       record { number = sym (p .0); written = sym (p .1) }
+
+  searched-as : (name searched : List ℕ)
+      → searchedAfter bs view name searched ≡ answerAfter (some (listSearch (sectionsBy bs (viewOf bs)) name .searched ∷ [])) searched
+  searched-as name searched = sym (searched-under bs view name searched view-long (viewOf bs) view-same _ refl _ refl)
 
 -- ---- the numbers of a list item are below the counts
 
@@ -278,7 +285,7 @@ module _ (bs : List ℕ) (o : Opens bs) (short : length bs < 2 ^ 32) where
       rw (le-leb (i .definition) NONE (omega (arith, definitions-few)), le-leb (i .item) NONE (omega (arith, items-few)))
   item-whole listed.NotFound h = refl
 
-module _ (bs view : List ℕ) (o : Opens bs) (short : length bs < 2 ^ 32) (v : ViewOf bs view) where
+module _ (bs view : List ℕ) (o : Opens bs) (short : length bs < 2 ^ 32) (lists : definitionsRule (sectionsOf bs) ≡ 0) (v : ViewOf bs view) where
   abbrev s : Sections
   s = sectionsOf bs
 
@@ -313,7 +320,10 @@ module _ (bs view : List ℕ) (o : Opens bs) (short : length bs < 2 ^ 32) (v : V
         first-item = λ d. answering 1 _ _ (asked-as bs view (right-version bs o) v _) (first-size s d (definitionQuery s d));
         definition-item = λ d j. answering 3 _ _ (asked-as bs view (right-version bs o) v _) (item-size (itemQuery s d j));
         list-item = λ name.
-            answering 3 _ _ (asked-as bs view (right-version bs o) v _ ∙ item-whole bs o short (listItem s name) (item-numbers s name)) (list-item-size (listItem s name));
+            answering 3 _ _
+            (asked-as bs view (right-version bs o) v _ ∙ ap listItemAnswer (same-answer s lists name) ∙ item-whole bs o short (listItem s name) (item-numbers s name))
+            (list-item-size (listItem s name));
+        searched = searched-as bs view (right-version bs o) v;
         walk = λ origin relative path names.
             answering 1 _ _ (asked-as bs view (right-version bs o) v _) (found-size (resolve s relative origin (components names path)));
       }
@@ -322,4 +332,4 @@ pub accepted-exports : AcceptedExports
 unfolding loadRule
 accepted-exports bs view work b h v =
     let o = opens bs (both (headerRule bs) _ h .0) in
-    exports bs view o (length-word bs b o) v
+    exports bs view o (length-word bs b o) (accepted-passed bs (load-accepted bs work h) .definitions) v

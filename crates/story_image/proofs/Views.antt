@@ -1,16 +1,19 @@
 -- What a query answers under lent words of a view.
 use Prim.Native.Nat.{ℕ, _≤_, _<_}
 use mathlib.Core.Path.{_≡_, refl, sym, ap, _∙_}
-use mathlib.Core.List.{List}
+use mathlib.Core.List.{List, [], _∷_}
 use mathlib.Core.Bool.{Bool, cond}
-use mathlib.Core.Option.{Option, none}
+use mathlib.Core.Option.{Option, none, some}
 use lib.ListN.{length}
 use borrow.Author.Tests.{le-leb, lt-leb}
 use Rattle.image.specs.declared.ImageView.{ImageView}
-use Rattle.answers.specs.AnswerWords.{Answered}
+use Rattle.list_items.specs.declared.ItemSearch.{ItemSearch}
+use Rattle.list_items.specs.Search.{listSearch}
+use Rattle.answers.specs.AnswerWords.{Answered, answerAfter}
 use Rattle.answers.proofs.AnswerSlices.{unanswered, answered-as}
-use Rattle.image.specs.Header.{version}
+use Rattle.image.specs.Header.{version, sectionsBy}
 use Rattle.story_image.specs.Exported.{wordsOfView, viewLength, viewBy, under}
+use Rattle.story_image.specs.Queries.{searchedAfter}
 
 -- the words of a view of the one version there is give it back
 pub view-back : (v : ImageView) → v .version ≡ version → viewBy (wordsOfView v) ≡ v
@@ -45,3 +48,19 @@ module _ (view : List ℕ) (query : ImageView → Option (List ℕ)) where
   pub asked : (xs now : List ℕ) (r : ℕ) → viewLength ≤ length view → (v : ImageView) → v ≡ viewBy view → (o : Option (List ℕ)) → o ≡ query v
       → Answered o xs now r → Answered (under view query) xs now r
   asked xs now r h v e o q a = answered-as o (under view query) xs now r (q ∙ enough h v e) a
+
+-- ---- the words lent for the number of definitions that were searched
+
+module _ (bytes view name searched : List ℕ) where
+  -- too few words of a view: they stay
+  pub searched-without : length view < viewLength → searched ≡ searchedAfter bytes view name searched
+  unfolding searchedAfter
+  searched-without h = rw (lt-leb viewLength (length view) h)
+
+  -- otherwise the first gets what the search counts under their view
+  pub searched-under : viewLength ≤ length view → (v : ImageView) → v ≡ viewBy view → (r : ItemSearch) → r ≡ listSearch (sectionsBy bytes v) name
+      → (now : List ℕ) → now ≡ answerAfter (some (r .searched ∷ [])) searched → now ≡ searchedAfter bytes view name searched
+  unfolding searchedAfter
+  searched-under h v e r q now w =
+      rw (le-leb viewLength (length view) h)
+      (w ∙ ap (λ (x : ItemSearch). answerAfter (some (x .searched ∷ [])) searched) (q ∙ ap (λ (u : ImageView). listSearch (sectionsBy bytes u) name) e))

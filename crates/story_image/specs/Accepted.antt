@@ -21,13 +21,14 @@ use Rattle.views.specs.Lists.{listPart, listEntry, listOrigin, definitionQuery,
 use Rattle.lookups.specs.declared.ListItemAnswer.{ListItemAnswer}
 use Rattle.lookups.specs.declared.ListItemAnswer.the-variants as listed
 use Rattle.lookups.specs.Lookup.{findNamed, listItem}
+use Rattle.list_items.specs.Search.{listSearch}
 use Rattle.walks.specs.Walk.{components, resolve}
 use Rattle.depth.specs.Depth.{depthOf}
 use Rattle.pages.specs.Page.{slotWords, pageRule, pageAfter, slotView}
-use Rattle.answers.specs.AnswerWords.{numberOf, unsigned, foundAnswer, countAnswer, namedAnswer, placeAnswer, entryAnswer, definitionAnswer, itemAnswer, listCountWords}
+use Rattle.answers.specs.AnswerWords.{answerAfter, numberOf, unsigned, foundAnswer, countAnswer, namedAnswer, placeAnswer, entryAnswer, definitionAnswer, itemAnswer, listCountWords}
 use Rattle.answers.specs.NodeViewWords.{nodeAnswer, listPlace}
 use Rattle.story_image.specs.Exported.{viewLength, wordsOfView, writtenAfter}
-use Rattle.story_image.specs.Queries.{atList, firstWords, answerOfNodeView, pageNumber, pageWritten, answerOfSlotView, answerOfDepth, answerOfText, answerOfChildCount, answerOfChild, answerOfNamedChildCount, answerOfNamedChild, answerOfFindNamedChild, answerOfListPayload, answerOfListCounts, answerOfNodeListEntry, answerOfNodeListOrigin, answerOfDefinitionCount, answerOfDefinition, answerOfFirstItem, answerOfDefinitionItem, answerOfListItem, answerOfWalk}
+use Rattle.story_image.specs.Queries.{atList, firstWords, answerOfNodeView, pageNumber, pageWritten, answerOfSlotView, answerOfDepth, answerOfText, answerOfChildCount, answerOfChild, answerOfNamedChildCount, answerOfNamedChild, answerOfFindNamedChild, answerOfListPayload, answerOfListCounts, answerOfNodeListEntry, answerOfNodeListOrigin, answerOfDefinitionCount, answerOfDefinition, answerOfFirstItem, answerOfDefinitionItem, answerOfListItem, searchedAfter, answerOfWalk}
 
 -- ---- the words of answers, without a case for numbers that a word does not hold
 
@@ -87,6 +88,7 @@ pub record Exports (bs view : List ℕ) (s : Sections) : Type 0 where
   pub first-item : (d : ℕ) → Answers 1 (answerOfFirstItem bs view d) (firstWords s d (definitionQuery s d))
   pub definition-item : (d j : ℕ) → Answers 3 (answerOfDefinitionItem bs view d j) (itemAnswer (itemQuery s d j))
   pub list-item : (name : List ℕ) → Answers 3 (answerOfListItem bs view name) (wordsOfListItem (listItem s name))
+  pub searched : (name words : List ℕ) → searchedAfter bs view name words ≡ answerAfter (some (listSearch s name .searched ∷ [])) words
   pub walk : (origin : ℕ) (relative : Bool) (path names : List ℕ)
       → Answers 1 (answerOfWalk bs view origin relative path names) (foundAnswer (resolve s relative origin (components names path)))
 

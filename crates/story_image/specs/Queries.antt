@@ -15,11 +15,12 @@ use Rattle.views.specs.declared.DefinitionAnswer.the-variants as definition
 use Rattle.views.specs.View.{span, nodeView}
 use Rattle.views.specs.Children.{childCountOf, namedCountOf, childQuery, namedQuery, textQuery}
 use Rattle.views.specs.Lists.{listPart, listEntry, listOrigin, definitionQuery, itemQuery}
-use Rattle.lookups.specs.Lookup.{findNamed, listItem}
+use Rattle.lookups.specs.Lookup.{findNamed}
+use Rattle.list_items.specs.Search.{listSearch}
 use Rattle.walks.specs.Walk.{components, resolve}
 use Rattle.depth.specs.Depth.{depthOf}
 use Rattle.pages.specs.Page.{pageRule, pageAfter, slotView}
-use Rattle.answers.specs.AnswerWords.{countWords, foundAnswer, countAnswer, namedAnswer, placeAnswer, partWords, partAnswer, entryAnswer, definitionAnswer, itemAnswer, listItemAnswer, listCountWords}
+use Rattle.answers.specs.AnswerWords.{answerAfter, countWords, foundAnswer, countAnswer, namedAnswer, placeAnswer, partWords, partAnswer, entryAnswer, definitionAnswer, itemAnswer, listItemAnswer, listCountWords}
 use Rattle.answers.specs.NodeViewWords.{nodeAnswer, listPlace}
 use Rattle.story_image.specs.Exported.{viewLength, viewBy, under}
 
@@ -100,7 +101,12 @@ module _ (bytes view : List ℕ) where
   answerOfDefinitionItem d j = under view (λ v. itemAnswer (itemQuery (sectionsBy bytes v) d j))
 
   abbrev pub answerOfListItem : List ℕ → Option (List ℕ)
-  answerOfListItem name = under view (λ v. listItemAnswer (listItem (sectionsBy bytes v) name))
+  answerOfListItem name = under view (λ v. listItemAnswer (listSearch (sectionsBy bytes v) name .answer))
+
+  -- the words lent for the number of definitions that were searched, on return; under a view of too few words nothing is written
+  unfoldable pub searchedAfter : List ℕ → List ℕ → List ℕ
+  searchedAfter name searched =
+      cond (leb viewLength (length view)) (answerAfter (some (listSearch (sectionsBy bytes (viewBy view)) name .searched ∷ [])) searched) searched
 
   abbrev pub answerOfWalk : ℕ → Bool → List ℕ → List ℕ → Option (List ℕ)
   answerOfWalk origin relative path names = under view (λ v. foundAnswer (resolve (sectionsBy bytes v) relative origin (components names path)))

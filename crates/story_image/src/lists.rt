@@ -12,7 +12,7 @@ ghost use Rattle.views.specs.Lists.{definitionQuery};
 ghost use Rattle.answers.specs.AnswerWords.{Answered};
 ghost use Rattle.story_image.specs.Queries.{answerOfListEntry, answerOfListOrigin};
 ghost use Rattle.story_image.specs.Queries.{answerOfListPayload, answerOfListCounts, answerOfNodeListEntry, answerOfNodeListOrigin};
-ghost use Rattle.story_image.specs.Queries.{answerOfDefinitionCount, answerOfDefinition, answerOfDefinitionItem, answerOfListItem};
+ghost use Rattle.story_image.specs.Queries.{answerOfDefinitionCount, answerOfDefinition, answerOfDefinitionItem, answerOfListItem, searchedAfter};
 ghost use Rattle.story_image.specs.Queries.{answerOfFirstItem, firstWords};
 
 // Item `index` of a list value, out of its payload and the strings: origin, origin_length, name, name_length, value.
@@ -227,18 +227,26 @@ pub extern "C" fn story_image_definition_item(
     )
 }
 
-// The item that a name means: its definition, its number among all items, its value.
+// The item that a name means: its definition, its number among all items, its value. The first word of `searched`, if one is lent, gets
+// the number of definitions whose items were searched, with 18 too.
 #[no_mangle]
 pub extern "C" fn story_image_list_item(
     bytes: &[u8],
     view: &[u32],
     name: &[u8],
     answer: &mut [u32],
+    searched: &mut [u32],
 ) -> u32
-    ensures { λ r. ⌜ Answered (answerOfListItem (now (bytes .entry)) (now (view .entry)) (now (name .entry))) (now (answer .entry)) (now (answer .exit)) r ⌝ }
+    ensures answer { λ r. ⌜ (let found = answerOfListItem (now (bytes .entry)) (now (view .entry)) (now (name .entry)) in
+        Answered found (now (answer .entry)) (now (answer .exit)) r) ⌝ }
+    ensures searched { λ _. ⌜ now (searched .exit) ≡ searchedAfter (now (bytes .entry)) (now (view .entry)) (now (name .entry)) (now (searched .entry)) ⌝ }
 {
     if view.len() < VIEW_WORDS {
         return NOT_FOUND;
     }
-    answers::lists::put_list_item(lookups::list_item(bytes, view_of(view), name), answer)
+    answers::lists::put_search(
+        list_items::list_item(bytes, view_of(view), name),
+        answer,
+        searched,
+    )
 }
