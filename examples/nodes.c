@@ -1,5 +1,11 @@
 /* Loads an image of up to 65,536 bytes and prints its nodes: number, parent (-1: none), depth, kind, text if there is
- * one. `no K` if it is refused, `long` if it is longer: then exit status 1; 2 if there is no such file. */
+ * one. `nodes IMAGE [ITEM..]`
+ *
+ * Then a line for each list item that is named, as `item` or as `list.item`: its value, and how many list definitions
+ * were searched for it. `no K` if the image is refused, `long` if it is longer: then exit status 1; 2 if there is no
+ * such file. */
+#include <string.h>
+
 #include "image.h"
 
 /* A node's line. */
@@ -15,13 +21,36 @@ static int print_node(uint32_t node) {
     return 0;
 }
 
+static int print_nodes(void) {
+    for (uint32_t node = 0; node < view[STORY_IMAGE_NODES_COUNT]; node++)
+        if (print_node(node) != 0)
+            return 1;
+    return 0;
+}
+
+/* A list item's line. The count is there also if there is no such item. */
+static void print_item(const char *name) {
+    uint32_t item[STORY_IMAGE_LIST_ITEM_WORDS], searched;
+    uint32_t number =
+        story_image_list_item(bytes, length, view, STORY_IMAGE_VIEW_WORDS, (const uint8_t *)name, strlen(name), item,
+                              STORY_IMAGE_LIST_ITEM_WORDS, &searched, STORY_IMAGE_COUNT_WORDS);
+    printf("%s: ", name);
+    if (number == 0)
+        printf("%" PRId32, (int32_t)item[STORY_IMAGE_LIST_ITEM_VALUE]);
+    else
+        printf("no such item");
+    printf(", %" PRIu32 " of %" PRIu32 " definitions searched\n", searched, view[STORY_IMAGE_DEFINITIONS_COUNT]);
+}
+
 int main(int count, char **arguments) {
-    if (count != 2) {
-        fprintf(stderr, "usage: nodes IMAGE\n");
+    if (count < 2) {
+        fprintf(stderr, "usage: nodes IMAGE [ITEM..]\n");
         return 2;
     }
     int status = load_file("nodes", arguments[1]);
-    for (uint32_t node = 0; status == 0 && node < view[STORY_IMAGE_NODES_COUNT]; node++)
-        status = print_node(node);
+    if (status == 0)
+        status = print_nodes();
+    for (int k = 2; status == 0 && k < count; k++)
+        print_item(arguments[k]);
     return status;
 }

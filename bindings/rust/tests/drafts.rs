@@ -167,7 +167,9 @@ fn every_kind() {
     let definitions: Vec<_> = image.definitions().map(|definition| (definition.name, definition.items)).collect();
     assert_eq!(definitions, [("colour", 2), ("shade", 1)]);
     assert_eq!(image.definition_items(0).collect::<Vec<_>>(), [("blue", 2), ("red", 1)]);
-    assert_eq!(image.list_item("dark").unwrap().value, 9);
+    let dark = ListItem { definition: 1, item: 2, value: 9 };
+    assert_eq!(image.list_item("dark"), ItemSearch { item: Some(dark), searched: 1 });
+    assert_eq!(image.list_item("red").searched, 2);
 }
 
 #[test]

@@ -2,8 +2,8 @@
 
 use story_image::raw::{self, TextPlace};
 use story_image::{
-    CommandType, Image, ListItem, NONE, NodeKindOf, NodeKindView, Op, Refusal, Section, Step, ValueOf, ValueView, View,
-    ffi, load_words,
+    CommandType, Image, ItemSearch, ListItem, NONE, NodeKindOf, NodeKindView, Op, Refusal, Section, Step, ValueOf,
+    ValueView, View, ffi, load_words,
 };
 
 const STEP: &[u8] = include_bytes!("../../../samples/step.image");
@@ -230,14 +230,15 @@ fn lists() {
     for (index, definition) in (0..).zip(image.definitions()) {
         assert_eq!(image.definition_items(index).count(), definition.items as usize);
         for (item, (name, value)) in (0..).zip(image.definition_items(index)) {
-            let found = image.list_item(format!("{}.{name}", definition.name)).unwrap();
-            assert_eq!(found, ListItem { definition: index, item: before + item, value });
+            let search = image.list_item(format!("{}.{name}", definition.name));
+            let found = ListItem { definition: index, item: before + item, value };
+            assert_eq!(search, ItemSearch { item: Some(found), searched: 1 });
             assert_eq!(image.list_item_names(found), Some((definition.name, name)));
         }
         before += definition.items;
     }
     assert!(before > 0);
-    assert_eq!(image.list_item(" "), None);
+    assert_eq!(image.list_item(" "), ItemSearch { item: None, searched: 0 });
     let lists: Vec<_> = (0..image.node_count()).filter_map(|node| image.list(node)).collect();
     lists_by_node(&image);
     assert!(!lists.is_empty());
@@ -246,7 +247,7 @@ fn lists() {
         for item in list.items() {
             assert!(!item.name.is_empty());
             if let Some(origin) = item.origin {
-                assert_eq!(image.list_item(format!("{origin}.{}", item.name)).unwrap().value, item.value);
+                assert_eq!(image.list_item(format!("{origin}.{}", item.name)).item.unwrap().value, item.value);
             }
         }
         assert_eq!(list.items().count(), list.item_count() as usize);
@@ -293,9 +294,14 @@ fn any_view() {
         View { strings: strange, ..image(STEP).view() },
         View { payload: strange, ..image(STEP).view() },
         View { nodes: Section { offset: 3, count: 100 }, ..image(STEP).view() },
+        View { definitions: strange, ..image(STEP).view() },
+        View { items: strange, ..image(STEP).view() },
     ] {
         for bytes in [STEP, &STEP[..500], &[]] {
             let asked = raw::Queries::new(bytes, view);
+            for name in ["red", "lamp.red", "none", " "] {
+                assert!(asked.list_item(name.as_bytes()).searched <= asked.definition_count().unwrap());
+            }
             for node in (0..120).chain([NONE]) {
                 asked.node_view(node);
                 assert!(asked.depth(node).is_none_or(|depth| depth < view.nodes.count));
