@@ -17,7 +17,7 @@ mod pages {
 pub use inputs::lapped_chain;
 
 use crate::random::Random;
-use inputs::Input;
+use inputs::{Input, LookUps};
 use reference::Walk;
 use std::hint::black_box;
 use std::time::{Duration, Instant};
@@ -39,6 +39,7 @@ pub fn run(seconds: u64, words: &str) -> bool {
     let mut random = Random::new(5);
     println!("median of up to {ROUNDS} rounds; ratio of ours to the published Rust: median (lowest to highest)");
     println!("pages: ratio of one call to forty, which shall be at most 0.7");
+    println!("items in the last of sixty definitions: ratio to the published Rust, which shall be at most 0.2");
     let (mut measured, pages_alone) = (0, words == PAGES);
     for make in inputs::ALL {
         let input = make(&mut random);
@@ -136,6 +137,7 @@ fn measure(input: &Input, long: Duration) -> u64 {
     if input.asked {
         measured += ask(input, &ours, long);
     }
+    measured += look_up(input, &ours, long);
     if let Some(draft) = &input.draft {
         let write = || {
             let story = reference::Story::new(draft).expect("a story");
@@ -155,12 +157,21 @@ fn ask(input: &Input, ours: &ours::Measured, long: Duration) -> u64 {
     let depths =
         || timed(|| (0..input.nodes()).filter_map(|node| theirs.steps_to_root(node)).map(u64::from).sum::<u64>());
     let walked = || timed(|| walks.iter().filter_map(|(origin, walk)| theirs.walk(*origin, walk)).count());
-    let looked = || timed(|| input.items.iter().filter(|name| theirs.has_list_item(name)).count());
     duel("node views", PUBLISHED, long, views, ours.views())
         + duel("views as enums", PUBLISHED, long, views, ours.enums())
         + duel("depths", PUBLISHED, long, depths, ours.depths())
         + duel("walks", PUBLISHED, long, walked, ours.walks())
-        + duel("list look-ups", PUBLISHED, long, looked, ours.items())
+}
+
+/// List items by name.
+fn look_up(input: &Input, ours: &ours::Measured, long: Duration) -> u64 {
+    let mut measured = 0;
+    for LookUps { name, items } in &input.look_ups {
+        let theirs = inputs::view(&input.image);
+        let looked = || timed(|| items.iter().filter(|name| theirs.has_list_item(name)).count());
+        measured += duel(name, PUBLISHED, long, looked, ours.items(items));
+    }
+    measured
 }
 
 #[cfg(not(feature = "ours"))]
@@ -188,7 +199,7 @@ mod ours {
         pub fn walks(&self) -> Option<fn() -> Duration> {
             None
         }
-        pub fn items(&self) -> Option<fn() -> Duration> {
+        pub fn items(&self, _: &[String]) -> Option<fn() -> Duration> {
             None
         }
         pub fn write(&self) -> Option<fn() -> Duration> {
@@ -234,7 +245,7 @@ mod ours {
         pub fn walks(&self) -> Option<fn() -> Duration> {
             None
         }
-        pub fn items(&self) -> Option<fn() -> Duration> {
+        pub fn items(&self, _: &[String]) -> Option<fn() -> Duration> {
             None
         }
     }
@@ -306,10 +317,8 @@ mod ours {
             })
         }
 
-        pub fn items(&self) -> Option<impl FnMut() -> Duration> {
-            Some(move || {
-                timed(|| self.input.items.iter().filter_map(|name| self.image.list_item(name.as_bytes())).count())
-            })
+        pub fn items(&self, items: &[String]) -> Option<impl FnMut() -> Duration> {
+            Some(move || timed(|| items.iter().filter_map(|name| self.image.list_item(name.as_bytes()).item).count()))
         }
     }
 

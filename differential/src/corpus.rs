@@ -1,13 +1,17 @@
 //! The cases of a run: whole families of small images, every single fault of a few images, random stories and damage,
-//! drafts.
+//! drafts, definitions that share items.
 
 use crate::damage;
 use crate::drafts::{self, Case};
+use crate::lists::{self, SHARED};
 use crate::parts::{HEADER, Parts, repair, set_word};
 use crate::progress::Progress;
 use crate::random::Random;
 use crate::small::{self, FAMILIES, TREES};
 use crate::stories::{Shape, Story};
+
+/// An image of many definitions comes once in so many cases: each takes long.
+const MANY: u64 = 500;
 
 /// What is done with each case.
 pub trait Visitor {
@@ -35,7 +39,8 @@ fn member(visit: u64, size: u64) -> u64 {
 pub fn all(name: &str, cases: u64, seed: u64, visitor: &mut dyn Visitor) {
     let families: u64 = FAMILIES.iter().map(|family| family.size.min(cases)).sum();
     let drafts = if visitor.takes_drafts() { TREES.min(cases) + cases } else { 0 };
-    let progress = Progress::new(name, families + 5 * cases + drafts);
+    let lists = 2 * SHARED.min(cases) + 5 * (cases / MANY);
+    let progress = Progress::new(name, families + 5 * cases + drafts + lists);
     let mut run = Run { visitor, progress, random: Random::new(seed) };
     run.families(cases);
     if drafts > 0 {
@@ -46,6 +51,8 @@ pub fn all(name: &str, cases: u64, seed: u64, visitor: &mut dyn Visitor) {
     if drafts > 0 {
         run.random_drafts(cases);
     }
+    run.shared_items(cases);
+    run.many_lists(cases);
     run.progress.end();
 }
 
@@ -99,6 +106,26 @@ impl Run<'_> {
         for _ in 0..cases {
             let case = drafts::random(&mut self.random);
             self.draft(&case);
+        }
+    }
+
+    fn shared_items(&mut self, cases: u64) {
+        for visit in 0..SHARED.min(cases) {
+            let parts = lists::shared(member(visit, SHARED));
+            self.image("shared items", &parts.bytes());
+            let damaged = damage::lists(&parts, &mut self.random);
+            self.image("shared items, damaged", &damaged);
+        }
+    }
+
+    fn many_lists(&mut self, cases: u64) {
+        for _ in 0..cases / MANY {
+            let parts = lists::many(&mut self.random);
+            self.image("many lists", &parts.bytes());
+            for _ in 0..4 {
+                let damaged = damage::lists(&parts, &mut self.random);
+                self.image("many lists, damaged", &damaged);
+            }
         }
     }
 

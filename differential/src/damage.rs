@@ -189,6 +189,22 @@ pub fn edit_draft(parts: &mut Parts, random: &mut Random) {
     }
 }
 
+/// Up to three faults among definitions and their items: words, and entries taken out, doubled or exchanged.
+pub fn lists(parts: &Parts, random: &mut Random) -> Vec<u8> {
+    let mut parts = parts.clone();
+    for _ in 0..1 + random.below(3) {
+        let value = *random.pick(&values(parts.counts()));
+        match random.below(4) {
+            0 => edit(&mut parts.definitions, random),
+            1 => edit(&mut parts.items, random),
+            2 if !parts.definitions.is_empty() => pick_mut(&mut parts.definitions, random)[random.below(4)] = value,
+            _ if !parts.items.is_empty() => pick_mut(&mut parts.items, random)[random.below(3)] = value,
+            _ => {}
+        }
+    }
+    parts.bytes()
+}
+
 /// Two faults among the entries of containers, which the stack's order tells apart.
 fn tree_pair(parts: &Parts, random: &mut Random) -> Vec<u8> {
     let mut parts = parts.clone();

@@ -7,6 +7,7 @@ use crate::parts::{HEADER, word_at};
 use crate::queries;
 use crate::random::Random;
 use crate::rows::row_of;
+use crate::searched;
 use crate::strange;
 use crate::tally::Tally;
 
@@ -43,8 +44,12 @@ pub fn image(name: &'static str, bytes: &[u8], ours: Option<&dyn Library>, rando
         let (view, ours) = (&header_view(bytes), ours.and_then(Library::queries));
         let name = if row > 5 { "depth, refused image" } else { "depth, other view" };
         depths::strange(name, bytes, view, ours, tally);
-        let name = pages::NAMES[if row > 5 { 1 } else { 2 }];
-        pages::strange(&pages::Asked { name, bytes, view, ours }, random, tally);
+        let asked = |names: [&'static str; 3]| {
+            let name = names[if row > 5 { 1 } else { 2 }];
+            pages::Asked { name, bytes, view, ours }
+        };
+        pages::strange(&asked(pages::NAMES), random, tally);
+        searched::strange(&asked(searched::NAMES), random, tally);
     }
 }
 

@@ -1,5 +1,6 @@
 //! What both sides are asked: the interface of a story-image library in plain types.
 
+use crate::parts::ENTRY_SIZES;
 use reference::{Draft, Named, NodeView, Step};
 
 /// Ink version, then offset and count of each of the eight sections.
@@ -13,6 +14,21 @@ pub struct Entry {
     pub origin: Option<Place>,
     pub name: Place,
     pub value: i32,
+}
+
+/// A list item by its numbers: its definition's, its own among the items of all definitions; and its value.
+#[derive(Clone, Copy, Debug, PartialEq)]
+pub struct Found {
+    pub definition: u32,
+    pub item: u32,
+    pub value: i32,
+}
+
+/// What a look-up of a list item gives: the item, and how many definitions' items were searched.
+#[derive(Clone, Copy, Debug, Default, PartialEq)]
+pub struct Looked {
+    pub item: Option<Found>,
+    pub searched: u32,
 }
 
 /// A side of the comparison: the load, and what else it has.
@@ -51,8 +67,11 @@ pub trait Queries {
     /// Name, and how many items.
     fn definition(&self, bytes: &[u8], view: &View, index: u32) -> Option<(Place, u32)>;
     fn definition_item(&self, bytes: &[u8], view: &View, index: u32, item: u32) -> Option<(Place, i32)>;
-    /// Name of the origin, name of the item, value.
-    fn list_item(&self, bytes: &[u8], view: &View, name: &[u8]) -> Option<(Place, Place, i32)>;
+    /// The number, among the items of all definitions, of a definition's first.
+    fn first_item(&self, bytes: &[u8], view: &View, index: u32) -> Option<u32>;
+    fn list_item(&self, bytes: &[u8], view: &View, name: &[u8]) -> Looked;
+    /// Its words, under a view that may be too short; the count goes to the first of the words that are lent.
+    fn list_item_words(&self, bytes: &[u8], view: &[u32], name: &[u8], searched: &mut [u32]) -> Option<[u32; 3]>;
     fn resolve_path(&self, bytes: &[u8], view: &View, origin: u32, relative: bool, steps: &[Step]) -> Option<u32>;
     /// The same, from a component's three words each and the bytes of names.
     fn resolve_components(
@@ -90,6 +109,12 @@ pub fn components(steps: &[Step]) -> (Vec<u32>, Vec<u8>) {
 /// The view that a header's words make, whatever they are worth.
 pub fn header_view(bytes: &[u8]) -> View {
     std::array::from_fn(|k| crate::parts::word_at(bytes, if k == 0 { 12 } else { 16 + 4 * k }))
+}
+
+/// A section under any view: empty if it does not lie in the bytes.
+pub fn section<'a>(bytes: &'a [u8], view: &View, section: usize) -> &'a [u8] {
+    let (start, count) = (view[1 + 2 * section] as usize, view[2 + 2 * section] as usize);
+    bytes.get(start..start + count * ENTRY_SIZES[section]).unwrap_or(&[])
 }
 
 pub fn load_words(bytes: &[u8]) -> usize {

@@ -11,6 +11,7 @@ mod explain;
 mod guide;
 mod images;
 mod library;
+mod lists;
 #[cfg(feature = "ours")]
 mod ours;
 mod pages;
@@ -24,6 +25,7 @@ mod recorded;
 mod rows;
 mod run;
 mod samples;
+mod searched;
 mod small;
 mod stories;
 mod strange;

@@ -3,7 +3,7 @@
 //! it is told by docs/FORMAT.md, written out here, and our lone call must tell the same.
 
 use crate::images::MARK;
-use crate::library::{Queries, View};
+use crate::library::{Queries, View, section};
 use crate::parts::{ENTRY_SIZES, NONE, word_at};
 use crate::random::Random;
 use crate::tally::Tally;
@@ -65,11 +65,8 @@ pub struct Nodes<'a> {
 impl<'a> Nodes<'a> {
     /// Of any bytes under any view: a section that does not lie in the bytes is empty.
     pub fn new(bytes: &'a [u8], view: &View) -> Self {
-        let section = |k: usize| {
-            let start = view[1 + 2 * k] as usize;
-            bytes.get(start..start + view[2 + 2 * k] as usize * ENTRY_SIZES[k]).unwrap_or(&[])
-        };
-        Nodes { nodes: section(0), payload: section(6).len(), strings: section(7) }
+        let [nodes, payload, strings] = [0, 6, 7].map(|k| section(bytes, view, k));
+        Nodes { nodes, payload: payload.len(), strings }
     }
 
     pub fn record(&self, number: u32) -> Option<Record> {
@@ -120,9 +117,9 @@ fn numbers(count: u32, random: &mut Random) -> Vec<u32> {
     numbers
 }
 
-/// Of whom a page is asked.
+/// Of whom a page is asked, or a look-up.
 pub struct Asked<'a> {
-    /// One of the names above.
+    /// Of the slots, or the look-ups, that are counted.
     pub name: &'static str,
     pub bytes: &'a [u8],
     pub view: &'a View,

@@ -1,10 +1,12 @@
 //! The published Rust in the place of our library, with a mistake planted in it: the comparison must notice.
 
 use crate::depths::{Way, by_words};
-use crate::library::{Entry, Library, Place, Queries, View, Writer, header_view, load_words, write_words};
+use crate::library::{Entry, Found, Library, Looked, Place, Queries, View, Writer};
+use crate::library::{header_view, load_words, section, write_words};
 use crate::pages::{Nodes, SLOT, slot_of};
-use crate::parts::{NONE, word_at};
+use crate::parts::{ENTRY_SIZES, NONE, word_at};
 use crate::rows::{row_of, writer_row};
+use crate::searched::{Lists, is_blank, split};
 use reference::{Draft, Image, Kind, ListEntries, Named, NodeView, Step, Written};
 
 #[derive(Clone, Copy, Debug, PartialEq)]
@@ -32,6 +34,13 @@ pub enum Mistake {
     ListOrigin,
     Definition,
     FirstListItem,
+    SearchCompared,
+    SearchOn,
+    SearchBlank,
+    SearchFew,
+    SearchFirstName,
+    SearchOutside,
+    SearchPlain,
     RelativeSkip,
     WrittenByte,
     PastOutput,
@@ -40,7 +49,7 @@ pub enum Mistake {
     DraftNumber,
 }
 
-pub const MISTAKES: [Mistake; 28] = [
+pub const MISTAKES: [Mistake; 35] = [
     Mistake::Number,
     Mistake::WorkLeft,
     Mistake::NoSeven,
@@ -63,6 +72,13 @@ pub const MISTAKES: [Mistake; 28] = [
     Mistake::ListOrigin,
     Mistake::Definition,
     Mistake::FirstListItem,
+    Mistake::SearchCompared,
+    Mistake::SearchOn,
+    Mistake::SearchBlank,
+    Mistake::SearchFew,
+    Mistake::SearchFirstName,
+    Mistake::SearchOutside,
+    Mistake::SearchPlain,
     Mistake::RelativeSkip,
     Mistake::WrittenByte,
     Mistake::PastOutput,
@@ -76,6 +92,35 @@ pub struct Published(pub Mistake);
 impl Published {
     fn has(&self, mistake: Mistake) -> bool {
         self.0 == mistake
+    }
+
+    /// Another item: of definition 0, or of the first definition that bears the origin's name.
+    fn mistake_item(&self, lists: &Lists<'_>, name: &[u8], looked: &mut Looked) {
+        match (self.0, split(name)) {
+            (Mistake::FirstListItem, _) => {
+                looked.item = looked.item.map(|found| Found { definition: 0, ..found });
+            }
+            (Mistake::SearchFirstName, (Some(origin), item)) => {
+                looked.item = lists.named(origin).next().and_then(|first| lists.item_in(first, item));
+            }
+            _ => {}
+        }
+    }
+
+    /// Another count: definitions whose name was compared, or those behind the origin; all for a blank name; without the
+    /// one that answers, without those whose items lie outside, or as if the items rose.
+    fn miscount(&self, lists: &Lists<'_>, name: &[u8], looked: &mut Looked) {
+        let (all, (origin, _)) = (lists.count(), split(name));
+        let at = origin.and_then(|origin| lists.named(origin).next_back()).map(|d| d as u32);
+        match (self.0, origin, at) {
+            (Mistake::SearchCompared, Some(_), at) => looked.searched = all - at.unwrap_or(0),
+            (Mistake::SearchOn, Some(_), Some(at)) => looked.searched = at + 1,
+            (Mistake::SearchBlank, ..) if is_blank(name) => looked.searched = all,
+            (Mistake::SearchFew, None, _) if looked.item.is_some() => looked.searched -= 1,
+            (Mistake::SearchOutside, ..) => looked.searched -= lists.outside(name, looked),
+            (Mistake::SearchPlain, ..) => looked.searched = lists.searched(name),
+            _ => {}
+        }
     }
 }
 
@@ -237,15 +282,28 @@ impl Queries for Published {
         image(bytes)?.definition_item(index as usize, item as usize)
     }
 
-    fn list_item(&self, bytes: &[u8], _: &View, name: &[u8]) -> Option<(Place, Place, i32)> {
-        let image = image(bytes)?;
-        let name = core::str::from_utf8(name).ok()?;
-        let (origin, item, value) = image.list_item(name)?;
-        let mut place = place_of(bytes, &origin);
-        if self.has(Mistake::FirstListItem) {
-            place = image.definition(0)?.0;
-        }
-        Some((place, place_of(bytes, &item), value))
+    /// By the image's words: the published Rust does not tell it.
+    fn first_item(&self, bytes: &[u8], view: &View, index: u32) -> Option<u32> {
+        let entry = section(bytes, view, 3).chunks_exact(ENTRY_SIZES[3]).nth(index as usize)?;
+        Some(word_at(entry, 8))
+    }
+
+    /// On bytes that are refused, by their words.
+    fn list_item(&self, bytes: &[u8], view: &View, name: &[u8]) -> Looked {
+        let image = image(bytes);
+        let lists = match &image {
+            Some(image) => Lists::published(image, bytes),
+            None => Lists::by_words(bytes, view),
+        };
+        let published = image.zip(core::str::from_utf8(name).ok()).map(|(image, name)| lists.due(&image, name));
+        let mut looked = published.unwrap_or_else(|| lists.looked(name));
+        self.mistake_item(&lists, name, &mut looked);
+        self.miscount(&lists, name, &mut looked);
+        looked
+    }
+
+    fn list_item_words(&self, _: &[u8], _: &[u32], _: &[u8], _: &mut [u32]) -> Option<[u32; 3]> {
+        unreachable!("the published Rust gives no such words")
     }
 
     fn resolve_path(&self, bytes: &[u8], _: &View, origin: u32, relative: bool, steps: &[Step]) -> Option<u32> {

@@ -1,10 +1,11 @@
 //! Every query on an accepted image, on both sides.
 
 use crate::depths;
-use crate::library::{Queries, View, header_view};
+use crate::library::{Found, Queries, View, header_view};
 use crate::pages;
 use crate::parts::NONE;
 use crate::random::Random;
+use crate::searched::{self, Lists};
 use crate::tally::Tally;
 use crate::texts;
 use reference::{Image, Kind, NodeView, Step};
@@ -187,6 +188,9 @@ impl Asking<'_> {
         self.same("definition count", Some(count as u32), |ours, bytes, view| ours.definition_count(bytes, view));
         let mut names = vec![texts::name(random), " \t\u{3000}".to_owned(), ".".to_owned(), "low".to_owned()];
         let mut origins = vec![];
+        let lists = Lists::published(image, self.bytes);
+        // of many items, the names of some
+        let step = 1 + lists.item_count() / 60;
         for index in (0..count as u32 + 1).chain([NONE]) {
             let theirs = image.definition(index as usize).map(|(name, items)| (name, items as u32));
             origins.extend(theirs.map(|(name, _)| self.text_of(name).to_owned()));
@@ -194,7 +198,8 @@ impl Asking<'_> {
             let items = theirs.map_or(0, |(_, items)| items);
             for item in (0..items + 1).chain([NONE]) {
                 let theirs = image.definition_item(index as usize, item as usize);
-                names.extend(theirs.map(|(name, _)| self.text_of(name).to_owned()));
+                let some = theirs.filter(|_| (index + item) as usize % step == 0);
+                names.extend(some.map(|(name, _)| self.text_of(name).to_owned()));
                 self.same("definition item", theirs, |ours, bytes, view| {
                     ours.definition_item(bytes, view, index, item)
                 });
@@ -204,20 +209,33 @@ impl Asking<'_> {
             let dotted: Vec<String> = names.iter().map(|name| format!("{}.{name}", random.pick(&origins))).collect();
             names.extend(dotted);
         }
+        // of a copy of the random numbers, as for pages
+        let more = lists.names(2, &mut random.clone());
+        names.extend(more.into_iter().map(|name| String::from_utf8(name).expect("a text")));
         for name in names {
-            self.list_item(&name);
+            self.list_item(&lists, &name);
         }
     }
 
-    fn list_item(&mut self, name: &str) {
-        let theirs = self.image.list_item(name);
-        self.tally.query("list item", &theirs);
+    fn list_item(&mut self, lists: &Lists<'_>, name: &str) {
+        let (theirs, due) = (self.image.list_item(name), lists.due(self.image, name));
+        assert_eq!(lists.looked(name.as_bytes()), due, "the harness on {name:?}");
+        self.tally.query(searched::NAMES[0], &theirs);
+        lists.tell(name.as_bytes(), &due, true, self.tally);
         if let Some((library, view)) = self.ours {
             let ours = library.list_item(self.bytes, view, name.as_bytes());
-            let ours = ours
-                .map(|(origin, item, value)| (self.text_of(origin).to_owned(), self.text_of(item).to_owned(), value));
-            self.tally.check(ours == theirs, || format!("list item {name:?}: {theirs:?}, ours {ours:?}"), self.bytes);
+            let texts = ours.item.and_then(|found| self.item_texts(library, view, found));
+            self.tally.check(texts == theirs, || format!("list item {name:?}: {theirs:?}, ours {texts:?}"), self.bytes);
+            self.tally.check(ours == due, || format!("list item {name:?}: due {due:?}, ours {ours:?}"), self.bytes);
         }
+    }
+
+    /// Origin, item and value; the item's number among all is turned into one among the definition's.
+    fn item_texts(&self, library: &dyn Queries, view: &View, found: Found) -> Option<(String, String, i32)> {
+        let (origin, _) = library.definition(self.bytes, view, found.definition)?;
+        let item = found.item.checked_sub(library.first_item(self.bytes, view, found.definition)?)?;
+        let (item, _) = library.definition_item(self.bytes, view, found.definition, item)?;
+        Some((self.text_of(origin).to_owned(), self.text_of(item).to_owned(), found.value))
     }
 
     /// A walk that mostly follows what is there.

@@ -10,6 +10,7 @@ use crate::published::{MISTAKES, Mistake, Published};
 use crate::queries::KINDS;
 use crate::random::Random;
 use crate::rows::{REASONS, WRITER, row_of};
+use crate::searched;
 use crate::tally::Tally;
 use crate::writes;
 
@@ -82,14 +83,12 @@ fn coverage(tally: &mut Tally) {
     for (what, count) in &tally.met {
         need(*count > 0, format!("depth, {what}"));
     }
-    for name in pages::NAMES {
+    for name in pages::NAMES.into_iter().chain(searched::NAMES) {
         need(tally.queries.contains_key(name), format!("query {name}"));
     }
-    for ((what, on_accepted), [accepted, others]) in pages::CASES.iter().zip(tally.pages) {
-        need(
-            others > 0 && (accepted > 0) == *on_accepted,
-            format!("pages, {what}: accepted {accepted}, others {others}"),
-        );
+    let pages = pages::CASES.iter().zip(tally.pages);
+    for ((what, on_accepted), [accepted, others]) in pages.chain(searched::CASES.iter().zip(tally.searches)) {
+        need(others > 0 && (accepted > 0) == *on_accepted, format!("{what}: accepted {accepted}, others {others}"));
     }
     for (message, row) in WRITER {
         need(row == 23 || tally.written.contains_key(message), format!("writer: {message}"));

@@ -1,11 +1,13 @@
 //! What the published Rust cannot be asked: queries on bytes that were not accepted or under another view, which must
-//! end with parts inside the bytes, and depth and pages there; names that are no text; walks along wrong words.
+//! end with parts inside the bytes, and depth, pages and look-ups there; names that are no text; walks along wrong words.
 
 use crate::depths;
+use crate::images::MARK;
 use crate::library::{Queries, View};
 use crate::pages;
 use crate::parts::NONE;
 use crate::random::Random;
+use crate::searched::{self, Lists};
 use crate::stories::edge;
 use crate::tally::Tally;
 use reference::{Kind, NodeView, Step};
@@ -30,8 +32,9 @@ pub fn bytes(bytes: &[u8], view: &View, ours: &dyn Queries, random: &mut Random,
     }
     tally.check(outside == 0, || format!("{outside} parts outside strange bytes"), &bytes);
     depths::strange("depth, other view", &bytes, &view, Some(ours), tally);
-    let asked = pages::Asked { name: pages::NAMES[2], bytes: &bytes, view: &view, ours: Some(ours) };
-    pages::strange(&asked, random, tally);
+    let asked = |name| pages::Asked { name, bytes: &bytes, view: &view, ours: Some(ours) };
+    pages::strange(&asked(pages::NAMES[2]), random, tally);
+    searched::strange(&asked(searched::NAMES[2]), random, tally);
 }
 
 /// Asks everything about a node; counts parts that lie outside.
@@ -69,14 +72,42 @@ fn ask(bytes: &[u8], view: &View, node: u32, ours: &dyn Queries, random: &mut Ra
     parts.filter(|(start, length)| start.checked_add(*length).is_none_or(|end| end > bytes.len())).count()
 }
 
+/// The count goes to the first word that is lent, with 18 too, and to no other. None lent, none written; nor is it under
+/// a short view.
+fn count_words(
+    bytes: &[u8],
+    view: &View,
+    lists: &Lists<'_>,
+    ours: &dyn Queries,
+    random: &mut Random,
+    tally: &mut Tally,
+) {
+    let random = &mut random.clone();
+    let name = &random.pick(&lists.names(1, &mut random.clone())).clone();
+    let due = lists.looked(name);
+    let answer = due.item.map(|found| [found.definition, found.item, found.value as u32]);
+    let mut lent = [MARK; 4];
+    let none = ours.list_item_words(bytes, view, name, &mut []) == answer;
+    let short = ours.list_item_words(bytes, &view[..random.below(view.len())], name, &mut lent).is_none();
+    tally.check(none && short && lent == [MARK; 4], || format!("list item {name:?}: {lent:x?} of no count"), bytes);
+    let words = 1 + random.below(lent.len());
+    let found = ours.list_item_words(bytes, view, name, &mut lent[..words]);
+    let right = found == answer && lent == [due.searched, MARK, MARK, MARK];
+    tally.check(right, || format!("list item {name:?}: due {due:?}, ours {found:?}, count {lent:x?}"), bytes);
+}
+
 /// On an accepted image: names that are no text name nothing, texts outside are not there, and a walk finds nothing
 /// where its words go wrong.
 pub fn asked(bytes: &[u8], view: &View, ours: &dyn Queries, random: &mut Random, tally: &mut Tally) {
     let node = random.below(view[2] as usize) as u32;
     let no_text = *random.pick(&[&b"\xff"[..], b"a\x80", b"\xc0\xaf", b"\xed\xa0\x80", b".\xff"]);
-    let nothing =
-        ours.find_named_child(bytes, view, node, no_text).is_none() && ours.list_item(bytes, view, no_text).is_none();
+    let looked = ours.list_item(bytes, view, no_text);
+    let nothing = ours.find_named_child(bytes, view, node, no_text).is_none() && looked.item.is_none();
     tally.check(nothing, || format!("something is named {no_text:?}"), bytes);
+    let lists = Lists::by_words(bytes, view);
+    let searched = looked.searched == lists.searched(no_text);
+    tally.check(searched, || format!("list item {no_text:?}: {looked:?}"), bytes);
+    count_words(bytes, view, &lists, ours, random, tally);
     let count = view[16];
     for place in [(count + 1, 0), (0, count + 1), (NONE, 0), (0, NONE), (NONE, NONE), (1, NONE - 1)] {
         let part = ours.text(bytes, view, place);
@@ -85,6 +116,11 @@ pub fn asked(bytes: &[u8], view: &View, ours: &dyn Queries, random: &mut Random,
     let end = (view[15] as usize + count as usize, 0);
     let part = ours.text(bytes, view, (count, 0));
     tally.check(part == Some(end), || format!("the empty text at the end: {part:?}"), bytes);
+    wrong_walks(bytes, view, node, ours, random, tally);
+}
+
+/// Walks along wrong words, from any node.
+fn wrong_walks(bytes: &[u8], view: &View, node: u32, ours: &dyn Queries, random: &mut Random, tally: &mut Tally) {
     let Some(NodeView { kind, parent, .. }) = ours.node_view(bytes, view, node) else {
         return;
     };

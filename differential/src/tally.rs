@@ -1,6 +1,7 @@
 //! Counts of a run: answers by row, reason, kind and query, and what passed and failed.
 
-use crate::pages::CASES;
+use crate::pages;
+use crate::searched;
 use std::collections::BTreeMap;
 
 #[derive(Default)]
@@ -13,7 +14,9 @@ pub struct Tally {
     /// What was met where depth was asked.
     pub met: BTreeMap<&'static str, u64>,
     /// What was met where pages were asked: on accepted images, and on other bytes or under other views.
-    pub pages: [[u64; 2]; CASES.len()],
+    pub pages: [[u64; 2]; pages::CASES.len()],
+    /// The same where list items were looked up.
+    pub searches: [[u64; 2]; searched::CASES.len()],
     /// By how they were made: how many, and how many of them are accepted.
     pub images: BTreeMap<&'static str, [u64; 2]>,
     pub drafts: BTreeMap<&'static str, u64>,
@@ -76,15 +79,20 @@ impl Tally {
             println!("    {name:30} {found:>10} {nothing:>10}");
         }
         print("met where depth was asked", self.met.iter());
-        println!("met where pages were asked: accepted, others");
-        for ((name, _), [accepted, others]) in CASES.iter().zip(self.pages) {
-            println!("    {name:50} {accepted:>10} {others:>10}");
-        }
+        print_cases("pages were asked", &pages::CASES, &self.pages);
+        print_cases("list items were looked up", &searched::CASES, &self.searches);
         print("drafts by how they were made", self.drafts.iter());
         print("what the published writer did", self.written.iter());
         if !self.numbers.is_empty() {
             print("our numbers for drafts", self.numbers.iter());
         }
+    }
+}
+
+fn print_cases(what: &str, cases: &[(&str, bool)], counts: &[[u64; 2]]) {
+    println!("met where {what}: accepted, others");
+    for ((name, _), [accepted, others]) in cases.iter().zip(counts) {
+        println!("    {name:50} {accepted:>10} {others:>10}");
     }
 }
 

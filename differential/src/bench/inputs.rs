@@ -13,7 +13,20 @@ pub struct Input {
     pub draft: Option<Draft>,
     pub asked: bool,
     pub walks: Vec<(u32, bool, Vec<Step>)>,
+    pub look_ups: Vec<LookUps>,
+}
+
+/// Names of list items to look up, measured together.
+pub struct LookUps {
+    pub name: &'static str,
     pub items: Vec<String>,
+}
+
+impl LookUps {
+    /// A thousand names.
+    fn new(name: &'static str, item: impl Fn(usize) -> String) -> Self {
+        LookUps { name, items: (0..1_000).map(item).collect() }
+    }
 }
 
 impl Input {
@@ -23,7 +36,7 @@ impl Input {
 }
 
 /// Each input is made when its turn comes.
-pub const ALL: [fn(&mut Random) -> Input; 18] = [
+pub const ALL: [fn(&mut Random) -> Input; 19] = [
     |random| asked("20,000 mixed nodes", mixed(20_000, random), random),
     |random| asked("200,000 mixed nodes", mixed(200_000, random), random),
     |random| asked("chain of 5,000 containers", chain(5_000), random),
@@ -31,6 +44,7 @@ pub const ALL: [fn(&mut Random) -> Input; 18] = [
     |random| asked("1 MB of random UTF-8", one_text(random), random),
     |random| asked("100,000 distinct texts", with_strings(distinct_texts(100_000)), random),
     |random| asked("100,000 equal texts", with_strings(vec!["the same text".to_owned(); 100_000]), random),
+    |_| looked_up("sixty definitions of twenty items"),
     |_| written("2,000 equal texts of 10 kB that lie apart", with_strings(vec![front(10_000); 2_000])),
     |_| written("20,000 texts of 1 kB with a common front", with_strings(numbered(&front(1_000), 20_000))),
     |_| written("20,000 definitions with a common front", defined(&numbered(&front(1_000), 20_000))),
@@ -58,15 +72,41 @@ fn asked(name: &'static str, parts: Parts, random: &mut Random) -> Input {
     // a published step up tests the node's texts again, so few walks where few nodes hold much text
     let count = (50 * view.node_count()).min(10_000);
     let walks = (0..count).map(|_| walk(&view, &image, random)).collect();
-    let items = (0..1_000).map(|turn| format!("{}item {turn}", if turn % 2 == 0 { "list 3." } else { "" })).collect();
-    Input { name, image, draft: Some(draft), asked: true, walks, items }
+    let item = |turn| format!("{}item {turn}", if turn % 2 == 0 { "list 3." } else { "" });
+    let look_ups = vec![LookUps::new("list look-ups", item)];
+    Input { name, image, draft: Some(draft), asked: true, walks, look_ups }
 }
 
 /// The draft and its image; loaded and written.
 fn written(name: &'static str, parts: Parts) -> Input {
     let draft = parts.draft();
     let image = image_of(name, &draft);
-    Input { name, image, draft: Some(draft), asked: false, walks: vec![], items: vec![] }
+    Input { name, image, draft: Some(draft), asked: false, walks: vec![], look_ups: vec![] }
+}
+
+/// Sixty lists of twenty items, each in one list: in which definition an item stands decides how soon a search ends.
+fn looked_up(name: &'static str) -> Input {
+    let item = |list: usize, turn: usize| format!("item {list:02} {:02}", turn % 20);
+    let dotted = |list: usize, turn: usize| format!("d{list:02}.{}", item(list, turn));
+    let mut parts = with_strings(vec![]);
+    for list in 0..60 {
+        let (at, length) = place(&mut parts.strings, &format!("d{list:02}"));
+        parts.definitions.push([at, length, parts.items.len() as u32, 20]);
+        for value in 0..20 {
+            let (at, length) = place(&mut parts.strings, &item(list, value));
+            parts.items.push([at, length, value as u32]);
+        }
+    }
+    let look_ups = vec![
+        LookUps::new("in the last", |turn| item(59, turn)),
+        LookUps::new("in any", |turn| item(turn * 7 % 60, turn)),
+        LookUps::new("in the first", |turn| item(0, turn)),
+        LookUps::new("in none", |turn| format!("item {:02} {:02}", turn % 60, 20 + turn % 70)),
+        LookUps::new("dot, the last", |turn| dotted(59, turn)),
+        LookUps::new("dot, the first", |turn| dotted(0, turn)),
+        LookUps::new("dot, none", |turn| dotted(60, turn)),
+    ];
+    Input { look_ups, ..written(name, parts) }
 }
 
 /// An image that no writer gives, loaded; its sections as a draft, written.
@@ -78,7 +118,7 @@ fn overlaid(name: &'static str, parts: Parts) -> Input {
 fn loaded(name: &'static str, parts: Parts) -> Input {
     let image = parts.bytes();
     view(&image);
-    Input { name, image, draft: None, asked: false, walks: vec![], items: vec![] }
+    Input { name, image, draft: None, asked: false, walks: vec![], look_ups: vec![] }
 }
 
 fn image_of(name: &str, draft: &Draft) -> Vec<u8> {

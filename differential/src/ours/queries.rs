@@ -2,7 +2,7 @@
 
 use super::Ours;
 use crate::images::MARK;
-use crate::library::{Entry, Place, Queries, View};
+use crate::library::{Entry, Found, Looked, Place, Queries, View};
 use reference::{Kind, Named, NodeView, Step};
 use story_image::raw::{self, ListPlace, TextPlace};
 use story_image::{NodeKindOf, ValueOf, ffi};
@@ -73,11 +73,11 @@ fn kind_of(kind: NodeKindOf<TextPlace, ListPlace>) -> Kind {
     }
 }
 
-/// The words of a view where the call gives 0. Where it gives 18 they must have stayed, and it gives nothing else.
-fn words(call: impl FnOnce(*mut u32, usize) -> u32) -> Option<[u32; 10]> {
-    let mut answer = [MARK; 10];
+/// The words of an answer where the call gives 0. Where it gives 18 they must have stayed, and it gives nothing else.
+fn words<const N: usize>(call: impl FnOnce(*mut u32, usize) -> u32) -> Option<[u32; N]> {
+    let mut answer = [MARK; N];
     let number = call(answer.as_mut_ptr(), answer.len());
-    assert!(number == 0 || number == 18 && answer == [MARK; 10], "{number}, {answer:x?}");
+    assert!(number == 0 || number == 18 && answer == [MARK; N], "{number}, {answer:x?}");
     (number == 0).then_some(answer)
 }
 
@@ -174,14 +174,38 @@ impl Queries for Ours {
         asked(bytes, view).definition_item(index, item).map(|found| (place(found.name), found.value))
     }
 
-    fn list_item(&self, bytes: &[u8], view: &View, name: &[u8]) -> Option<(Place, Place, i32)> {
-        let asked = asked(bytes, view);
-        let found = asked.list_item(name)?;
-        let origin = asked.definition(found.definition)?;
-        // its number among all items, turned into one among the definition's
-        let item = found.item.checked_sub(asked.first_item(found.definition)?)?;
-        let item = asked.definition_item(found.definition, item)?;
-        Some((place(origin.name), place(item.name), found.value))
+    fn first_item(&self, bytes: &[u8], view: &View, index: u32) -> Option<u32> {
+        asked(bytes, view).first_item(index)
+    }
+
+    fn list_item(&self, bytes: &[u8], view: &View, name: &[u8]) -> Looked {
+        let search = asked(bytes, view).list_item(name);
+        let found =
+            search.item.map(|found| Found { definition: found.definition, item: found.item, value: found.value });
+        Looked { item: found, searched: search.searched }
+    }
+
+    fn list_item_words(&self, bytes: &[u8], view: &[u32], name: &[u8], searched: &mut [u32]) -> Option<[u32; 3]> {
+        let (length, view_length, name_length) = (bytes.len(), view.len(), name.len());
+        let (bytes, view, name) = (bytes.as_ptr(), view.as_ptr(), name.as_ptr());
+        let (searched, lent) = (searched.as_mut_ptr(), searched.len());
+        words(|answer, room| {
+            // SAFETY: the slices live through the call, and the answer and the words for the count alone are written.
+            unsafe {
+                ffi::story_image_list_item(
+                    bytes,
+                    length,
+                    view,
+                    view_length,
+                    name,
+                    name_length,
+                    answer,
+                    room,
+                    searched,
+                    lent,
+                )
+            }
+        })
     }
 
     fn resolve_path(&self, bytes: &[u8], view: &View, origin: u32, relative: bool, steps: &[Step]) -> Option<u32> {
