@@ -126,12 +126,13 @@ pub fn compare(a: &[u8], b: &[u8]) -> Order
     compare_words(a, b)
 }
 
-// The same order for a loop that compares many texts with one: short texts and first eight bytes that differ are told in place. It has
-// one caller, so that it becomes part of that loop.
+// The same order for a loop that compares many texts with one: texts of less than 64 bytes, and others whose first eight bytes differ,
+// are told in place. It has one caller, so that it becomes part of that loop.
 pub fn compare_front(a: &[u8], b: &[u8]) -> Order
     ensures { λ r. ⌜ r ≡ orderOf (now (a .entry)) (now (b .entry)) ⌝ }
 {
-    if shorter(a.len(), b.len()) < 8 {
+    let n = shorter(a.len(), b.len());
+    if n < 8 {
         return compare_bytes(a, b, 0);
     }
     let x = word(a, 0);
@@ -141,6 +142,9 @@ pub fn compare_front(a: &[u8], b: &[u8]) -> Order
     }
     if y < x {
         return Order::Greater;
+    }
+    if n < 64 {
+        return compare_bytes(a, b, 8);
     }
     compare(a, b)
 }

@@ -1,6 +1,7 @@
--- The first words decide where they differ.
+-- The first words decide where they differ; else the bytes behind them do, or all.
+use native.Mathlib.Omega.{arith}
 use borrow.Author.Needs.{needs}
-use Rattle.texts.proofs.Blocks.{alike-none, word-less, word-more}
+use Rattle.texts.proofs.Blocks.{alike-none, word-less, word-more, word-same}
 use Rattle.texts.proofs.compare_front.Statement.{statement}
 use Rattle.texts.proofs.compare_front.Tie as tie
 
@@ -25,11 +26,18 @@ returns-2 c = word-less (alike-none _ _) (c .before .before .word .ensures) (c .
 returns-3 : tie.Need-returns-3
 returns-3 c = word-more (alike-none _ _) (c .before .before .before .word .ensures) (c .before .before .word2 .ensures) (c .if3 .taken)
 
-compare-requires : tie.Need-compare-requires
-compare-requires c κs = search needs
+compare-bytes-requires-2 : tie.Need-compare-bytes-requires-2
+compare-bytes-requires-2 c κs =
+    word-same (alike-none _ _) (c .before .before .before .before .word .ensures) (c .before .before .before .word2 .ensures) (omega arith)
 
 returns-4 : tie.Need-returns-4
 returns-4 c = search needs
+
+compare-requires : tie.Need-compare-requires
+compare-requires c κs = search needs
+
+returns-5 : tie.Need-returns-5
+returns-5 c = search needs
 
 pub compare-front-spec : {M : Type 1} → statement M
 compare-front-spec =
@@ -42,5 +50,7 @@ compare-front-spec =
     word-requires-2
     returns-2
     returns-3
+    compare-bytes-requires-2
+    returns-4
     compare-requires
-    returns-4)
+    returns-5)
