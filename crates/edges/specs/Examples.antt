@@ -72,9 +72,9 @@ unfoldable pub withA : List ℕ → ℕ → ℕ → Sections
 withA strings at len =
     plainSections (containerWords NONE NONE NONE NONE 0 1 ++ containerWords 0 0 0 1 1 0) (1 ∷ []) (0 ∷ 0 ∷ 0 ∷ at ∷ len ∷ 1 ∷ []) strings
 
--- a root, and definitions and items by their words, with names out of "redlowsize"
-abbrev listSections : List ℕ → List ℕ → Sections
-listSections definitions items =
+-- a root, and definitions and items by their words
+abbrev pub listSections : List ℕ → List ℕ → List ℕ → Sections
+listSections definitions items strings =
     record {
       version = 2;
       nodes = containerWords NONE NONE NONE NONE 0 0;
@@ -84,20 +84,20 @@ listSections definitions items =
       items = items;
       index = 0 ∷ 0 ∷ 0 ∷ [];
       payload = [];
-      strings = ascii "redlowsize";
+      strings = strings;
     }
 
 -- definitions red and size that both hold low
 unfoldable pub withLists : Sections
-withLists = listSections (0 ∷ 3 ∷ 0 ∷ 1 ∷ 6 ∷ 4 ∷ 1 ∷ 1 ∷ []) (3 ∷ 3 ∷ 1 ∷ 3 ∷ 3 ∷ 2 ∷ [])
+withLists = listSections (0 ∷ 3 ∷ 0 ∷ 1 ∷ 6 ∷ 4 ∷ 1 ∷ 1 ∷ []) (3 ∷ 3 ∷ 1 ∷ 3 ∷ 3 ∷ 2 ∷ []) (ascii "redlowsize")
 
 -- two definitions red, of which the first holds low and the second size
 unfoldable pub twoReds : Sections
-twoReds = listSections (0 ∷ 3 ∷ 0 ∷ 1 ∷ 0 ∷ 3 ∷ 1 ∷ 1 ∷ []) (3 ∷ 3 ∷ 1 ∷ 6 ∷ 4 ∷ 2 ∷ [])
+twoReds = listSections (0 ∷ 3 ∷ 0 ∷ 1 ∷ 0 ∷ 3 ∷ 1 ∷ 1 ∷ []) (3 ∷ 3 ∷ 1 ∷ 6 ∷ 4 ∷ 2 ∷ []) (ascii "redlowsize")
 
 -- red holds low; of the items of size the last is outside
 unfoldable pub itemsOutside : Sections
-itemsOutside = listSections (0 ∷ 3 ∷ 0 ∷ 1 ∷ 6 ∷ 4 ∷ 1 ∷ 2 ∷ []) (3 ∷ 3 ∷ 1 ∷ 3 ∷ 3 ∷ 2 ∷ [])
+itemsOutside = listSections (0 ∷ 3 ∷ 0 ∷ 1 ∷ 6 ∷ 4 ∷ 1 ∷ 2 ∷ []) (3 ∷ 3 ∷ 1 ∷ 3 ∷ 3 ∷ 2 ∷ []) (ascii "redlowsize")
 
 unfoldable pub examples : Unit {0}
 unfolding smallestImage headerAlone containerWords nodeEntry plainSections rootNamed rootDraft withChild withPlace3 withA withLists twoReds itemsOutside

@@ -13,21 +13,7 @@ use Rattle.views.specs.Children.{childQuery, childrens}
 use Rattle.pages.specs.Page.{slotOf, pageRule, pageAfter, pages}
 use Rattle.promises.specs.Answers.{ofFound}
 use Rattle.draft_image.specs.Encode.{encodeRule, encodes}
-use Rattle.edges.specs.Examples.{smallestImage, containerWords, nodeEntry, plainSections, rootNamed, rootDraft, withChild, examples}
-
-unfoldable pub list : List ℕ → List ℕ → List ℕ → Sections
-list definitions items strings =
-    record {
-      version = 2;
-      nodes = containerWords NONE NONE NONE NONE 0 0;
-      children = [];
-      named = [];
-      definitions = definitions;
-      items = items;
-      index = 0 ∷ 0 ∷ 0 ∷ [];
-      payload = [];
-      strings = strings;
-    }
+use Rattle.edges.specs.Examples.{smallestImage, containerWords, nodeEntry, plainSections, rootNamed, rootDraft, withChild, listSections, examples}
 
 -- nodes 1 and 2 are each other's parent and child
 unfoldable pub ring : Sections
@@ -41,7 +27,7 @@ twoA =
     plainSections (containerWords NONE NONE NONE NONE 0 2 ++ containerWords 0 0 0 1 2 0 ++ containerWords 0 1 0 1 2 0) (1 ∷ 2 ∷ []) [] (ascii "a")
 
 unfoldable pub rowDrafts : Unit {0}
-unfolding list ring twoA examples
+unfolding ring twoA examples
 rowDrafts = tt
 
 -- rows 1 to 7
@@ -101,7 +87,7 @@ pub record TreeRows : Type 0 where
   pub row-14 : loadRule (imageOf 21 (plainSections (containerWords NONE NONE NONE NONE 0 1 ++ nodeEntry 0 1 5 []) (1 ∷ []) (0 ∷ 0 ∷ 0 ∷ []) [])) 9 ≡ 14
   pub row-15 : loadRule (imageOf 21 ring) 9 ≡ 15
   pub row-16 : loadRule (imageOf 21 (plainSections (containerWords NONE NONE NONE NONE 0 0) [] (0 ∷ 1 ∷ 0 ∷ []) (ascii "a"))) 9 ≡ 16
-  pub row-17 : loadRule (imageOf 21 (list (1 ∷ 1 ∷ 0 ∷ 0 ∷ 0 ∷ 1 ∷ 0 ∷ 0 ∷ []) [] (ascii "ab"))) 9 ≡ 17
+  pub row-17 : loadRule (imageOf 21 (listSections (1 ∷ 1 ∷ 0 ∷ 0 ∷ 0 ∷ 1 ∷ 0 ∷ 0 ∷ []) [] (ascii "ab"))) 9 ≡ 17
   pub row-18 : ofFound (childQuery (rootNamed NONE NONE) 0 0) .number ≡ 18
 
 tree-rows : TreeRows

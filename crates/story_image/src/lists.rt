@@ -239,7 +239,8 @@ pub extern "C" fn story_image_list_item(
 ) -> u32
     ensures answer { λ r. ⌜ (let found = answerOfListItem (now (bytes .entry)) (now (view .entry)) (now (name .entry)) in
         Answered found (now (answer .entry)) (now (answer .exit)) r) ⌝ }
-    ensures searched { λ _. ⌜ now (searched .exit) ≡ searchedAfter (now (bytes .entry)) (now (view .entry)) (now (name .entry)) (now (searched .entry)) ⌝ }
+    ensures searched { λ _. ⌜ (let lent = now (searched .entry) in
+        now (searched .exit) ≡ searchedAfter (now (bytes .entry)) (now (view .entry)) (now (name .entry)) lent) ⌝ }
 {
     if view.len() < VIEW_WORDS {
         return NOT_FOUND;

@@ -106,7 +106,11 @@ returns : tie.Need-returns Inv-loop μ-loop Inv-definitions μ-definitions
 returns c = sought-end _ _ _ _ _ _ _ _ _ (c .definitions-test .left) (c .before .definitions .inv)
 
 returns-2 : tie.Need-returns-2 Inv-loop μ-loop Inv-definitions μ-definitions
-returns-2 c = sought-found _ _ _ _ _ _ _ _ _ _ (one-less _ (c .before .before .before .before .before .before .before .before .before .before .before .definitions-test .taken)) (c .before .before .before .before .before .before .before .before .before .before .before .before .definitions .inv) _ (c .before .before .before .before .before .before .before .before .before .before .definition-at .ensures) _ (c .before .before .before .before .before .before .before .before .items-inside .ensures) _ (halved-here (c .before .before .before .before .before .before .before .loop .inv .1) (c .before .before .before .before .before .before .loop-test .taken) _ (c .before .before .before .before .before .text-entry .ensures) _ (c .before .before .before .before .text-part .ensures) _ (c .before .before .before .compare-front .ensures) (c .before .enum-told2 .given .1)) _ (c .before .before .before .before .before .text-entry .ensures) _ (c .found .ensures)
+returns-2 c =
+    let turn = c .before .before .before in
+    let d = turn .before .before .before .before .before in
+    let here = halved-here (turn .before .before .before .before .loop .inv .1) (turn .before .before .before .loop-test .taken) _ (turn .before .before .text-entry .ensures) _ (turn .before .text-part .ensures) _ (turn .compare-front .ensures) (c .before .enum-told2 .given .1) in
+    sought-found _ _ _ _ _ _ _ _ _ _ (one-less _ (d .before .before .before .definitions-test .taken)) (d .before .before .before .before .definitions .inv) _ (d .before .before .definition-at .ensures) _ (d .items-inside .ensures) _ here _ (turn .before .before .text-entry .ensures) _ (c .found .ensures)
 
 pub last-item-spec : {M : Type 1} → statement M
 last-item-spec =

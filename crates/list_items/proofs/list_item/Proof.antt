@@ -75,10 +75,16 @@ last-item-requires-2 c κs =
     search (needs, origin-below _ _ _ _ (sym (c .before .before .before .before .origin-at .ensures) ∙ ap foundPlace (c .before .before .d .given .1)), definitions-few _ (c .before .before .before .before .before .before .before .before .before .before .before .before .before .before .before .before .before .args .view) 4294967295 few _ (c .before .before .before .before .before .before .before .before .before .before .section-part .ensures))
 
 returns-3 : tie.Need-returns-3
-returns-3 c = c .no-search2 .ensures ∙ search-no-origin _ _ _ _ (c .before .before .before .before .before .before .before .before .before .before .before .is-blank .ensures) (c .before .before .before .before .before .before .before .before .before .before .if2 .left) _ _ _ (c .before .before .before .before .before .before .before .before .before .section-part .ensures) (c .before .before .before .before .before .before .before .before .section-part2 .ensures) (c .before .before .before .before .before .before .before .section-part3 .ensures) _ (c .before .before .before .before .before .before .first-dot .ensures) (c .before .before .before .before .before .if3 .left) _ (c .before .before .before .origin-at .ensures) (ap foundPlace (c .before .enum-told .given .1))
+returns-3 c =
+    let origin = c .before .before .before in
+    let dot = origin .before .before .before in
+    c .no-search2 .ensures ∙ search-no-origin _ _ _ _ (dot .before .before .before .before .before .is-blank .ensures) (dot .before .before .before .before .if2 .left) _ _ _ (dot .before .before .before .section-part .ensures) (dot .before .before .section-part2 .ensures) (dot .before .section-part3 .ensures) _ (dot .first-dot .ensures) (origin .before .before .if3 .left) _ (origin .origin-at .ensures) (ap foundPlace (c .before .enum-told .given .1))
 
 returns-4 : tie.Need-returns-4
-returns-4 c = search-origin _ _ _ _ (c .before .before .before .before .before .before .before .before .before .before .before .before .before .is-blank .ensures) (c .before .before .before .before .before .before .before .before .before .before .before .before .if2 .left) _ _ _ (c .before .before .before .before .before .before .before .before .before .before .before .section-part .ensures) (c .before .before .before .before .before .before .before .before .before .before .section-part2 .ensures) (c .before .before .before .before .before .before .before .before .before .section-part3 .ensures) _ (c .before .before .before .before .before .before .before .before .first-dot .ensures) (c .before .before .before .before .before .before .before .if3 .left) _ (c .before .before .before .before .before .origin-at .ensures) _ (ap foundPlace (c .before .before .before .d .given .1)) _ (c .last-item2 .ensures)
+returns-4 c =
+    let origin = c .before .before .before .before .before in
+    let dot = origin .before .before .before in
+    search-origin _ _ _ _ (dot .before .before .before .before .before .is-blank .ensures) (dot .before .before .before .before .if2 .left) _ _ _ (dot .before .before .before .section-part .ensures) (dot .before .before .section-part2 .ensures) (dot .before .section-part3 .ensures) _ (dot .first-dot .ensures) (origin .before .before .if3 .left) _ (origin .origin-at .ensures) _ (ap foundPlace (c .before .before .before .d .given .1)) _ (c .last-item2 .ensures)
 
 pub list-item-spec : {M : Type 1} → statement M
 list-item-spec =
