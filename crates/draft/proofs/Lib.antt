@@ -1,6 +1,7 @@
 pub mod NodeCount
 pub mod Rules
 pub mod ReachedNodes
+pub mod PathTables
 pub mod NodeTable
 pub mod EntryTables
 pub mod Row19
@@ -8,3 +9,4 @@ pub mod WorkWords
 pub mod Runs
 pub mod Relations
 pub mod Row21
+pub mod PathLists

@@ -21,7 +21,7 @@ use Rattle.tree.proofs.Numbers.{EachOnce, read-once, read-inside}
 use Rattle.tree.proofs.Walks.{Turns, walk-turns}
 use Rattle.draft.specs.Draft.{reachRule}
 use Rattle.draft.specs.Numbering.{numbering, oldOf}
-use Rattle.draft.proofs.Rules.{Tables, entries-counts, entries-below}
+use Rattle.draft.proofs.Rules.{TablesBy, entries-counts, entries-below}
 
 pub reached : (s : Sections) → reachRule s ≡ 0 → (i : ℕ) → i < nodeCount s → has i (readWalk s .seen) ≡ true
 unfolding reachRule allSeen
@@ -31,7 +31,7 @@ reached s p i h = all-at _ _ (passed _ 19 p) i h
 abbrev pub Numbered : ℕ → List ℕ → Type 0
 Numbered n order = EachOnce n order
 
-module _ (s : Sections) (t : Tables s) where
+module _ (s : Sections) {rule : ℕ → ℕ} (t : TablesBy s rule) where
   -- the writer's walk marks nodes only
   pub marks-below : All (λ x. x < nodeCount s) (readWalk s .seen)
   marks-below = read-inside s (entries-counts s t) (λ i h. entries-below s t i h)

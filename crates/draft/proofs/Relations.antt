@@ -179,45 +179,44 @@ module _ {v : ℕ} (ns cs ms ts : List ℕ) (g : TreePassed (draftOf v ns cs ms 
         ∙ ap (λ (n : ℕ). passes (firstOf n (namedRule s i))) (node-words .f6)
         ∙ ap (λ (b : Bool). passes (firstOf (cond b (f s i 6) 0) (namedRule s i))) (sym container)
 
-  -- ---- by the answers
+  -- ---- its entries, by the answers
+
+  pub plain-node : (r .tag ≡ 1 → ⊥) → true ≡ passes (entriesRule s i)
+  unfolding entriesRule numberOfChildren numberOfNamed firstOf _▸_
+  plain-node d =
+      sym (ap (λ (t : Bool). passes (firstOf (cond t (f s i 4) 0) (childRule s i) ▸ firstOf (cond t (f s i 6) 0) (namedRule s i))) (ne-eqb (tagOf s i) 1 (λ q. d (node-words .tag ∙ q))))
+
+  module _ (t : r .tag ≡ 1) where
+    by-tests : passes (entriesRule s i) ≡ (children-tests t && named-tests t)
+    unfolding entriesRule
+    by-tests =
+        passes-both (firstOf (numberOfChildren s i) (childRule s i)) (firstOf (numberOfNamed s i) (namedRule s i))
+        ∙ ap (λ (b : Bool). b && passes (firstOf (numberOfNamed s i) (namedRule s i))) (sym (children-pass t)) ∙ ap (λ (b : Bool). children-tests t && b) (sym (named-pass t))
+
+    module _ (a : Bool) (p : a ≡ children-tests t) where
+      pub wrong-children : not a ≡ true → false ≡ passes (entriesRule s i)
+      wrong-children q = sym (by-tests ∙ ap (λ (b : Bool). b && named-tests t) (sym p ∙ not-true a q))
+
+      pub by-named : not a ≡ false → (b : Bool) → b ≡ named-tests t → b ≡ passes (entriesRule s i)
+      by-named q b k = k ∙ sym (by-tests ∙ ap (λ (x : Bool). x && named-tests t) (sym p ∙ not-false a q))
+
+  -- ---- its rules, by the answers
 
   module _ (x : ℕ) (e : x ≡ parentRule s i) where
     pub wrong-parent : (x ≡ 0 → ⊥) → 21 ≡ relationRule s i
     wrong-parent d =
         sym (by-passing ∙ ap (λ (t : Bool). unless (t && passes (entriesRule s i)) 21) (ne-eqb (parentRule s i) 0 (λ z. d (e ∙ z))) ∙ fail false 21 refl)
 
-    module _ (z : x ≡ 0) where
-      by-entries : relationRule s i ≡ unless (passes (entriesRule s i)) 21
-      by-entries = by-passing ∙ ap (λ (t : Bool). unless (t && passes (entriesRule s i)) 21) (eq-eqb (parentRule s i) 0 (sym e ∙ z))
+    module _ (z : x ≡ 0) (b : Bool) (k : b ≡ passes (entriesRule s i)) where
+      by-entries : relationRule s i ≡ unless b 21
+      by-entries =
+          by-passing ∙ ap (λ (t : Bool). unless (t && passes (entriesRule s i)) 21) (eq-eqb (parentRule s i) 0 (sym e ∙ z)) ∙ ap (λ (t : Bool). unless t 21) (sym k)
 
-      pub plain-node : (r .tag ≡ 1 → ⊥) → 0 ≡ relationRule s i
-      unfolding entriesRule numberOfChildren numberOfNamed firstOf _▸_
-      plain-node d =
-          sym (by-entries ∙ ap (λ (t : Bool). unless (passes (firstOf (cond t (f s i 4) 0) (childRule s i) ▸ firstOf (cond t (f s i 6) 0) (namedRule s i))) 21) (ne-eqb (tagOf s i) 1 (λ q. d (node-words .tag ∙ q)))
-          ∙ pass true 21 refl)
+      pub right-node : b ≡ true → 0 ≡ relationRule s i
+      right-node u = sym (by-entries ∙ pass b 21 u)
 
-      module _ (t : r .tag ≡ 1) where
-        by-tests : relationRule s i ≡ unless (children-tests t && named-tests t) 21
-        unfolding entriesRule
-        by-tests =
-            by-entries
-            ∙ ap (λ (b : Bool). unless b 21)
-            (passes-both (firstOf (numberOfChildren s i) (childRule s i)) (firstOf (numberOfNamed s i) (namedRule s i))
-            ∙ ap (λ (b : Bool). b && passes (firstOf (numberOfNamed s i) (namedRule s i))) (sym (children-pass t)) ∙ ap (λ (b : Bool). children-tests t && b) (sym (named-pass t)))
-
-        module _ (a : Bool) (p : a ≡ children-tests t) where
-          pub wrong-children : not a ≡ true → 21 ≡ relationRule s i
-          wrong-children q = sym (by-tests ∙ ap (λ (b : Bool). unless (b && named-tests t) 21) (sym p ∙ not-true a q) ∙ fail false 21 refl)
-
-          module _ (q : not a ≡ false) (b : Bool) (k : b ≡ named-tests t) where
-            by-named : relationRule s i ≡ unless b 21
-            by-named = by-tests ∙ ap (λ (x : Bool). unless (x && named-tests t) 21) (sym p ∙ not-false a q) ∙ ap (λ (x : Bool). unless x 21) (sym k)
-
-            pub right-node : b ≡ true → 0 ≡ relationRule s i
-            right-node u = sym (by-named ∙ pass b 21 u)
-
-            pub wrong-named : b ≡ false → 21 ≡ relationRule s i
-            wrong-named u = sym (by-named ∙ fail b 21 u)
+      pub wrong-entries : b ≡ false → 21 ≡ relationRule s i
+      wrong-entries u = sym (by-entries ∙ fail b 21 u)
 
 -- ---- the order of definition d and its items
 

@@ -12,10 +12,10 @@ use Rattle.tree.specs.Tree.{childRule, namedRule, entriesRule}
 use Rattle.draft.specs.Source.{draftOf}
 use Rattle.draft.specs.Draft.{relationRule, orderRule, shapeRule}
 use Rattle.draft.specs.Shown.{TreePassed, ListsPassed, TablesPassed}
-use Rattle.draft.proofs.Rules.{Tables, tables-fit, items-end}
+use Rattle.draft.proofs.Rules.{TablesBy, tables-fit, items-end}
 
 -- what the rules of this row need
-pub tables-passed : (s : Sections) → Tables s → TablesPassed s
+pub tables-passed : (s : Sections) {rule : ℕ → ℕ} → TablesBy s rule → TablesPassed s
 tables-passed s t =
     record {
       some = t .some;

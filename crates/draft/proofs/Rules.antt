@@ -1,24 +1,26 @@
 -- What the rules 19 and 21 say of a draft that breaks none of them, one fact at a time.
 use Prim.Native.Nat.{ℕ, zero, _+_, _*_, _%_, _/_, _≤_, _<_}
-use mathlib.Core.Path.{_≡_, sym, ap, _∙_}
+use mathlib.Core.Path.{_≡_, refl, sym, ap, _∙_}
 use native.Mathlib.Nat.{add-zero, div-add-mod'}
 use mathlib.Core.Bool.{true, _&&_, _||_}
 use native.Mathlib.Omega.{arith}
 use lib.ListN.{length}
 use lib.Dec.{eqb, leb}
 use borrow.Author.Tests.{eqb-true, eqb-false, leb-true, ne-eqb, not-true}
+use Rattle.laws.specs.Refusal.{unless, countsAs, _▸_, firstOf}
 use Rattle.laws.proofs.First.{both, passed, as-zero, first-all}
 use Rattle.laws.proofs.Flags.{both-true}
 use Rattle.laws.proofs.Members.{All}
 use Rattle.texts.specs.Text.{rising}
 use Rattle.image.specs.Sections.{Sections, nodeWords, textEntryWords, definitionWords, nodeCount, childCount, namedCount, definitionCount, itemCount, parentOf, f, childWord, namedWord, goodText, inside, isContainer}
+use Rattle.image.specs.Refusals.{badDraft}
 use Rattle.records.specs.Records.{numberOfChildren, numberOfNamed, fieldsRule, parentRule, rootRight, usedUp}
 use Rattle.records.proofs.PassedRules.{Node, node-of, ranges as fields-ranges}
 use Rattle.tree.specs.Tree.{childAt, namedAt, entryNodes, entriesRule}
 use Rattle.tree.specs.Parts.{EntriesOwned, Fit}
 use Rattle.tree.proofs.Entries.{entry-each, child-container, named-container, counts}
 use Rattle.index.specs.Definitions.{goodDefinition, goodItem, firstItem, numberOfItems, itemsBefore, itemsRight, itemsUsedUp, definitionText, itemTextOf}
-use Rattle.draft.specs.Draft.{wholeEntries, draftNodeRule, draftChildRule, draftNamedRule, draftDefinitionRule, draftItemRule, tablesRule, relationRule, orderRule, shapeRule}
+use Rattle.draft.specs.Draft.{wholeEntries, draftNodeRule, draftChildRule, draftNamedRule, draftDefinitionRule, draftItemRule, entryTablesRule, tablesRule, relationRule, orderRule, shapeRule}
 
 -- ---- 19
 
@@ -29,10 +31,11 @@ pub record Entries (s : Sections) : Type 0 where
   pub definitions : length (s .definitions) ≡ definitionCount s * definitionWords
   pub items : length (s .items) ≡ itemCount s * textEntryWords
 
--- the texts and numbers that a draft's tables hold
-pub record Tables (s : Sections) : Type 0 where
+-- the texts and numbers that a draft's tables hold, by a rule of each node's fields which for containers is the record rule
+pub record TablesBy (s : Sections) (rule : ℕ → ℕ) : Type 0 where
   pub some : zero < nodeCount s
-  pub fields : (i : ℕ) → i < nodeCount s → fieldsRule s i ≡ 0
+  pub fields : (i : ℕ) → i < nodeCount s → rule i ≡ 0
+  pub containers : (i : ℕ) → i < nodeCount s → isContainer s i ≡ true → fieldsRule s i ≡ 0
   pub parents : (i : ℕ) → i < nodeCount s → 0 < i → inside s (parentOf s i) ≡ true
   pub used : usedUp s ≡ true
   pub children : (j : ℕ) → j < childCount s → inside s (childWord s j) ≡ true
@@ -41,6 +44,10 @@ pub record Tables (s : Sections) : Type 0 where
   pub definitions : (d : ℕ) → d < definitionCount s → (goodDefinition s d ≡ true) × (itemsRight s d ≡ true)
   pub items-used : itemsUsedUp s ≡ true
   pub items : (j : ℕ) → j < itemCount s → goodItem s j ≡ true
+
+-- by the record rules
+abbrev pub Tables : Sections → Type 0
+Tables s = TablesBy s (fieldsRule s)
 
 -- the sections are whole, and there is a node
 pub record Checked (s : Sections) : Type 0 where
@@ -71,10 +78,17 @@ checked s h =
 whole-nodes : (n w : ℕ) → n % w ≡ 0 → n ≡ n / w * w
 whole-nodes n w e = sym (div-add-mod' n w) ∙ ap (λ (x : ℕ). n / w * w + x) e ∙ add-zero (n / w * w)
 
-module _ (s : Sections) (p : tablesRule s ≡ 0) where
-  pub tables : Tables s
-  unfolding tablesRule draftNodeRule draftChildRule draftNamedRule draftDefinitionRule draftItemRule
-  tables =
+-- row 19 by a rule of the nodes' fields
+abbrev pub tablesRuleBy : Sections → (ℕ → ℕ) → ℕ
+tablesRuleBy s rule =
+    unless (wholeEntries s) badDraft
+    ▸ firstOf (nodeCount s) (λ i. countsAs badDraft (rule i) ▸ unless (eqb i 0 || inside s (parentOf s i)) badDraft)
+    ▸ entryTablesRule s
+
+module _ (s : Sections) (rule : ℕ → ℕ) (p : tablesRuleBy s rule ≡ 0) where
+  pub tables-by : ((i : ℕ) → isContainer s i ≡ true → rule i ≡ fieldsRule s i) → TablesBy s rule
+  unfolding draftChildRule draftNamedRule draftDefinitionRule draftItemRule
+  tables-by same =
       -- whole entries, nodes, leftovers, children, named, definitions, items used up, items
       let t0 = both _ _ p in
       let t1 = both _ _ (t0 .1) in
@@ -86,6 +100,7 @@ module _ (s : Sections) (p : tablesRule s ≡ 0) where
       record {
         some = checked s (passed _ 18 (t0 .0)) .some;
         fields = λ i h. as-zero 18 _ (both _ _ (first-all _ _ (t1 .0) i h) .0);
+        containers = λ i h c. sym (same i c) ∙ as-zero 18 _ (both _ _ (first-all _ _ (t1 .0) i h) .0);
         parents = λ i h k. below-root i k (passed _ 18 (both _ _ (first-all _ _ (t1 .0) i h) .1));
         used = passed _ 18 (t2 .0);
         children = λ j h. passed _ 18 (first-all _ _ (t3 .0) j h);
@@ -99,9 +114,8 @@ module _ (s : Sections) (p : tablesRule s ≡ 0) where
       below-root : (i : ℕ) → 0 < i → (eqb i 0 || inside s (parentOf s i)) ≡ true → inside s (parentOf s i) ≡ true
       below-root i k q = rw (ne-eqb i 0 (λ e. omega arith)) at q
 
-  pub whole : Entries s
-  unfolding tablesRule
-  whole =
+  pub whole-by : Entries s
+  whole-by =
       let c = checked s (passed _ 18 (both _ _ p .0)) in
       record {
         nodes = whole-nodes (length (s .nodes)) (nodeWords (s .version)) (c .nodes);
@@ -110,9 +124,18 @@ module _ (s : Sections) (p : tablesRule s ≡ 0) where
         items = omega (arith, c .items);
       }
 
+module _ (s : Sections) (p : tablesRule s ≡ 0) where
+  pub tables : Tables s
+  unfolding tablesRule draftNodeRule
+  tables = tables-by s (fieldsRule s) p (λ i c. refl)
+
+  pub whole : Entries s
+  unfolding tablesRule draftNodeRule
+  whole = whole-by s (fieldsRule s) p
+
 -- ---- what the tables give
 
-module _ (s : Sections) (t : Tables s) where
+module _ (s : Sections) {rule : ℕ → ℕ} (t : TablesBy s rule) where
   pub entries-counts : EntriesOwned s
   entries-counts = counts s (t .some) (t .used)
 
@@ -120,7 +143,7 @@ module _ (s : Sections) (t : Tables s) where
   tables-fit =
       record {
         counts = entries-counts;
-        ranges = λ i h c. let all = fields-ranges s i c (t .fields i h) in record { children = all .children-end; named = all .named-end };
+        ranges = λ i h c. let all = fields-ranges s i c (t .containers i h c) in record { children = all .children-end; named = all .named-end };
       }
 
   pub parent-node : (i : ℕ) → i < nodeCount s → 0 < i → Node s (parentOf s i)

@@ -40,16 +40,18 @@ draftDefinitionRule s d = unless (goodDefinition s d) badDraft ▸ unless (items
 unfoldable pub draftItemRule : Sections → ℕ → ℕ
 draftItemRule s j = unless (goodItem s j) badDraft
 
-unfoldable pub tablesRule : Sections → ℕ
-tablesRule s =
-    unless (wholeEntries s) badDraft
-    ▸ firstOf (nodeCount s) (draftNodeRule s)
-    ▸ unless (usedUp s) badDraft
+-- what is tested after the nodes
+abbrev pub entryTablesRule : Sections → ℕ
+entryTablesRule s =
+    unless (usedUp s) badDraft
     ▸ firstOf (childCount s) (draftChildRule s)
     ▸ firstOf (namedCount s) (draftNamedRule s)
     ▸ firstOf (definitionCount s) (draftDefinitionRule s)
     ▸ unless (itemsUsedUp s) badDraft
     ▸ firstOf (itemCount s) (draftItemRule s)
+
+unfoldable pub tablesRule : Sections → ℕ
+tablesRule s = unless (wholeEntries s) badDraft ▸ firstOf (nodeCount s) (draftNodeRule s) ▸ entryTablesRule s
 
 -- ---- 7: the work words
 

@@ -3,6 +3,7 @@ pub mod source; // source.rt: a draft's words and entries
 pub mod tables; // tables.rt: row 19
 pub mod shape; // shape.rt: row 21
 pub mod layout; // layout.rt: where things lie in the work words
+pub mod path_list; // path_list.rt: the paths lent beside a draft
 
 ghost use mathlib.Core.Path.{_≡_};
 ghost use mathlib.Core.List.{[]};

@@ -1,14 +1,15 @@
 // Row 21: the root, the parents, the tree's entries, the order of definitions and items. Row 19 has passed: texts are good and ranges are inside.
 ghost use mathlib.Core.Path.{_≡_};
 ghost use mathlib.Core.List.{[]};
-ghost use Prim.Native.Nat.{_+_, _*_, _≤_, _<_};
+ghost use mathlib.Core.Bool.{true};
+ghost use Prim.Native.Nat.{ℕ, _+_, _*_, _≤_, _<_};
 ghost use lib.ListN.{length, getD};
-ghost use Rattle.laws.specs.Refusal.{firstOf};
+ghost use Rattle.laws.specs.Refusal.{passes, firstOf};
 ghost use Rattle.laws.specs.Counted.{allOf};
 ghost use Rattle.texts.specs.Text.{rising};
 ghost use Rattle.image.specs.Sections.{textEntryWords, definitionWords, nodeCount, definitionCount};
-ghost use Rattle.image.specs.Entries.{entryTextFrom, definitionTextIn};
-ghost use Rattle.tree.specs.Tree.{rightChild};
+ghost use Rattle.image.specs.Entries.{recordOf, entryTextFrom, definitionTextIn};
+ghost use Rattle.tree.specs.Tree.{rightChild, entriesRule};
 ghost use Rattle.draft.specs.Source.{draftOf};
 ghost use Rattle.draft.specs.Draft.{relationRule, orderRule, shapeRule};
 ghost use Rattle.draft.specs.Shown.{rightContainer, namedRight, TreePassed, ListsPassed, TablesPassed};
@@ -161,7 +162,70 @@ fn items_rise(items: &[u32], strings: &[u8], first: usize, count: usize) -> bool
     true
 }
 
-// The rules of node `i`: its parent's, and of a container those of its entries.
+// Whether the entries of node `i` are right: a container's ordered children, then its named ones; another node has none.
+fn node_entries_right(
+    nodes: &[u32],
+    children: &[u32],
+    named: &[u32],
+    strings: &[u8],
+    node: NodeRecord,
+    i: usize,
+    source: Source,
+) -> bool
+    requires { ⌜ (let s = draftOf (source .version) (now nodes) (now children) (now named) [] [] [] (now strings) in TreePassed s × (i < nodeCount s)) ⌝ }
+    requires { ⌜ node ≡ recordOf (source .version) (now nodes) i ⌝ }
+    ensures { λ r. ⌜ (let s = draftOf (source .version) (now (nodes .entry)) (now (children .entry)) (now (named .entry)) [] [] [] (now (strings .entry)) in
+        r ≡ passes (entriesRule s i)) ⌝ }
+{
+    if node.tag != CONTAINER {
+        return true;
+    }
+    if !right_children(
+        nodes,
+        children,
+        i,
+        node.f3 as usize,
+        node.f4 as usize,
+        source,
+    ) {
+        return false;
+    }
+    right_entries(
+        nodes,
+        named,
+        strings,
+        i,
+        node.f5 as usize,
+        node.f6 as usize,
+        source,
+    )
+}
+
+// Whether the entries of every node are right.
+pub fn entries_right(
+    nodes: &[u32],
+    children: &[u32],
+    named: &[u32],
+    strings: &[u8],
+    source: Source,
+) -> bool
+    requires { ⌜ TreePassed (draftOf (source .version) (now nodes) (now children) (now named) [] [] [] (now strings)) ⌝ }
+    ensures { λ r. ⌜ (let s = draftOf (source .version) (now (nodes .entry)) (now (children .entry)) (now (named .entry)) [] [] [] (now (strings .entry)) in
+        r ≡ true → (i : ℕ) → i < nodeCount s → entriesRule s i ≡ 0) ⌝ }
+{
+    let count = source::node_count(nodes, source);
+    let mut i = 0;
+    while i < count {
+        let node = source::node_at(nodes, i, source);
+        if !node_entries_right(nodes, children, named, strings, node, i, source) {
+            return false;
+        }
+        i += 1;
+    }
+    true
+}
+
+// The rules of node `i`: its parent's, and those of its entries.
 fn relation_rule(
     nodes: &[u32],
     children: &[u32],
@@ -180,28 +244,7 @@ fn relation_rule(
     if records::parent_rule(node, i, count, parent_tag) != 0 {
         return DRAFT_SHAPE;
     }
-    if node.tag != CONTAINER {
-        return 0;
-    }
-    if !right_children(
-        nodes,
-        children,
-        i,
-        node.f3 as usize,
-        node.f4 as usize,
-        source,
-    ) {
-        return DRAFT_SHAPE;
-    }
-    if right_entries(
-        nodes,
-        named,
-        strings,
-        i,
-        node.f5 as usize,
-        node.f6 as usize,
-        source,
-    ) {
+    if node_entries_right(nodes, children, named, strings, node, i, source) {
         0
     } else {
         DRAFT_SHAPE
@@ -254,7 +297,7 @@ fn order_rule(definitions: &[u32], items: &[u32], strings: &[u8], d: usize) -> u
 }
 
 // The order of every definition and of its items.
-fn orders_rule(definitions: &[u32], items: &[u32], strings: &[u8]) -> u32
+pub fn orders_rule(definitions: &[u32], items: &[u32], strings: &[u8]) -> u32
     requires { ⌜ ListsPassed (draftOf 0 [] [] [] (now definitions) (now items) [] (now strings)) ⌝ }
     ensures { λ r. ⌜ (let s = draftOf 0 [] [] [] (now (definitions .entry)) (now (items .entry)) [] (now (strings .entry)) in
         r ≡ firstOf (definitionCount s) (orderRule s)) ⌝ }

@@ -1,16 +1,21 @@
 // Row 19: a draft's tables. Every record rule holds, every text is good, and every number that should be a node's is one.
 ghost use mathlib.Core.Path.{_≡_};
-ghost use mathlib.Core.List.{[]};
+ghost use mathlib.Core.List.{List, []};
+ghost use Prim.Native.Nat.{ℕ, _<_};
 ghost use Rattle.laws.specs.Refusal.{unless, _▸_, firstOf};
 ghost use Rattle.image.specs.Sections.{Sections, insideAmong, nodeCount, childCount, namedCount, definitionCount, itemCount, goodIn};
 ghost use Rattle.image.specs.Entries.{nodeIn};
 ghost use Rattle.image.specs.Refusals.{badDraft};
-ghost use Rattle.records.specs.Records.{usedUp};
-ghost use Rattle.records.specs.Shown.{sumsBefore, startsNext};
+ghost use Rattle.records.specs.Fields.{kindOf};
+ghost use Rattle.records.specs.Records.{targetIn, usedUp};
+ghost use Rattle.records.specs.Shown.{sumsBefore, tagIn, startsNext};
 ghost use Rattle.index.specs.Definitions.{itemsUsedUp};
 ghost use Rattle.draft.specs.Source.{NodesFrom, draftOf};
-ghost use Rattle.draft.specs.Draft.{wholeEntries, draftNodeRule, draftChildRule, draftNamedRule, draftDefinitionRule, draftItemRule, tablesRule};
+ghost use Rattle.draft.specs.Draft.{wholeEntries, draftChildRule, draftNamedRule, draftDefinitionRule, draftItemRule};
+ghost use Rattle.draft.specs.PathList.{follows, pathNodeRule, pathTablesRule};
+ghost use Rattle.draft.specs.PathEntries.{testedRecord, testedTag};
 use crate::entry_counts;
+use crate::path_list;
 use crate::source;
 use crate::source::Source;
 use image::Definition;
@@ -19,6 +24,7 @@ use image::ImageView;
 use image::NodeRecord;
 use image::TextEntry;
 use image::refusal::BAD_DRAFT;
+use image::tag;
 use records::Sums;
 
 // Whether each section is whole entries, and there is a node.
@@ -47,7 +53,34 @@ fn whole_entries(
     source::node_count(nodes, source) != 0
 }
 
-// The rules of node `i`: those of its fields, and that its parent is a node, the root aside.
+// The record that is tested: that of a node that follows a path has the root for its target.
+fn tested_record(node: NodeRecord, follow: bool) -> NodeRecord
+    ensures { λ r. ⌜ r ≡ testedRecord follow node ⌝ }
+{
+    let mut tested = node;
+    if !follow {
+        return tested;
+    }
+    if node.tag == tag::REFERENCE {
+        tested.f4 = 0;
+        return tested;
+    }
+    tested.f2 = 0;
+    tested
+}
+
+// The tag of the target that is tested: for a node that follows a path that of a container, which no rule refuses.
+fn tested_tag(nodes: &[u32], node: NodeRecord, follow: bool, source: Source) -> u32
+    ensures { λ r. ⌜ r ≡ testedTag follow (tagIn (draftOf (source .version) (now (nodes .entry)) [] [] [] [] [] [])
+        (targetIn node (kindOf (node .tag)))) ⌝ }
+{
+    if follow {
+        return tag::CONTAINER;
+    }
+    source::tag_at(nodes, records::target_of(node), source)
+}
+
+// The rules of node `i`: those of its fields, the target aside if it follows a path, and that its parent is a node, the root aside.
 fn node_rule(
     nodes: &[u32],
     payload: &[u8],
@@ -56,13 +89,16 @@ fn node_rule(
     sums: Sums,
     i: usize,
     node: NodeRecord,
+    follow: bool,
     source: Source,
 ) -> u32
     ensures { λ r. ⌜ ((s : Sections) → NodesFrom s (source .version) (now (nodes .entry)) (now (payload .entry)) (now (strings .entry)) counts
-        → sums ≡ sumsBefore s i → node ≡ nodeIn s i → r ≡ draftNodeRule s i) ⌝ }
+        → i < nodeCount s → sums ≡ sumsBefore s i → node ≡ nodeIn s i → (entries : List ℕ) → follow ≡ follows s entries i
+        → r ≡ pathNodeRule s entries i) ⌝ }
 {
-    let target_tag = source::tag_at(nodes, records::target_of(node), source);
-    if records::fields_rule(node, counts, sums, target_tag, payload, strings) != 0 {
+    let tested = tested_record(node, follow);
+    let target_tag = tested_tag(nodes, node, follow, source);
+    if records::fields_rule(tested, counts, sums, target_tag, payload, strings) != 0 {
         return BAD_DRAFT;
     }
     if i == 0 {
@@ -84,11 +120,12 @@ fn nodes_rule(
     items: &[u32],
     payload: &[u8],
     strings: &[u8],
+    paths: &[u32],
     source: Source,
 ) -> u32
     ensures { λ r. ⌜ (let s = draftOf (source .version) (now (nodes .entry)) (now (children .entry)) (now (named .entry)) (now (definitions .entry))
         (now (items .entry)) (now (payload .entry)) (now (strings .entry)) in
-        r ≡ (firstOf (nodeCount s) (draftNodeRule s) ▸ unless (usedUp s) badDraft)) ⌝ }
+        r ≡ (firstOf (nodeCount s) (pathNodeRule s (now (paths .entry))) ▸ unless (usedUp s) badDraft)) ⌝ }
 {
     let counts = entry_counts(nodes, children, named, definitions, items, payload, source);
     let mut sums = Sums {
@@ -97,13 +134,16 @@ fn nodes_rule(
         payload: 0,
         containers: 0,
     };
+    let mut hint = path_list::first_hint(paths);
     let mut i = 0;
     while i < counts.nodes {
         let node = source::node_at(nodes, i, source);
-        if node_rule(nodes, payload, strings, counts, sums, i, node, source) != 0 {
+        let free = path_list::follows(paths, i, hint, node);
+        if node_rule(nodes, payload, strings, counts, sums, i, node, free, source) != 0 {
             return BAD_DRAFT;
         }
         sums = records::add(sums, node);
+        hint = path_list::next_hint(paths, i, hint);
         i += 1;
     }
     if records::used_up(sums, counts) {
@@ -213,7 +253,7 @@ fn items_rule(items: &[u32], strings: &[u8]) -> u32
     0
 }
 
-// Row 19, or 0.
+// Row 19, or 0; of the nodes that follow a path of the list, the target is not tested.
 pub fn tables_rule(
     nodes: &[u32],
     children: &[u32],
@@ -222,11 +262,12 @@ pub fn tables_rule(
     items: &[u32],
     payload: &[u8],
     strings: &[u8],
+    paths: &[u32],
     source: Source,
 ) -> u32
     ensures { λ r. ⌜ (let s = draftOf (source .version) (now (nodes .entry)) (now (children .entry)) (now (named .entry)) (now (definitions .entry))
         (now (items .entry)) (now (payload .entry)) (now (strings .entry)) in
-        r ≡ tablesRule s) ⌝ }
+        r ≡ pathTablesRule s (now (paths .entry))) ⌝ }
 {
     if !whole_entries(nodes, named, definitions, items, source) {
         return BAD_DRAFT;
@@ -239,6 +280,7 @@ pub fn tables_rule(
         items,
         payload,
         strings,
+        paths,
         source,
     );
     if refused != 0 {

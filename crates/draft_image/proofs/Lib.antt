@@ -4,3 +4,5 @@ pub mod Blocks
 pub mod Lengths
 pub mod Offsets
 pub mod IndexOrder
+pub mod Numbers
+pub mod WorkWords

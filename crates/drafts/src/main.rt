@@ -1,13 +1,15 @@
-// Writes the small examples of FORMAT.md's rows 3, 7 and 19 to 23, and of the drafts at the edges. Standard input holds records of
-// words: ink version, output bytes and work words lent, the lengths of the draft's seven slices; then the slices. A line is printed for
-// each: its place, the number, the length that was written or with 23 is needed, the CRC-32 of the lent output and how many of the lent
-// work words are 0.
+// Resolves and writes the small examples of FORMAT.md's rows 3, 7, 19 to 23, 25 and 26, and of the drafts at the edges. Standard input holds
+// records of words: ink version, output bytes and work words lent, the lengths of the draft's seven slices and of the paths, components
+// and names beside it; then the slices. A line is printed for each: its place; where there are paths, the number of resolving their
+// targets, every node word that has changed, and how many of the lent work words are 0; then, of writing the draft, the number, the
+// length that was written or with 23 is needed, the CRC-32 of the lent output and how many of the lent work words are 0.
 use draft_words::Lengths;
 use draft_words::after;
 use draft_words::first;
 use draft_words::front;
 use draft_words::lengths_of;
 use draft_words::read_tables;
+use draft_words::read_words;
 use image::refusal::NO_ROOM;
 use libc::STDIN_FILENO;
 use libc::STDOUT_FILENO;
@@ -21,10 +23,19 @@ struct Head {
     work: u32,
 }
 
-// Bytes of these, and of the lengths with them.
+// How long the slices of the list of paths are: paths and components in words, names in bytes.
+struct ListLengths {
+    paths: u32,
+    components: u32,
+    names: u32,
+}
+
+// Where the lengths of a draft's slices, those of the list and the draft begin in a record.
 const HEAD_BYTES: usize = 12;
 
-const DRAFT_AT: usize = 40;
+const LIST_AT: usize = 40;
+
+const DRAFT_AT: usize = 52;
 
 // The first three words of a record.
 fn head_of(record: &[u8]) -> Head {
@@ -32,6 +43,15 @@ fn head_of(record: &[u8]) -> Head {
         ink: words::get(record, 0),
         out: words::get(record, 4),
         work: words::get(record, 8),
+    }
+}
+
+fn list_lengths_of(record: &[u8]) -> ListLengths {
+    let lengths = after(record, LIST_AT);
+    ListLengths {
+        paths: words::get(lengths, 0),
+        components: words::get(lengths, 4),
+        names: words::get(lengths, 8),
     }
 }
 
@@ -44,10 +64,11 @@ fn words_in(lengths: Lengths) -> usize
 }
 
 // How many bytes a record has.
-fn size_of(lengths: Lengths) -> usize
-    ensures { λ r. ⌜ r ≤ 100000000000 ⌝ }
+fn size_of(lengths: Lengths, list: ListLengths) -> usize
+    ensures { λ r. ⌜ r ≤ 200000000000 ⌝ }
 {
-    DRAFT_AT + 4 * words_in(lengths) + lengths.payload as usize + lengths.strings as usize
+    let draft = 4 * words_in(lengths) + lengths.payload as usize + lengths.strings as usize;
+    DRAFT_AT + draft + 4 * (list.paths as usize + list.components as usize) + list.names as usize
 }
 
 // 1 for a word that is 0.
@@ -93,6 +114,73 @@ fn print_answer(answer: Encoded) {
             print_number(0);
         }
     }
+}
+
+// The place of a word and its new value.
+fn print_change(place: usize, word: u32) {
+    print_number(place as u64);
+    io::write_all(STDOUT_FILENO, b"=");
+    io::print_decimal(STDOUT_FILENO, word as u64);
+}
+
+// Every word that has changed.
+fn print_changes(before: &[u32], nodes: &[u32]) {
+    let mut i = 0;
+    while i < nodes.len() {
+        if i < before.len() {
+            if before[i] != nodes[i] {
+                print_change(i, nodes[i]);
+            }
+        }
+        i += 1;
+    }
+}
+
+// The number of resolving targets, the words that have changed, and how many of the work words are 0.
+fn print_resolved(number: u32, before: &[u32], nodes: &[u32], work: &[u32]) {
+    print_number(number as u64);
+    print_changes(before, nodes);
+    print_number(zeros(work));
+    io::write_all(STDOUT_FILENO, b",");
+}
+
+// Resolves the targets of a draft by a list of paths, and prints what came of it.
+fn resolve_lent(
+    head: Head,
+    before: &[u32],
+    nodes: &mut [u32],
+    children: &[u32],
+    named: &[u32],
+    definitions: &[u32],
+    items: &[u32],
+    payload: &[u8],
+    strings: &[u8],
+    paths: &[u32],
+    components: &[u32],
+    names: &[u8],
+) {
+    let mut words = [7u32; 512];
+    let n = head.work as usize;
+    if 512 < n {
+        return print_line(b" lends too many work words");
+    }
+    let lent: &mut [u32] = &mut words;
+    let work = &mut lent[..n];
+    let number = static_targets::resolve_static_targets(
+        head.ink,
+        nodes,
+        children,
+        named,
+        definitions,
+        items,
+        payload,
+        strings,
+        paths,
+        components,
+        names,
+        work,
+    );
+    print_resolved(number, before, nodes, work);
 }
 
 // Writes a draft into what is lent, and prints what came of it.
@@ -163,9 +251,49 @@ fn write_draft(
     );
 }
 
-// Writes the draft of a record, of which each slice has at most 64 words.
+// Resolves the draft of a record by the list behind it, if there is one.
+fn resolve_record(
+    record: &[u8],
+    nodes: &mut [u32],
+    children: &[u32],
+    named: &[u32],
+    definitions: &[u32],
+    items: &[u32],
+    payload: &[u8],
+    strings: &[u8],
+    list: &[u8],
+) {
+    let lengths = list_lengths_of(record);
+    if lengths.paths == 0 {
+        return;
+    }
+    let mut before = [0u32; 128];
+    read_words(after(record, DRAFT_AT), &mut before);
+    let mut paths = [0u32; 64];
+    read_words(list, &mut paths);
+    let from_components = after(list, 4 * lengths.paths as usize);
+    let mut components = [0u32; 64];
+    read_words(from_components, &mut components);
+    let from_names = after(from_components, 4 * lengths.components as usize);
+    resolve_lent(
+        head_of(record),
+        &before,
+        nodes,
+        children,
+        named,
+        definitions,
+        items,
+        payload,
+        strings,
+        first(&paths, lengths.paths),
+        first(&components, lengths.components),
+        front(from_names, lengths.names),
+    );
+}
+
+// Resolves and writes the draft of a record, of which the nodes have at most 128 words and each other slice at most 64.
 fn run_record(record: &[u8], lengths: Lengths) {
-    let mut nodes = [0u32; 64];
+    let mut node_words = [0u32; 128];
     let mut children = [0u32; 64];
     let mut named = [0u32; 64];
     let mut definitions = [0u32; 64];
@@ -173,30 +301,70 @@ fn run_record(record: &[u8], lengths: Lengths) {
     let from_payload = read_tables(
         after(record, DRAFT_AT),
         lengths,
-        &mut nodes,
+        &mut node_words,
         &mut children,
         &mut named,
         &mut definitions,
         &mut items,
     );
-    write_draft(
-        head_of(record),
-        first(&nodes, lengths.nodes),
+    let n = lengths.nodes as usize;
+    if 128 < n {
+        return print_line(b" has too many node words\n");
+    }
+    let read: &mut [u32] = &mut node_words;
+    let nodes = &mut read[..n];
+    run_slices(
+        record,
+        nodes,
         first(&children, lengths.children),
         first(&named, lengths.named),
         first(&definitions, lengths.definitions),
         first(&items, lengths.items),
         front(from_payload, lengths.payload),
-        front(
-            after(from_payload, lengths.payload as usize),
-            lengths.strings,
-        ),
+        after(from_payload, lengths.payload as usize),
+        lengths.strings,
+    );
+}
+
+// The same of its slices; so many bytes are the strings, and the list follows them.
+fn run_slices(
+    record: &[u8],
+    nodes: &mut [u32],
+    children: &[u32],
+    named: &[u32],
+    definitions: &[u32],
+    items: &[u32],
+    payload: &[u8],
+    behind: &[u8],
+    length: u32,
+) {
+    let strings = front(behind, length);
+    resolve_record(
+        record,
+        nodes,
+        children,
+        named,
+        definitions,
+        items,
+        payload,
+        strings,
+        after(behind, length as usize),
+    );
+    write_draft(
+        head_of(record),
+        nodes,
+        children,
+        named,
+        definitions,
+        items,
+        payload,
+        strings,
     );
 }
 
 // The record that bytes begin with; answers its size, or 0 where there is none.
 fn run_one(records: &[u8], place: u32) -> usize
-    ensures { λ r. ⌜ r ≤ 100000000000 ⌝ }
+    ensures { λ r. ⌜ r ≤ 200000000000 ⌝ }
 {
     let lengths = lengths_of(after(records, HEAD_BYTES));
     if lengths.nodes == 0 {
@@ -205,7 +373,7 @@ fn run_one(records: &[u8], place: u32) -> usize
     io::print_decimal(STDOUT_FILENO, place as u64);
     io::write_all(STDOUT_FILENO, b":");
     run_record(records, lengths);
-    size_of(lengths)
+    size_of(lengths, list_lengths_of(records))
 }
 
 // Every record, up to 100.

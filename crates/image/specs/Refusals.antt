@@ -96,3 +96,11 @@ noRoom = 23
 -- fewer words are lent than a slot for each number takes
 abbrev pub tooFewSlots : ℕ
 tooFewSlots = 24
+
+-- no node is at the path of a node of the draft
+abbrev pub noTarget : ℕ
+noTarget = 25
+
+-- the node at the path is no container where one is due
+abbrev pub noContainer : ℕ
+noContainer = 26

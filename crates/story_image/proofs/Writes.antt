@@ -18,7 +18,7 @@ use Rattle.draft_image.specs.Encode.{imageFor, encodeRule, outAfter, untouched,
 use Rattle.writer.specs.declared.Encoded.{Encoded}
 use Rattle.writer.specs.declared.Encoded.the-variants.{Written, Short, Refused}
 use Rattle.writer.specs.Answer.{encodedOf, ofEncoded}
-use Rattle.writer.proofs.Numbers.{tables-leave}
+use Rattle.draft_image.proofs.Numbers.{tables-leave}
 use Rattle.writer.proofs.AnswerByRule.{number-by, written-by, short-by, refused-by}
 use Rattle.writer.proofs.Answers.{ink-wrong, tables-wrong, words-few}
 use Rattle.story_image.specs.Writing.{wordsWithLength, lengthAfter}

@@ -5,6 +5,7 @@ pub mod page; // page.rt: a page of nodes, the view of a slot's words
 pub mod children; // children.rt: ordered and named children
 pub mod lists; // lists.rt: list values, definitions, items
 pub mod walk; // walk.rt: walks along a path
+pub mod resolve; // resolve.rt: targets of a draft found from paths
 pub mod write; // write.rt: writing an image
 pub mod needed; // needed.rt: how many words calls need
 pub mod spelling; // spelling.rt: texts of commands and operators

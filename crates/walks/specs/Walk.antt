@@ -18,12 +18,24 @@ pub data Component : Type 0 where
   Name : List ℕ → Component
   Broken : Component
 
--- a component is lent as three words: its kind (0 parent, 1 index, 2 name), then the index, or offset and length of the name
--- in a lent byte slice
+-- words a component, and its kinds
+abbrev pub componentWords : ℕ
+componentWords = 3
+
+abbrev pub parentKind : ℕ
+parentKind = 0
+
+abbrev pub indexKind : ℕ
+indexKind = 1
+
+abbrev pub nameKind : ℕ
+nameKind = 2
+
+-- a component is lent as three words: its kind, then the index, or offset and length of the name in a lent byte slice
 unfoldable pub component : List ℕ → ℕ → ℕ → ℕ → Component
 component bytes kind a b =
-    cond (eqb kind 0) Parent
-    (cond (eqb kind 1) (Index a) (cond (eqb kind 2 && leb (a + b) (length bytes)) (Name (partAt bytes a b)) Broken))
+    cond (eqb kind parentKind) Parent
+    (cond (eqb kind indexKind) (Index a) (cond (eqb kind nameKind && leb (a + b) (length bytes)) (Name (partAt bytes a b)) Broken))
 
 unfoldable pub components : List ℕ → List ℕ → List Component
 components bytes [] = []

@@ -13,13 +13,13 @@ use views::Found;
 use views::entries::RecordFound;
 
 // Words a component, and the kinds of components.
-const COMPONENT_WORDS: usize = 3;
+pub const COMPONENT_WORDS: usize = 3;
 
-const PARENT: u32 = 0;
+pub const PARENT: u32 = 0;
 
-const INDEX: u32 = 1;
+pub const INDEX: u32 = 1;
 
-const NAME: u32 = 2;
+pub const NAME: u32 = 2;
 
 // The node in the parent word; a step up from the root finds nothing.
 fn parent_of(bytes: &[u8], view: ImageView, id: u32) -> Found

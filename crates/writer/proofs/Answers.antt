@@ -19,7 +19,7 @@ use Rattle.write_text_uses.specs.Uses.{storedBytes}
 use Rattle.write_image.proofs.SectionLengths.{length-is}
 use Rattle.write_image.proofs.Premises.{uses-fewer}
 use Rattle.writer.specs.Answer.{fitsOutput}
-use Rattle.writer.proofs.Numbers.{reach-clears, shape-clears, paths-clear, room-clears, both-clear, reach-below, shape-below, paths-below, room-left}
+use Rattle.draft_image.proofs.Numbers.{reach-clears, shape-clears, paths-clear, room-clears, both-clear, reach-below, shape-below, paths-below, room-left}
 
 -- the tests of 23 while the image is planned: a word can count the texts in use, and say how long the stored ones are
 abbrev lengthsRule : Sections → ℕ

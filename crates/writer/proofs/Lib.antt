@@ -1,9 +1,7 @@
-pub mod Numbers
 pub mod AnswerByRule
 pub mod Answers
 pub mod PlanToImage
 pub mod Outcomes
 pub mod ImageOutput
 pub mod PlannedImage
-pub mod WorkWords
 pub mod Promises

@@ -25,7 +25,7 @@ use Rattle.writer.specs.declared.Encoded.the-variants.{Written, Short, R
 use Rattle.writer.specs.Answer.{encodedOf, fitsOutput, EncodeAnswered, WrittenWith}
 use Rattle.writer.proofs.Answers.{ink-wrong, tables-wrong, words-few, cleared, plan-wrong, plan-long, room-decides}
 use Rattle.writer.proofs.AnswerByRule.{by-zero, by-room, by-refusal}
-use Rattle.writer.proofs.Numbers.{tables-leave}
+use Rattle.draft_image.proofs.Numbers.{tables-leave}
 
 -- ---- the size of the image
 
@@ -139,6 +139,13 @@ pub record Encodes (ink : ℕ) (s : Sections) (out₀ work₀ out work : List �
   pub answer : a ≡ encodedOf ink s (length work₀) (length out₀)
   pub output : out ≡ outAfter (encodeRule ink s (length work₀) (length out₀)) (imageFor ink s) out₀
   pub words : work ≡ encodeWorkAfter (writeWords s) (encodeRule ink s (length work₀) (length out₀)) work₀
+
+-- the three clauses
+pub ended : (ink : ℕ) (s : Sections) (out₀ work₀ out work : List ℕ) (a : Encoded) → Encodes ink s out₀ work₀ out work a
+    → (a ≡ encodedOf ink s (length work₀) (length out₀))
+    × ((out ≡ outAfter (encodeRule ink s (length work₀) (length out₀)) (imageFor ink s) out₀)
+    × (work ≡ encodeWorkAfter (writeWords s) (encodeRule ink s (length work₀) (length out₀)) work₀))
+ended ink s out₀ work₀ out work a x = (x .answer, (x .output, x .words))
 
 module _ (ink : ℕ) (s : Sections) (out₀ work₀ : List ℕ) where
   abbrev rule : ℕ

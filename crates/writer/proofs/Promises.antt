@@ -29,7 +29,7 @@ use Rattle.writer.specs.declared.Encoded.{Encoded}
 use Rattle.writer.specs.declared.Encoded.the-variants.{Written, Short, Refused}
 use Rattle.writer.specs.Answer.{encodedOf, ofEncoded, fitsOutput}
 use Rattle.writer.specs.Promised.{Promised, EncodedKeeps, EncodedExactly, ShortTells}
-use Rattle.writer.proofs.Numbers.{draft-below, room-left}
+use Rattle.draft_image.proofs.Numbers.{draft-below, room-left}
 use Rattle.writer.proofs.Answers.{no-room}
 use Rattle.writer.proofs.AnswerByRule.{by-zero, by-room, by-refusal, number-by, written-by, short-by, refused-by}
 

@@ -4,6 +4,7 @@ use borrow.Author.Needs.{needs}
 use native.Mathlib.Omega.{arith}
 use Prim.Native.Nat.{_-_}
 use mathlib.Core.Path.{_≡_, refl}
+use Rattle.words.specs.Words.{wordsOf}
 use Rattle.lookups.proofs.Lookups.{Halved, halved-start, halved-above, halved-below, halved-here, halved-end}
 use Rattle.list_items.proofs.Search.{inside-range, one-less, Sought, sought-start, sought-end, sought-next, sought-found}
 use Rattle.list_items.proofs.last_item.Statement.{statement}
@@ -11,7 +12,7 @@ use Rattle.list_items.proofs.last_item.Tie as tie
 
 abbrev Inv-loop : tie.InvT-loop
 Inv-loop definitions items strings first count name answer₀ searched left d from lo₀ hi₀ answer lo hi =
-    (answer ≡ answer₀) × Halved items strings from hi₀ name lo hi
+    (answer ≡ answer₀) × Halved (wordsOf items) strings from hi₀ name lo hi
 
 abbrev μ-loop : tie.MeasureT-loop
 μ-loop definitions items strings first count name answer₀ searched left d from lo₀ hi₀ answer lo hi =

@@ -1,12 +1,13 @@
 -- `lookups::find` meets its contract. The loop's invariant: the range lo to hi is all that is left to search.
 use borrow.Author.Needs.{needs}
 use Prim.Native.Nat.{_-_}
+use Rattle.words.specs.Words.{wordsOf}
 use Rattle.lookups.proofs.Lookups.{Halved, halved-start, halved-above, halved-below, halved-here, halved-end}
 use Rattle.lookups.proofs.find.Statement.{statement}
 use Rattle.lookups.proofs.find.Tie as tie
 
 abbrev Inv-loop : tie.InvT-loop
-Inv-loop part strings from count name lo₀ hi₀ lo hi = Halved part strings from count name lo hi
+Inv-loop part strings from count name lo₀ hi₀ lo hi = Halved (wordsOf part) strings from count name lo hi
 
 abbrev μ-loop : tie.MeasureT-loop
 μ-loop part strings from count name lo₀ hi₀ lo hi = hi - lo

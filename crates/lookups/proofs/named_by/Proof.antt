@@ -1,5 +1,6 @@
 -- `lookups::named_by` meets its contract.
 use native.Mathlib.Omega.{arith}
+use Rattle.image.proofs.Parts.{text-entry-count}
 use Rattle.lookups.proofs.Lookups.{named-outside, named-nowhere, named-at, named-place}
 use borrow.Author.Needs.{needs}
 use Rattle.lookups.proofs.named_by.Statement.{statement}
@@ -15,7 +16,7 @@ add-if1 : tie.Need-add-if1
 add-if1 c = search needs
 
 returns : tie.Need-returns
-returns c = named-outside _ _ _ _ _ (c .if1 .taken)
+returns c = named-outside _ _ _ _ _ _ (text-entry-count _) (c .if1 .taken)
 
 find-requires : tie.Need-find-requires
 find-requires c κs = search needs
@@ -27,22 +28,22 @@ enum-known-j : tie.Need-enum-known-j
 enum-known-j c = search needs
 
 add-part-word : tie.Need-add-part-word
-add-part-word c = omega (arith, named-place _ _ _ _ _ (c .before .before .before .find .result) (c .before .before .before .find .ensures) _ (c .before .j .given .1))
+add-part-word c = omega (arith, named-place _ _ _ _ _ _ (text-entry-count _) (c .before .before .before .find .result) (c .before .before .before .find .ensures) _ (c .before .j .given .1))
 
 mul-part-word : tie.Need-mul-part-word
-mul-part-word c = omega (arith, named-place _ _ _ _ _ (c .before .before .before .find .result) (c .before .before .before .find .ensures) _ (c .before .j .given .1))
+mul-part-word c = omega (arith, named-place _ _ _ _ _ _ (text-entry-count _) (c .before .before .before .find .result) (c .before .before .before .find .ensures) _ (c .before .j .given .1))
 
 add-part-word-2 : tie.Need-add-part-word-2
-add-part-word-2 c = omega (arith, named-place _ _ _ _ _ (c .before .before .before .find .result) (c .before .before .before .find .ensures) _ (c .before .j .given .1))
+add-part-word-2 c = omega (arith, named-place _ _ _ _ _ _ (text-entry-count _) (c .before .before .before .find .result) (c .before .before .before .find .ensures) _ (c .before .j .given .1))
 
 part-word-requires : tie.Need-part-word-requires
-part-word-requires c κs = omega (arith, named-place _ _ _ _ _ (c .before .before .before .find .result) (c .before .before .before .find .ensures) _ (c .before .j .given .1))
+part-word-requires c κs = omega (arith, named-place _ _ _ _ _ _ (text-entry-count _) (c .before .before .before .find .result) (c .before .before .before .find .ensures) _ (c .before .j .given .1))
 
 returns-2 : tie.Need-returns-2
-returns-2 c = named-nowhere _ _ _ _ _ (c .before .before .find .result) (c .before .before .find .ensures) (c .before .before .before .if1 .left) (c .enum-told .given .1)
+returns-2 c = named-nowhere _ _ _ _ _ _ (text-entry-count _) (c .before .before .find .result) (c .before .before .find .ensures) (c .before .before .before .if1 .left) (c .enum-told .given .1)
 
 returns-3 : tie.Need-returns-3
-returns-3 c = named-at _ _ _ _ _ (c .before .before .before .before .find .result) (c .before .before .before .before .find .ensures) (c .before .before .before .before .before .if1 .left) _ (c .before .before .j .given .1) _ (c .part-word .ensures)
+returns-3 c = named-at _ _ _ _ _ _ (text-entry-count _) (c .before .before .before .before .find .result) (c .before .before .before .before .find .ensures) (c .before .before .before .before .before .if1 .left) _ (c .before .before .j .given .1) _ (c .part-word .ensures)
 
 pub named-by-spec : {M : Type 1} → statement M
 named-by-spec =

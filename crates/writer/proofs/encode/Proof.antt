@@ -4,8 +4,8 @@ use borrow.Author.Tests.{not-true, not-false}
 use Rattle.image.specs.Header.{version}
 use Rattle.draft.specs.Source.{draftOf}
 use Rattle.draft.specs.Draft.{writeWords}
-use Rattle.writer.proofs.Outcomes.{encode-ink, encode-tables, encode-words, encode-written}
-use Rattle.writer.proofs.WorkWords.{ended, few-words, no-rule, lent, lent-fits, lent-long, lent-needed, clear-fits, given-back}
+use Rattle.writer.proofs.Outcomes.{ended, encode-ink, encode-tables, encode-words, encode-written}
+use Rattle.draft_image.proofs.WorkWords.{few-words, no-rule, lent, lent-fits, lent-long, lent-needed, clear-fits, given-back}
 use borrow.Author.Needs.{needs}
 use Rattle.writer.proofs.encode.Statement.{statement}
 use Rattle.writer.proofs.encode.Tie as tie

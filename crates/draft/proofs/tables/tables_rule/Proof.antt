@@ -8,7 +8,7 @@ whole-entries-requires : tie.Need-whole-entries-requires
 whole-entries-requires c κs = search needs
 
 returns : tie.Need-returns
-returns c = broken-entries _ _ _ _ _ _ _ _ _ (c .before .whole-entries .ensures) (c .if1 .taken)
+returns c = broken-entries _ _ _ _ _ _ _ _ _ _ (c .before .whole-entries .ensures) (c .if1 .taken)
 
 nodes-rule-requires : tie.Need-nodes-rule-requires
 nodes-rule-requires c κs = search needs
@@ -16,7 +16,7 @@ nodes-rule-requires c κs = search needs
 returns-2 : tie.Need-returns-2
 returns-2 c =
     let whole = c .before .before .before in
-    nodes-refused _ _ _ _ _ _ _ _ _ (whole .whole-entries .ensures) (c .before .before .if1 .left) _ (c .before .nodes-rule .ensures) (c .if2 .taken)
+    nodes-refused _ _ _ _ _ _ _ _ _ _ (whole .whole-entries .ensures) (c .before .before .if1 .left) _ (c .before .nodes-rule .ensures) (c .if2 .taken)
 
 children-rule-requires : tie.Need-children-rule-requires
 children-rule-requires c κs = search needs
@@ -25,7 +25,7 @@ returns-3 : tie.Need-returns-3
 returns-3 c =
     let nodes = c .before .before .before in
     let whole = c .before .before .before .before .before in
-    children-refused _ _ _ _ _ _ _ _ _ (whole .whole-entries .ensures) (c .before .before .before .before .if1 .left) _ (nodes .nodes-rule .ensures)
+    children-refused _ _ _ _ _ _ _ _ _ _ (whole .whole-entries .ensures) (c .before .before .before .before .if1 .left) _ (nodes .nodes-rule .ensures)
     (c .before .before .if2 .left) _ (c .before .children-rule .ensures) (c .if3 .taken)
 
 named-rule-requires : tie.Need-named-rule-requires
@@ -36,7 +36,7 @@ returns-4 c =
     let nodes = c .before .before .before .before .before in
     let children = c .before .before .before in
     let whole = c .before .before .before .before .before .before .before in
-    named-refused _ _ _ _ _ _ _ _ _ (whole .whole-entries .ensures) (c .before .before .before .before .before .before .if1 .left) _ (nodes .nodes-rule .ensures)
+    named-refused _ _ _ _ _ _ _ _ _ _ (whole .whole-entries .ensures) (c .before .before .before .before .before .before .if1 .left) _ (nodes .nodes-rule .ensures)
     (c .before .before .before .before .if2 .left) _ (children .children-rule .ensures)
     (c .before .before .if3 .left) _ (c .before .named-rule .ensures) (c .if4 .taken)
 
@@ -49,7 +49,7 @@ returns-5 c =
     let children = c .before .before .before .before .before in
     let named = c .before .before .before in
     let whole = c .before .before .before .before .before .before .before .before .before in
-    definitions-refused _ _ _ _ _ _ _ _ _ (whole .whole-entries .ensures) (c .before .before .before .before .before .before .before .before .if1 .left) _ (nodes .nodes-rule .ensures)
+    definitions-refused _ _ _ _ _ _ _ _ _ _ (whole .whole-entries .ensures) (c .before .before .before .before .before .before .before .before .if1 .left) _ (nodes .nodes-rule .ensures)
     (c .before .before .before .before .before .before .if2 .left) _ (children .children-rule .ensures)
     (c .before .before .before .before .if3 .left) _ (named .named-rule .ensures)
     (c .before .before .if4 .left) _ (c .before .definitions-rule .ensures) (c .if5 .taken)
@@ -64,7 +64,7 @@ returns-6 c =
     let named = c .before .before .before .before in
     let definitions = c .before .before in
     let whole = c .before .before .before .before .before .before .before .before .before .before in
-    items-decide _ _ _ _ _ _ _ _ _ (whole .whole-entries .ensures) (c .before .before .before .before .before .before .before .before .before .if1 .left) _ (nodes .nodes-rule .ensures)
+    items-decide _ _ _ _ _ _ _ _ _ _ (whole .whole-entries .ensures) (c .before .before .before .before .before .before .before .before .before .if1 .left) _ (nodes .nodes-rule .ensures)
     (c .before .before .before .before .before .before .before .if2 .left) _ (children .children-rule .ensures)
     (c .before .before .before .before .before .if3 .left) _ (named .named-rule .ensures)
     (c .before .before .before .if4 .left) _ (definitions .definitions-rule .ensures)

@@ -1,5 +1,5 @@
--- The work words lent for writing, and given back cleared.
-use Prim.Native.Nat.{ℕ, _+_, _≤_, _<_}
+-- The work words lent for a call on a draft, and given back cleared.
+use Prim.Native.Nat.{ℕ, _≤_, _<_}
 use mathlib.Core.Path.{_≡_, refl, sym, ap, _∙_}
 use mathlib.Core.List.{List, _++_}
 use mathlib.Core.Bool.{Bool, true, false, cond}
@@ -8,23 +8,10 @@ use lib.ListN.{length, take, drop, replicate, length-append}
 use lib.Dec.{leb}
 use borrow.Author.Tests.{leb-false}
 use lib.Seq.{length-take-le, drop-at}
-use Rattle.image.specs.Sections.{Sections}
 use Rattle.draft.specs.declared.Needed.{Needed}
 use Rattle.draft.specs.declared.Needed.the-variants.{Words, TooMany}
 use Rattle.draft.specs.Needs.{neededOf}
-use Rattle.draft.specs.Draft.{writeWords}
 use Rattle.draft.proofs.WorkWords.{needed-words}
-use Rattle.draft_image.specs.Encode.{imageFor, encodeRule, outAfter, encodeWorkAfter}
-use Rattle.writer.specs.declared.Encoded.{Encoded}
-use Rattle.writer.specs.Answer.{encodedOf}
-use Rattle.writer.proofs.Outcomes.{Encodes}
-
--- the three clauses
-pub ended : (ink : ℕ) (s : Sections) (out₀ work₀ out work : List ℕ) (a : Encoded) → Encodes ink s out₀ work₀ out work a
-    → (a ≡ encodedOf ink s (length work₀) (length out₀))
-    × ((out ≡ outAfter (encodeRule ink s (length work₀) (length out₀)) (imageFor ink s) out₀)
-    × (work ≡ encodeWorkAfter (writeWords s) (encodeRule ink s (length work₀) (length out₀)) work₀))
-ended ink s out₀ work₀ out work a x = (x .answer, (x .output, x .words))
 
 -- ---- how many are needed
 

@@ -7,28 +7,28 @@ use Rattle.laws.specs.Refusal.{unless, countsAs, _▸_, firstOf}
 use Rattle.image.specs.Sections.{Sections, nodeCount, childCount, namedCount, definitionCount, itemCount}
 use Rattle.draft.specs.Draft.{draftNodeRule, draftChildRule, draftNamedRule, draftDefinitionRule, draftItemRule, tablesRule, reachRule, relationRule, orderRule, shapeRule, pathRule, pathsRule}
 use Rattle.index.specs.Definitions.{numberOfItems}
 use Rattle.draft_image.specs.Encode.{draftRule, untouched}
 
 -- P holds of 0 and of k
 module _ (P : ℕ → Type 0) (k : ℕ) (none : P 0) (some : P k) where
-  of-test : (t : Bool) → P (unless t k)
+  pub of-test : (t : Bool) → P (unless t k)
   unfolding unless
   of-test true = none
   of-test false = some
 
-  of-count : (r : ℕ) → P (countsAs k r)
+  pub of-count : (r : ℕ) → P (countsAs k r)
   unfolding countsAs
   of-count zero = none
   of-count (suc r) = some
 
 -- P holds of 0
 module _ (P : ℕ → Type 0) where
-  of-both : (a b : ℕ) → P a → P b → P (a ▸ b)
+  pub of-both : (a b : ℕ) → P a → P b → P (a ▸ b)
   unfolding _▸_
   of-both zero b p q = q
   of-both (suc a) b p q = p
 
-  of-first : P 0 → (n : ℕ) (f : ℕ → ℕ) → ((i : ℕ) → P (f i)) → P (firstOf n f)
+  pub of-first : P 0 → (n : ℕ) (f : ℕ → ℕ) → ((i : ℕ) → P (f i)) → P (firstOf n f)
   unfolding firstOf
   of-first z zero f p = z
   of-first z (suc n) f p = of-both (firstOf n f) (f n) (of-first z n f p) (p n)

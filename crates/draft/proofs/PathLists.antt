@@ -1,0 +1,279 @@
+-- The list of paths: whether its nodes rise, the entry of a node, hints, the entries that are right.
+use Prim.Native.Nat.{ℕ, zero, suc, _+_, _-_, _*_, _/_, _%_, _≤_, _<_}
+use mathlib.Core.Path.{_≡_, refl, sym, ap, _∙_}
+use mathlib.Core.Logic.{_⊎_, inl, inr}
+use mathlib.Core.List.{List}
+use mathlib.Core.Bool.{Bool, true, false, cond, not, _&&_, _||_, true≢false}
+use mathlib.Core.Option.{none, some}
+use native.Mathlib.Omega.{arith}
+use native.Mathlib.Nat.{add-zero, not-suc-le-zero}
+use native.Mathlib.Numerals.{add-one}
+use native.Mathlib.Decide.{ℕ-discrete, decLt}
+use lib.Dec.{leb, ltb, eqb}
+use lib.ListN.{length, getD}
+use borrow.Author.Tests.{lt-ltb, le-ltb, le-leb, lt-leb, ltb-true, eq-eqb, ne-eqb, eqb-true, not-true, not-false}
+use Rattle.laws.specs.Counted.{allOf, lastOf}
+use Rattle.laws.proofs.Flags.{both-true, all-next, all-at, all-fails, all-of}
+use Rattle.image.specs.declared.NodeRecord.{NodeRecord}
+use Rattle.image.specs.Sections.{absent, insideAmong}
+use Rattle.draft.specs.declared.path_list.PathEntry.{PathEntry}
+use Rattle.draft.specs.declared.path_list.Hint.{Hint}
+use Rattle.draft.specs.PathList.{pathCount, pathWord, pathOrigin, pathOf, newOrigin, pathRight, listRight, mayFollow}
+use Rattle.draft.specs.PathEntries.{pathEntry, pathsRise, Hinted}
+
+-- ---- entries
+
+-- the first word of an entry
+pub origin-word : (entries : List ℕ) (k : ℕ) → getD entries (k * 4) 0 ≡ pathOrigin entries k
+unfolding pathWord
+origin-word entries k = rw (add-zero (k * 4))
+
+pub entry-words : (entries : List ℕ) (k at : ℕ) → at ≡ k * 4
+    → _≡_ {A = PathEntry} (record { node = getD entries at 0; relative = getD entries (at + 1) 0; first = getD entries (at + 2) 0; count = getD entries (at + 3) 0 }) (pathEntry entries k)
+unfolding pathWord
+entry-words entries k at e =
+    let z : at ≡ k * 4 + 0 = omega arith in
+    cc
+
+-- ---- whether the nodes rise
+
+module _ (entries : List ℕ) where
+  abbrev pub risesAt : ℕ → Bool
+  risesAt k = ltb (pathOrigin entries k) (pathOrigin entries (suc k))
+
+  module _ (k a b : ℕ) (next : a ≡ pathOrigin entries (k + 1)) (this : b ≡ pathOrigin entries k) where
+    same : risesAt k ≡ ltb b a
+    same = rw (this, next, add-one)
+
+    pub rise-stops : (count : ℕ) → count ≡ pathCount entries → k + 1 < count → a ≤ b → false ≡ pathsRise entries
+    unfolding pathsRise
+    rise-stops count e h l = sym (all-fails (pathCount entries - 1) risesAt k (omega arith) (same ∙ le-ltb b a l))
+
+    pub rise-goes : b < a → allOf k risesAt ≡ true → allOf (k + 1) risesAt ≡ true
+    rise-goes l p = all-next k risesAt p (same ∙ lt-ltb b a l)
+
+  pub rise-ends : (count k : ℕ) → count ≡ pathCount entries → k ≤ count - 1 → count ≤ k + 1 → allOf k risesAt ≡ true → true ≡ pathsRise entries
+  unfolding pathsRise
+  rise-ends count k e h l p = let z : k ≡ pathCount entries - 1 = omega arith in sym (rw z at p)
+
+  -- of two entries of a list that rises
+  pub rising-between : pathsRise entries ≡ true → (j k : ℕ) → j < k → k < pathCount entries → pathOrigin entries j < pathOrigin entries k
+  unfolding pathsRise
+  rising-between p j zero h l = absurd (not-suc-le-zero h)
+  rising-between p j (suc k) h l =
+      let step = ltb-true (pathOrigin entries k) (pathOrigin entries (suc k)) (all-at (pathCount entries - 1) risesAt p k (omega arith)) in
+      elim (ℕ-discrete j k) [
+        | yes e ↦ rw e step
+        | no d ↦ let rest = rising-between p j k (omega arith) (omega arith) in omega arith
+      ]
+
+-- ---- the last entry that is of a node
+
+module _ (entries : List ℕ) (i : ℕ) where
+  abbrev pub ofNode : ℕ → Bool
+  ofNode k = eqb (pathOrigin entries k) i
+
+  pub search-starts : (count : ℕ) → count ≡ pathCount entries → pathOf entries i ≡ lastOf count ofNode
+  unfolding pathOf
+  search-starts count e = rw e
+
+  -- the last of those that are left has been read
+  module _ (left k a : ℕ) (up : left ≡ suc k) (read : a ≡ pathOrigin entries k) (rest : pathOf entries i ≡ lastOf left ofNode) where
+    turned : pathOf entries i ≡ cond (ofNode k) (some k) (lastOf k ofNode)
+    turned = rest ∙ rw up (unfold lastOf in refl)
+
+    pub search-finds : a ≡ i → some k ≡ pathOf entries i
+    search-finds e = sym (rw (eq-eqb (pathOrigin entries k) i (sym read ∙ e)) at turned)
+
+    pub search-goes : (a ≡ i → ⊥) → pathOf entries i ≡ lastOf k ofNode
+    search-goes d = rw (ne-eqb (pathOrigin entries k) i (λ e. d (read ∙ e))) at turned
+
+  pub search-ends : (left : ℕ) → left ≤ 0 → pathOf entries i ≡ lastOf left ofNode → none ≡ pathOf entries i
+  search-ends left h rest =
+      let z : left ≡ 0 = omega arith in
+      sym (rest ∙ rw z (unfold lastOf in refl))
+
+  -- where none is, and where one is and none after it
+  last-none : (n : ℕ) → ((k : ℕ) → k < n → ofNode k ≡ false) → lastOf n ofNode ≡ none
+  unfolding lastOf
+  last-none zero h = refl
+  last-none (suc n) h = rw (h n (omega arith)) (last-none n (λ k l. h k (omega arith)))
+
+  last-is : (n d : ℕ) → d < n → ofNode d ≡ true → ((k : ℕ) → d < k → k < n → ofNode k ≡ false) → lastOf n ofNode ≡ some d
+  unfolding lastOf
+  last-is zero d l y h = absurd (not-suc-le-zero l)
+  last-is (suc n) d l y h = by (ℕ-discrete d n) (λ b. last-is n d b y (λ k a c. h k a (omega arith)))
+    where
+      by : Dec (d ≡ n) → (d < n → lastOf n ofNode ≡ some d) → cond (ofNode n) (some n) (lastOf n ofNode) ≡ some d
+      by (yes e) next = rw (ap ofNode (sym e) ∙ y) (ap some (sym e))
+      by (no e) next = rw (h n (omega arith) (omega arith)) (next (omega arith))
+
+-- ---- hints
+
+pub hint-starts : (entries : List ℕ) (b : Bool) → b ≡ pathsRise entries → Hinted entries 0 (record { rises = b; next = 0 })
+hint-starts entries b e =
+    record {
+      order = λ y. sym e ∙ y;
+      below = λ y k l. absurd (not-suc-le-zero l);
+      above = λ y k l h. omega arith;
+    }
+
+-- of a list that does not rise a hint says nothing
+pub hint-silent : (entries : List ℕ) (i : ℕ) (h : Hint) → h .rises ≡ false → Hinted entries i h
+hint-silent entries i h e =
+    record {
+      order = λ y. absurd (true≢false (sym y ∙ e));
+      below = λ y. absurd (true≢false (sym y ∙ e));
+      above = λ y. absurd (true≢false (sym y ∙ e));
+    }
+
+module _ (entries : List ℕ) (i : ℕ) (h : Hint) (t : Hinted entries i h) (y : h .rises ≡ true) (b : Bool)
+    (e : b ≡ (ltb (h .next) (pathCount entries) && eqb (pathOrigin entries (h .next)) i)) where
+  above : (k : ℕ) → h .next < k → k < pathCount entries → i < pathOrigin entries k
+  above k l c =
+      let a = rising-between entries (t .order y) (h .next) k l c in
+      let f = t .above y (h .next) (omega arith) (omega arith) in
+      omega arith
+
+  -- the hinted entry is of the node
+  module _ (q : b ≡ true) where
+    there : (h .next < pathCount entries) × (pathOrigin entries (h .next) ≡ i)
+    there =
+        let both = both-true (ltb (h .next) (pathCount entries)) (eqb (pathOrigin entries (h .next)) i) (sym e ∙ q) in
+        (ltb-true (h .next) (pathCount entries) (both .0), eqb-true (pathOrigin entries (h .next)) i (both .1))
+
+    pub hinted-found : some (h .next) ≡ pathOf entries i
+    unfolding pathOf
+    hinted-found =
+        sym
+        (last-is entries i (pathCount entries) (h .next) (there .0) (eq-eqb (pathOrigin entries (h .next)) i (there .1))
+        (λ k l c. ne-eqb (pathOrigin entries k) i (λ z. let a = above k l c in omega arith)))
+
+    pub hint-room : h .next < pathCount entries
+    hint-room = there .0
+
+    pub hint-steps : Hinted entries (i + 1) (record { rises = true; next = h .next + 1 })
+    hint-steps = record { order = λ z. t .order y; below = λ z k l. lower k l (ℕ-discrete k (h .next)); above = λ z k l c. let a = above k (omega arith) c in omega arith }
+      where
+        lower : (k : ℕ) → k < h .next + 1 → Dec (k ≡ h .next) → pathOrigin entries k < i + 1
+        lower k l (yes d) = let z : pathOrigin entries k ≡ i = ap (pathOrigin entries) d ∙ there .1 in omega arith
+        lower k l (no d) = let z = t .below y k (omega arith) in omega arith
+
+  -- it is of another node, or there is none
+  module _ (q : b ≡ false) where
+    beside : (k : ℕ) → h .next ≤ k → k < pathCount entries → i < pathOrigin entries k
+    beside k l c =
+        elim (ℕ-discrete k (h .next)) [
+          | yes d ↦
+              let f = t .above y k l c in
+              elim (ℕ-discrete (pathOrigin entries k) i) [
+                | yes z ↦
+                    absurd
+                    (true≢false
+                    (sym (rw (lt-ltb (h .next) (pathCount entries) (omega arith), eq-eqb (pathOrigin entries (h .next)) i (ap (pathOrigin entries) (sym d) ∙ z)) refl) ∙ sym e ∙ q))
+                | no z ↦ omega arith
+              ]
+          | no d ↦ above k (omega arith) c
+        ]
+
+    pub hinted-missed : none ≡ pathOf entries i
+    unfolding pathOf
+    hinted-missed = sym (last-none entries i (pathCount entries) (λ k c. ne-eqb (pathOrigin entries k) i (apart k c (decLt k (h .next)))))
+      where
+        apart : (k : ℕ) → k < pathCount entries → Dec (k < h .next) → pathOrigin entries k ≡ i → ⊥
+        apart k c (yes l) z = let a = t .below y k l in omega arith
+        apart k c (no l) z = let a = beside k (omega arith) c in omega arith
+
+    pub hint-stays : Hinted entries (i + 1) h
+    hint-stays = record { order = t .order; below = λ z k l. let a = t .below z k l in omega arith; above = λ z k l c. let a = beside k l c in omega arith }
+
+-- whether an entry is there and is of a node
+module _ (entries : List ℕ) (k i count : ℕ) (counted : count ≡ pathCount entries) where
+  pub of-read : k < count → (a : ℕ) → a ≡ pathOrigin entries k → eqb a i ≡ (ltb k (pathCount entries) && eqb (pathOrigin entries k) i)
+  of-read l a e = rw (lt-ltb k (pathCount entries) (omega arith), e)
+
+  pub of-past : count ≤ k → false ≡ (ltb k (pathCount entries) && eqb (pathOrigin entries k) i)
+  of-past l = rw (le-ltb k (pathCount entries) (omega arith))
+
+-- ---- the nodes that follow a path
+
+or-false : (b : Bool) → b ≡ ((b || false) || false)
+or-false true = refl
+or-false false = refl
+
+module _ (r : NodeRecord) where
+  pub follow-sure : (r .tag ≡ 2) ⊎ ((r .tag ≡ 13) ⊎ (r .tag ≡ 17)) → true ≡ mayFollow r
+  unfolding mayFollow
+  follow-sure (inl e) = rw (eq-eqb (r .tag) 2 e)
+  follow-sure (inr (inl e)) = rw (ne-eqb (r .tag) 2 (λ z. omega arith), ne-eqb (r .tag) 4 (λ z. omega arith), eq-eqb (r .tag) 13 e)
+  follow-sure (inr (inr e)) =
+      rw (ne-eqb (r .tag) 2 (λ z. omega arith), ne-eqb (r .tag) 4 (λ z. omega arith), ne-eqb (r .tag) 13 (λ z. omega arith), eq-eqb (r .tag) 17 e)
+
+  pub follow-divert : r .tag ≡ 4 → (b : Bool) → b ≡ (not (eqb (r .f6 / 2 % 2) 1) && absent (r .f3) (r .f4)) → b ≡ mayFollow r
+  unfolding mayFollow
+  follow-divert e b h =
+      rw (ne-eqb (r .tag) 2 (λ z. omega arith), eq-eqb (r .tag) 4 e, ne-eqb (r .tag) 13 (λ z. omega arith), ne-eqb (r .tag) 17 (λ z. omega arith), ← h) (or-false b)
+
+  pub follow-never : ((r .tag ≡ 2) ⊎ ((r .tag ≡ 13) ⊎ (r .tag ≡ 17)) → ⊥) → (r .tag ≡ 4 → ⊥) → false ≡ mayFollow r
+  unfolding mayFollow
+  follow-never h k =
+      rw (ne-eqb (r .tag) 2 (λ z. h (inl z)), ne-eqb (r .tag) 4 k, ne-eqb (r .tag) 13 (λ z. h (inr (inl z))), ne-eqb (r .tag) 17 (λ z. h (inr (inr z))))
+
+-- ---- the entries that are right
+
+module _ (entries : List ℕ) (k : ℕ) where
+  abbrev pub ofOther : ℕ → Bool
+  ofOther j = not (eqb (pathOrigin entries j) (pathOrigin entries k))
+
+  pub new-rising : pathsRise entries ≡ true → k < pathCount entries → true ≡ newOrigin entries k
+  unfolding newOrigin
+  new-rising p h =
+      sym
+      (all-of k ofOther
+      (λ j l. ap not (ne-eqb (pathOrigin entries j) (pathOrigin entries k) (λ e. let a = rising-between entries p j k l h in omega arith))))
+
+  module _ (j a node : ℕ) (read : a ≡ pathOrigin entries j) (own : node ≡ pathOrigin entries k) where
+    pub new-stops : j < k → a ≡ node → false ≡ newOrigin entries k
+    unfolding newOrigin
+    new-stops l e = sym (all-fails k ofOther j l (ap not (eq-eqb (pathOrigin entries j) (pathOrigin entries k) (sym read ∙ e ∙ own))))
+
+    pub new-goes : (a ≡ node → ⊥) → allOf j ofOther ≡ true → allOf (j + 1) ofOther ≡ true
+    new-goes d p = all-next j ofOther p (ap not (ne-eqb (pathOrigin entries j) (pathOrigin entries k) (λ e. d (read ∙ e ∙ sym own))))
+
+  pub new-ends : (j : ℕ) → j ≤ k → k ≤ j → allOf j ofOther ≡ true → true ≡ newOrigin entries k
+  unfolding newOrigin
+  new-ends j h l p = let z : j ≡ k = omega arith in sym (rw z at p)
+
+module _ (nodes components : ℕ) (entries : List ℕ) (k : ℕ) (entry : PathEntry) (read : entry ≡ pathEntry entries k) (b : Bool) (inside : b ≡ insideAmong nodes (entry .node)) where
+  own : b ≡ insideAmong nodes (pathOrigin entries k)
+  own = inside ∙ (λ j. insideAmong nodes (read j .node))
+
+  pub right-outside : not b ≡ true → false ≡ pathRight nodes components entries k
+  unfolding pathRight
+  right-outside h = rw (sym own ∙ not-true b h)
+
+  module _ (passed : not b ≡ false) (n : Bool) (new : n ≡ newOrigin entries k) where
+    pub right-twice : not n ≡ true → false ≡ pathRight nodes components entries k
+    unfolding pathRight
+    right-twice h = rw (sym own ∙ not-false b passed, sym new ∙ not-true n h)
+
+    pub right-flag : not n ≡ false → 1 < entry .relative → false ≡ pathRight nodes components entries k
+    unfolding pathRight
+    right-flag h l =
+        let z : entry .relative ≡ pathWord entries k 1 = (λ j. read j .relative) in
+        rw (sym own ∙ not-false b passed, sym new ∙ not-false n h, lt-leb (pathWord entries k 1) 1 (omega arith))
+
+    pub right-last : not n ≡ false → entry .relative ≤ 1 → leb (entry .first + entry .count) components ≡ pathRight nodes components entries k
+    unfolding pathRight
+    right-last h l =
+        let z : entry .relative ≡ pathWord entries k 1 = (λ j. read j .relative) in
+        rw (sym own ∙ not-false b passed, sym new ∙ not-false n h, le-leb (pathWord entries k 1) 1 (omega arith)) (λ j. leb (read j .first + read j .count) components)
+
+module _ (nodes components : ℕ) (entries : List ℕ) where
+  pub list-broken : (length entries % 4 ≡ 0 → ⊥) → false ≡ listRight nodes components entries
+  unfolding listRight
+  list-broken h = rw (ne-eqb (length entries % 4) 0 h)
+
+  pub list-whole : length entries % 4 ≡ 0 → (b : Bool) (count : ℕ) → count ≡ pathCount entries → b ≡ allOf count (pathRight nodes components entries) → b ≡ listRight nodes components entries
+  unfolding listRight
+  list-whole h b count e p = rw (eq-eqb (length entries % 4) 0 h, ← e) p

@@ -1,0 +1,4 @@
+pub mod Marks
+pub mod Climbs
+pub mod RightTree
+pub mod Told

@@ -1,0 +1,4 @@
+pub mod Standing
+pub mod Listing
+pub mod Climbing
+pub mod Testing

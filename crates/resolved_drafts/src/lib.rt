@@ -1,0 +1,1 @@
+// What a resolved draft keeps and breaks: laws of the definition, no code.
