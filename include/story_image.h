@@ -3,10 +3,10 @@
  *
  * A slice is lent as pointer and length (a count of elements, not of bytes). It must not be written by others during
  * the call; its pointer is not null, also where the length is 0, and is aligned for its type. Slices that are written
- * (work, view, answer, searched, slots, output, written) overlap nothing else. That is all that is asked of a caller:
- * every function takes any bytes, any words and any numbers, and ends. No function allocates, keeps what it was lent,
- * has state, or changes a byte of an image; calls from several threads at once are fine. The tables of the checksum
- * take about 5 KB of stack in a load and in a write.
+ * (work, view, answer, searched, slots, output, written; the nodes of a draft where targets are set) overlap nothing
+ * else. That is all that is asked of a caller: every function takes any bytes, any words and any numbers, and ends. No
+ * function allocates, keeps what it was lent, has state, or changes a byte of an image; calls from several threads at
+ * once are fine. The tables of the checksum take about 5 KB of stack in a load and in a write.
  *
  * In short:
  *
@@ -80,13 +80,16 @@ enum {
     /* of a query */
     STORY_IMAGE_NOT_FOUND = 18,      /* no such node, child, name, step or item */
     /* of a write */
-    STORY_IMAGE_BAD_DRAFT = 19,      /* a draft's tables are broken */
+    STORY_IMAGE_BAD_DRAFT = 19,      /* a draft's tables are broken, or the list of paths beside it */
     STORY_IMAGE_DRAFT_UNREACHED = 20, /* a draft has a node that is not reached */
     STORY_IMAGE_DRAFT_SHAPE = 21,    /* a draft's root, parents, tree or order of definitions is wrong */
     STORY_IMAGE_DRAFT_PATHS = 22,    /* two containers of a draft have one path, or one has neither name nor place */
     STORY_IMAGE_NO_ROOM = 23,        /* the output is too short, or the image would have more than 4294967295 bytes */
     /* of a page */
-    STORY_IMAGE_TOO_FEW_SLOTS = 24   /* fewer words are lent than a slot for each number takes */
+    STORY_IMAGE_TOO_FEW_SLOTS = 24,  /* fewer words are lent than a slot for each number takes */
+    /* of a path beside a draft */
+    STORY_IMAGE_NO_TARGET = 25,      /* no node is at the path of a node of the draft */
+    STORY_IMAGE_NO_CONTAINER = 26    /* the node at a path is no container where one is due */
 };
 
 /* Kinds of nodes: the tags of an image. There is no 0 and no 15. */
@@ -346,6 +349,15 @@ enum {
     STORY_IMAGE_DRAFT_ITEM_WORDS = 3   /* offset and length of the name, value */
 };
 
+/* Words of a path beside a draft. */
+enum {
+    STORY_IMAGE_PATH_NODE,            /* whose path it is */
+    STORY_IMAGE_PATH_RELATIVE,        /* 0 absolute, 1 relative */
+    STORY_IMAGE_PATH_FIRST,           /* its first component */
+    STORY_IMAGE_PATH_COUNT,           /* how many components it has */
+    STORY_IMAGE_PATH_WORDS
+};
+
 /* How many work words are needed is said at each call; those that are needed are zero on return, or as they were.
  * Words past them, and words of an answer, a count, a view or an output past what is written, always stay as they
  * were. */
@@ -516,6 +528,29 @@ uint32_t story_image_write(uint32_t ink_version, const uint32_t *nodes, size_t n
                            size_t items_length, const uint8_t *payload, size_t payload_length, const uint8_t *strings,
                            size_t strings_length, uint32_t *work, size_t work_length, uint8_t *output,
                            size_t output_length, uint32_t *written, size_t written_length);
+
+/* Sets the targets of a draft that its paths give, in its node words. Nodes, children, named entries, definitions,
+ * items, payload and strings are a draft's, as story_image_write takes them. Paths come beside it: `paths` has
+ * STORY_IMAGE_PATH_WORDS words a path (node, 0 for an absolute path or 1 for a relative one, first component, number
+ * of components), `components` STORY_IMAGE_STEP_WORDS words a component and `names` the bytes of names, as
+ * story_image_resolve_path takes them. A path is followed if its node is a choice, a divert-target value, a reference,
+ * or a divert that is neither external nor by variable; other nodes are passed over. The target word of a node that
+ * follows a path may be any word. 0: each such node has the node at the end of its path as target, and its path text
+ * is absent, but a divert-target value keeps its text; no other word changes. Or a number, and every word of the draft
+ * stays: 3; 19, also for broken entries of `paths`, a node outside or twice, a flag above 1, components outside; 7;
+ * 20; 21; then of the first node in number order that fails 25 (no node at its path) or 26 (no container, where a
+ * choice, a reference, or a divert whose last component is no index needs one). Work words as for story_image_write:
+ * numbers 3, 19 and 7 leave them, else as many as are needed are 0 on return. Paths whose nodes rise take time in
+ * proportion to the draft; for another order each node is looked for in the whole list. */
+uint32_t story_image_resolve_static_targets(uint32_t ink_version, uint32_t *nodes, size_t nodes_length,
+                                            const uint32_t *children, size_t children_length, const uint32_t *named,
+                                            size_t named_length, const uint32_t *definitions,
+                                            size_t definitions_length, const uint32_t *items, size_t items_length,
+                                            const uint8_t *payload, size_t payload_length, const uint8_t *strings,
+                                            size_t strings_length, const uint32_t *paths, size_t paths_length,
+                                            const uint32_t *components, size_t components_length,
+                                            const uint8_t *names, size_t names_length, uint32_t *work,
+                                            size_t work_length);
 
 #ifdef __cplusplus
 }

@@ -1496,6 +1496,231 @@ static void views_of_words(const char *folder) {
     free(image.bytes);
 }
 
+/* ---- targets from paths */
+
+/* A list of paths beside a draft. */
+struct paths {
+    const uint32_t *entries, *components;
+    size_t entry_words, component_words;
+    const char *names;
+};
+
+/* The root with a choice, a divert, a divert-target value and a reference; the named container night with a text and a
+ * container as children. */
+enum { CHOICE_NODE = 1, DIVERT_NODE, VALUE_NODE, REFERENCE_NODE, NIGHT, NIGHT_TEXT, INNER, STORY_NODES };
+
+static const uint32_t story_nodes[STORY_NODES][10] = {
+    {NONE, NONE, STORY_IMAGE_KIND_CONTAINER, NONE, NONE, 0, 0, 4, 0, 1},
+    {0, 0, STORY_IMAGE_KIND_CHOICE, 0, 5, NONE, 9, 0, 0, 0},
+    {0, 1, STORY_IMAGE_KIND_DIVERT, 0, 5, 99, NONE, NONE, 0, 1},
+    {0, 2, STORY_IMAGE_KIND_DIVERT_TARGET, 0, 5, NONE, 0, 0, 0, 0},
+    {0, 3, STORY_IMAGE_KIND_REFERENCE, 5, 4, 0, 5, 99, 0, 0},
+    {0, NONE, STORY_IMAGE_KIND_CONTAINER, 0, 5, 0, 4, 2, 1, 0},
+    {5, 0, STORY_IMAGE_KIND_STRING, 0, 9, 0, 0, 0, 0, 0},
+    {5, 1, STORY_IMAGE_KIND_CONTAINER, NONE, NONE, 0, 6, 0, 1, 0},
+};
+
+static struct draft story_draft(const uint32_t *nodes) {
+    static const uint32_t children[] = {1, 2, 3, 4, 6, 7}, named[] = {0, 5, NIGHT};
+    struct draft draft;
+    memset(&draft, 0, sizeof draft);
+    draft.nodes = nodes;
+    draft.node_words = 10 * STORY_NODES;
+    draft.children = children;
+    draft.child_words = SIZE(children);
+    draft.named = named;
+    draft.named_words = SIZE(named);
+    draft.strings = "nightseen";
+    return draft;
+}
+
+static void *copy_of(const void *from, size_t bytes) {
+    void *copy = room(bytes);
+    if (bytes != 0)
+        memcpy(copy, from, bytes);
+    return copy;
+}
+
+/* Finds targets in the nodes, with so many work words, and sees what the call leaves. */
+static uint32_t find_targets(const struct draft *draft, uint32_t *nodes, const struct paths *paths, uint32_t ink,
+                             size_t words) {
+    static const uint32_t none[1] = {0};
+    uint32_t *work = marked(words), *lent = (uint32_t *)copy_of(nodes, 4 * draft->node_words);
+    uint32_t *entries = (uint32_t *)copy_of(paths->entries, 4 * paths->entry_words);
+    uint32_t *components = (uint32_t *)copy_of(paths->components, 4 * paths->component_words);
+    uint8_t *names = (uint8_t *)copy_of(paths->names, strlen(paths->names));
+    uint32_t number = story_image_resolve_static_targets(
+        ink, lent, draft->node_words, draft->children ? draft->children : none, draft->child_words,
+        draft->named ? draft->named : none, draft->named_words, none, 0, none, 0, (const uint8_t *)"", 0,
+        (const uint8_t *)draft->strings, strlen(draft->strings), entries, paths->entry_words, components,
+        paths->component_words, names, strlen(paths->names), work, words);
+    bool early =
+        number == STORY_IMAGE_BAD_INK_VERSION || number == STORY_IMAGE_BAD_DRAFT || number == STORY_IMAGE_TOO_FEW_WORDS;
+    CHECK(early ? all_are(work, 0, words, MARK)
+                : all_are(work, 0, write_words(draft), 0) && all_are(work, write_words(draft), words, MARK),
+          "targets, %u: the work words", (unsigned)number);
+    CHECK(number == 0 || memcmp(lent, nodes, 4 * draft->node_words) == 0, "%u leaves the draft", (unsigned)number);
+    memcpy(nodes, lent, 4 * draft->node_words);
+    free(names);
+    free(components);
+    free(entries);
+    free(lent);
+    free(work);
+    return number;
+}
+
+/* The same of the story with one path for each of four nodes: relative or not, components from `first` on. */
+static uint32_t find_four(uint32_t (*nodes)[10], uint32_t relative, uint32_t first, uint32_t count) {
+    /* night; up, night, 1; night, 0; up, 4 */
+    static const uint32_t components[] = {2, 0, 5, 0, 7, 7, 2, 0, 5, 1, 1, 7, 2, 0, 5, 1, 0, 7, 0, 7, 7, 1, 4, 7};
+    uint32_t entries[16];
+    for (uint32_t i = 0; i < 4; i++) {
+        entries[4 * i + STORY_IMAGE_PATH_NODE] = i + 1;
+        entries[4 * i + STORY_IMAGE_PATH_RELATIVE] = relative;
+        entries[4 * i + STORY_IMAGE_PATH_FIRST] = first;
+        entries[4 * i + STORY_IMAGE_PATH_COUNT] = count;
+    }
+    const struct paths paths = {entries, components, SIZE(entries), SIZE(components), "night"};
+    const struct draft draft = story_draft(nodes[0]);
+    return find_targets(&draft, nodes[0], &paths, 21, write_words(&draft) + 1);
+}
+
+/* Whether the four nodes have the target and no path text, but the value its text, and no other word is another. */
+static bool have_target(uint32_t (*nodes)[10], uint32_t target) {
+    uint32_t due[STORY_NODES][10];
+    memcpy(due, story_nodes, sizeof due);
+    due[CHOICE_NODE][3] = due[CHOICE_NODE][4] = due[DIVERT_NODE][3] = due[DIVERT_NODE][4] = NONE;
+    due[REFERENCE_NODE][5] = due[REFERENCE_NODE][6] = NONE;
+    due[CHOICE_NODE][5] = due[DIVERT_NODE][5] = due[VALUE_NODE][5] = due[REFERENCE_NODE][7] = target;
+    return memcmp(nodes, due, sizeof due) == 0;
+}
+
+static void targets(void) {
+    static const struct {
+        uint32_t relative, first, count, number, target;
+    } table[] = {
+        {0, 0, 1, 0, NIGHT},    {1, 1, 2, 0, NIGHT}, {1, 1, 3, 0, INNER}, {0, 2, 2, 0, INNER},
+        {0, 0, 0, 0, 0},        {1, 8, 0, 0, 0},     {1, 3, 1, 0, 0},     {0, 4, 2, STORY_IMAGE_NO_CONTAINER, 0},
+        {0, 1, 1, STORY_IMAGE_NO_TARGET, 0},         {1, 6, 2, STORY_IMAGE_NO_TARGET, 0},
+        {0, 4, 5, STORY_IMAGE_BAD_DRAFT, 0},         {2, 0, 1, STORY_IMAGE_BAD_DRAFT, 0},
+        {0, 9, 0, STORY_IMAGE_BAD_DRAFT, 0},         {0, NONE, 2, STORY_IMAGE_BAD_DRAFT, 0},
+    };
+    uint32_t nodes[STORY_NODES][10];
+    for (size_t i = 0; i < sizeof table / sizeof table[0]; i++) {
+        memcpy(nodes, story_nodes, sizeof nodes);
+        uint32_t number = find_four(nodes, table[i].relative, table[i].first, table[i].count);
+        CHECK(number == table[i].number, "targets, row %u: %u", (unsigned)i, (unsigned)number);
+        CHECK(number != 0 || have_target(nodes, table[i].target), "targets, row %u: the nodes", (unsigned)i);
+    }
+    memcpy(nodes, story_nodes, sizeof nodes);
+    CHECK(find_four(nodes, 1, 1, 3) == 0, "targets before writing");
+    const struct draft draft = story_draft(nodes[0]);
+    struct image image = written(&draft, "the resolved draft");
+    struct asked asked = {0, 0, 0, 0, image.bytes, 0};
+    for (uint32_t node = CHOICE_NODE; node <= REFERENCE_NODE; node++) {
+        uint32_t view[STORY_IMAGE_NODE_WORDS];
+        asked.node = node;
+        uint32_t due = INNER;
+        if (node == VALUE_NODE)
+            due = NONE;
+        CHECK(ask(NODE_VIEW, &image, &asked, view) && view[STORY_IMAGE_NODE_TARGET] == due,
+              "the target of node %u in the image", (unsigned)node);
+    }
+    free(image.bytes);
+}
+
+/* Of the story with targets that are right, by a list with names `night`: what is given, and that nodes which follow no
+ * path stay. */
+static uint32_t find_by(uint32_t (*nodes)[10], const uint32_t *entries, size_t words) {
+    static const uint32_t components[] = {2, 0, 5, 1, 0, 7, 2, 0, 6, 2, 0, 4};
+    const struct paths paths = {entries, components, words, SIZE(components), "night"};
+    const struct draft draft = story_draft(nodes[0]);
+    for (uint32_t node = CHOICE_NODE; node <= REFERENCE_NODE; node++)
+        nodes[node][node == REFERENCE_NODE ? 7 : 5] = 0;
+    return find_targets(&draft, nodes[0], &paths, 21, write_words(&draft));
+}
+
+/* One node of the list at a time, other orders, what is passed over, which node decides. */
+static void lists_of_paths(void) {
+    static const uint32_t any_order[] = {3, 0, 0, 2, 1, 0, 0, 1}, twice[] = {1, 0, 0, 1, 2, 0, 0, 1, 1, 0, 0, 1};
+    static const uint32_t outside[] = {1, 0, 0, 1, STORY_NODES, 0, 0, 1}, others[] = {0, 0, 2, 1, 5, 1, 2, 1};
+    static const uint32_t index_end[] = {DIVERT_NODE, 0, 0, 2}, broken[] = {DIVERT_NODE, 0, 2, 1};
+    static const uint32_t shorter[] = {DIVERT_NODE, 0, 3, 1}, last_fails[] = {1, 0, 0, 1, REFERENCE_NODE, 0, 0, 2};
+    static const uint32_t text_first[] = {4, 0, 2, 1, 1, 0, 0, 2}, none_first[] = {1, 0, 2, 1, 4, 0, 0, 2};
+    uint32_t nodes[STORY_NODES][10];
+    memcpy(nodes, story_nodes, sizeof nodes);
+    CHECK(find_by(nodes, any_order, 8) == 0 && nodes[1][5] == NIGHT && nodes[3][5] == NIGHT_TEXT, "any order");
+    CHECK(nodes[1][3] == NONE && nodes[2][3] == 0 && nodes[2][5] == 0, "a node that is not listed stays");
+    CHECK(find_by(nodes, any_order, 7) == STORY_IMAGE_BAD_DRAFT, "words left over in the list");
+    CHECK(find_by(nodes, twice, SIZE(twice)) == STORY_IMAGE_BAD_DRAFT, "a node twice");
+    CHECK(find_by(nodes, outside, SIZE(outside)) == STORY_IMAGE_BAD_DRAFT, "a node outside");
+    CHECK(find_by(nodes, text_first, 8) == STORY_IMAGE_NO_CONTAINER, "node 1 decides: no container");
+    CHECK(find_by(nodes, none_first, 8) == STORY_IMAGE_NO_TARGET, "node 1 decides: no node");
+    CHECK(find_by(nodes, index_end, 4) == 0 && nodes[DIVERT_NODE][5] == NIGHT_TEXT, "a divert that ends in an index");
+    CHECK(find_by(nodes, broken, 4) == STORY_IMAGE_NO_TARGET, "a name outside the names");
+    CHECK(find_by(nodes, shorter, 4) == STORY_IMAGE_NO_TARGET, "the front of a name");
+    CHECK(find_by(nodes, last_fails, 8) == STORY_IMAGE_NO_CONTAINER, "a reference needs a container");
+    uint32_t before[STORY_NODES][10];
+    CHECK(find_by(nodes, broken, 0) == 0, "no paths");
+    memcpy(before, nodes, sizeof before);
+    CHECK(find_by(nodes, others, 8) == 0 && memcmp(before, nodes, sizeof before) == 0, "containers are passed over");
+    nodes[DIVERT_NODE][9] = before[DIVERT_NODE][9] = 2;
+    CHECK(find_by(nodes, broken, 4) == 0 && memcmp(before, nodes, sizeof before) == 0, "so is an external divert");
+    nodes[DIVERT_NODE][9] = 0;
+    nodes[DIVERT_NODE][6] = 0;
+    nodes[DIVERT_NODE][7] = 1;
+    CHECK(find_by(nodes, broken, 4) == 0 && nodes[DIVERT_NODE][5] == 0, "and a divert by variable");
+}
+
+/* A relative path deeper down starts at the parent of its node. */
+static void deeper_target(void) {
+    static const uint32_t divert[] = {NIGHT, 0, STORY_IMAGE_KIND_DIVERT, NONE, NONE, NONE, NONE, NONE, 0, 0};
+    static const uint32_t entry[] = {NIGHT_TEXT, 1, 0, 2};
+    uint32_t nodes[STORY_NODES][10];
+    memcpy(nodes, story_nodes, sizeof nodes);
+    memcpy(nodes[NIGHT_TEXT], divert, sizeof divert);
+    CHECK(find_by(nodes, entry, 4) == 0 && nodes[NIGHT_TEXT][5] == NIGHT_TEXT, "from the parent of the node");
+}
+
+/* Numbers in their order; without paths the writer's number but for 22, whatever word is changed. */
+static void targets_as_written(void) {
+    static const uint32_t list[] = {DIVERT_NODE, 0, 0, 1}, components[] = {3, 0, 0}, words[] = {0, 1, 5, 13, 99, NONE};
+    uint32_t nodes[STORY_NODES][10], length;
+    memcpy(nodes, story_nodes, sizeof nodes);
+    const struct draft draft = story_draft(nodes[0]);
+    const struct paths none = {list, components, 0, 0, ""}, nowhere = {list, components, 4, 3, ""};
+    const struct paths broken = {list, components, 3, 3, ""};
+    const size_t needed = write_words(&draft);
+    uint8_t *output = (uint8_t *)room(2000);
+    memset(output, 0x77, 2000);
+    CHECK(find_four(nodes, 0, 0, 1) == 0, "targets that are right");
+    CHECK(find_targets(&draft, nodes[0], &broken, 22, 0) == STORY_IMAGE_BAD_INK_VERSION, "3 before 19");
+    CHECK(find_targets(&draft, nodes[0], &broken, 21, 0) == STORY_IMAGE_BAD_DRAFT, "19 before 7");
+    CHECK(find_targets(&draft, nodes[0], &nowhere, 21, needed - 1) == STORY_IMAGE_TOO_FEW_WORDS, "7 before 25");
+    CHECK(find_targets(&draft, nodes[0], &nowhere, 18, needed) == STORY_IMAGE_NO_TARGET, "25 with all work words");
+    nodes[CHOICE_NODE][1] = 1;
+    CHECK(find_targets(&draft, nodes[0], &nowhere, 21, needed) == STORY_IMAGE_DRAFT_SHAPE, "21 before 25");
+    nodes[CHOICE_NODE][1] = 0;
+    nodes[DIVERT_NODE][3] = 0;
+    CHECK(find_targets(&draft, nodes[0], &nowhere, 21, needed) == STORY_IMAGE_BAD_DRAFT, "half a path text");
+    nodes[DIVERT_NODE][3] = NONE;
+    nodes[DIVERT_NODE][5] = 99;
+    CHECK(find_targets(&draft, nodes[0], &nowhere, 21, needed) == STORY_IMAGE_NO_TARGET, "the target is not tested");
+    nodes[DIVERT_NODE][9] = 2;
+    CHECK(find_targets(&draft, nodes[0], &nowhere, 21, needed) == STORY_IMAGE_BAD_DRAFT, "that of an external one is");
+    nodes[DIVERT_NODE][5] = 0;
+    for (size_t at = 0; at < 10 * STORY_NODES; at++)
+        for (size_t i = 0; i < SIZE(words); i++) {
+            uint32_t *word = &nodes[at / 10][at % 10], was = *word;
+            *word = words[i];
+            uint32_t due = put(&draft, 21, needed, output, 2000, &length);
+            CHECK(find_targets(&draft, nodes[0], &none, 21, needed) == (due == STORY_IMAGE_DRAFT_PATHS ? 0 : due),
+                  "no paths, word %u is %u", (unsigned)at, (unsigned)words[i]);
+            *word = was;
+        }
+    free(output);
+}
+
 int main(int count, char **arguments) {
     if (count != 2) {
         fprintf(stderr, "library SAMPLES\n");
@@ -1528,6 +1753,10 @@ int main(int count, char **arguments) {
     damaged_pages(folder);
     refused_pages(folder);
     views_of_words(folder);
+    targets();
+    lists_of_paths();
+    deeper_target();
+    targets_as_written();
     printf("%lu passed, %lu failed\n", passed, failed);
     return failed != 0;
 }

@@ -1,9 +1,10 @@
 //! A draft made node by node in lent slices.
 
-use crate::NONE;
 use crate::draft::Draft;
 use crate::names::{CommandType, Op};
 use crate::node::PushPopType;
+use crate::targets::OpenDraft;
+use crate::{NODE_WORDS, NONE};
 use core::fmt;
 
 /// Lent room for a draft. What a draft does not need is left empty.
@@ -24,8 +25,9 @@ pub struct Room<'a> {
     pub strings: &'a mut [u8],
 }
 
-/// What a node of a draft is. Targets are numbers of nodes; those that come later are set by
-/// [`set_target`](DraftBuilder::set_target).
+/// What a node of a draft is. Targets are numbers of nodes. Those that come later are set by
+/// [`set_target`](DraftBuilder::set_target); or they are [`NONE`], and found from the paths by
+/// [`OpenDraft::resolve_static_targets`].
 #[derive(Clone, Copy, Debug, PartialEq)]
 pub enum NodeKind<'a> {
     Container {
@@ -150,10 +152,14 @@ const PLACE: usize = 1;
 const TAG: usize = 2;
 /// Where the fields begin.
 const F: usize = 3;
-const NODE_WORDS: usize = 10;
 
 /// Puts elements behind those in use; nothing changes where they do not fit.
-fn put<T: Copy>(room: &mut [T], used: &mut usize, more: &[T], section: &'static str) -> Result<(), BuildError> {
+pub(crate) fn put<T: Copy>(
+    room: &mut [T],
+    used: &mut usize,
+    more: &[T],
+    section: &'static str,
+) -> Result<(), BuildError> {
     let end = room.get_mut(*used..).and_then(|rest| rest.get_mut(..more.len())).ok_or(BuildError::Full(section))?;
     end.copy_from_slice(more);
     *used += more.len();
@@ -246,6 +252,40 @@ impl<'a> DraftBuilder<'a> {
 
     /// The draft: children and named entries stand in the order of their containers.
     pub fn finish(self) -> Draft<'a> {
+        self.finish_open().into_draft()
+    }
+
+    /// The same draft, to find targets from its path texts before it is written: each text is in the strings, and
+    /// [`OpenDraft::paths`] parses them.
+    ///
+    /// ```
+    /// use story_image::{DraftBuilder, Image, NONE, NodeKind, NodeKindView, Room, load_words};
+    ///
+    /// let room = Room {
+    ///     nodes: &mut [0; 30],
+    ///     children: &mut [0; 1],
+    ///     named: &mut [0; 3],
+    ///     strings: &mut [0; 100],
+    ///     ..Room::default()
+    /// };
+    /// let mut draft = DraftBuilder::new(room)?;
+    /// let choice = NodeKind::ChoicePoint { path: Some(".^.night"), target: NONE, flags: 0 };
+    /// draft.child(DraftBuilder::ROOT, choice)?;
+    /// draft.named_container(DraftBuilder::ROOT, "night")?;
+    /// let mut draft = draft.finish_open();
+    ///
+    /// let (mut words, mut work) = (vec![0; draft.path_words()], vec![0; draft.work_words()]);
+    /// let paths = draft.paths(&mut words)?;
+    /// let draft = draft.resolve_static_targets(21, &paths, &mut work)?;
+    ///
+    /// let mut output = vec![0; draft.image_length(21, &mut work)?];
+    /// let bytes = draft.write(21, &mut work, &mut output)?;
+    /// let image = Image::load(bytes, &mut vec![0; load_words(bytes)])?;
+    /// let night = image.find_named_child(0, "night");
+    /// assert_eq!(image.node_view(1).unwrap().kind, NodeKindView::ChoicePoint { target: night, flags: 0 });
+    /// # Ok::<(), Box<dyn std::error::Error>>(())
+    /// ```
+    pub fn finish_open(self) -> OpenDraft<'a> {
         let Room { nodes, children, named, definitions, items, payload, strings } = self.room;
         let (records, _) = nodes[..self.nodes].as_chunks_mut::<NODE_WORDS>();
         let (mut child_start, mut named_start) = (0, 0);
@@ -263,8 +303,8 @@ impl<'a> DraftBuilder<'a> {
         entries.sort_unstable_by_key(|[offset, length, node]| {
             (records[*node as usize][PARENT], text_at(strings, *offset, *length))
         });
-        Draft {
-            nodes: &nodes[..self.nodes],
+        OpenDraft {
+            nodes: &mut nodes[..self.nodes],
             children: &children[..self.children],
             named: &named[..self.named],
             definitions: &definitions[..self.definitions],

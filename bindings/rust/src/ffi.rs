@@ -278,6 +278,32 @@ unsafe extern "C" {
         written_length: usize,
     ) -> u32;
 
+    pub fn story_image_resolve_static_targets(
+        ink_version: u32,
+        nodes: *mut u32,
+        nodes_length: usize,
+        children: *const u32,
+        children_length: usize,
+        named: *const u32,
+        named_length: usize,
+        definitions: *const u32,
+        definitions_length: usize,
+        items: *const u32,
+        items_length: usize,
+        payload: *const u8,
+        payload_length: usize,
+        strings: *const u8,
+        strings_length: usize,
+        paths: *const u32,
+        paths_length: usize,
+        components: *const u32,
+        components_length: usize,
+        names: *const u8,
+        names_length: usize,
+        work: *mut u32,
+        work_length: usize,
+    ) -> u32;
+
     pub fn story_image_write_words(
         nodes: *const u32,
         nodes_length: usize,

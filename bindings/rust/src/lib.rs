@@ -1,7 +1,8 @@
 //! Story images: loading, reading and writing, over the verified static library.
 //!
 //! - [`Image::load`] tests the whole image; its queries then answer what a player asks, with texts as `&str`.
-//! - [`DraftBuilder`] makes a [`Draft`] node by node, [`Draft::write`] turns it into an image.
+//! - [`DraftBuilder`] makes a [`Draft`] node by node, [`Draft::write`] turns it into an image. A draft with paths in
+//!   place of targets is an [`OpenDraft`]; [`OpenDraft::resolve_static_targets`] finds the targets.
 //! - [`raw`] asks any bytes under any view, with texts by their places; [`ffi`] has the library's functions themselves.
 //!
 //! Every function takes any bytes and ends. Nothing is allocated; work words and output are lent. A [`Refusal`] is a
@@ -20,6 +21,7 @@ mod page;
 mod path;
 pub mod raw;
 mod refusal;
+mod targets;
 mod view;
 
 pub use builder::{BuildError, DraftBuilder, ListEntry, NodeKind, Room};
@@ -29,10 +31,14 @@ pub use lists::{DefinitionView, ListEntryView, ListView};
 pub use names::{CommandType, Op};
 pub use node::{NodeKindOf, NodeViewOf, PushPopType, ValueOf};
 pub use page::{Page, Slot};
-pub use path::Step;
+pub use path::{PathText, Step};
 pub use raw::{ItemSearch, ListItem};
 pub use refusal::Refusal;
+pub use targets::{OpenDraft, Paths};
 pub use view::{Section, View};
 
 /// An absent node, place or text in the words of an image.
 pub const NONE: u32 = u32::MAX;
+
+/// Words of a node of a draft.
+const NODE_WORDS: usize = 10;

@@ -1,5 +1,6 @@
-//! Walks along a path.
+//! Paths as texts, and walks along a path.
 
+use crate::NONE;
 use crate::raw::Queries;
 
 /// A component of a path.
@@ -8,6 +9,55 @@ pub enum Step<'a> {
     Parent,
     Index(u32),
     Name(&'a str),
+}
+
+impl<'a> Step<'a> {
+    /// A part of a path text.
+    pub(crate) fn from_part(part: &'a str) -> Step<'a> {
+        match part.parse::<usize>() {
+            Ok(index) => Step::Index(u32::try_from(index).unwrap_or(NONE)),
+            Err(_) if part == "^" => Step::Parent,
+            Err(_) => Step::Name(part),
+        }
+    }
+}
+
+/// A path as a text, read as the published Rust reads one. The empty text is absolute and has no components: the root.
+/// A leading dot makes a path relative. Between dots then stands `^` for the parent; what `usize` parses (`7`, `007`
+/// and `+7` alike) for an index; or a name, an empty one too. An index above 4294967294 becomes [`NONE`]: no container
+/// has as many children, so it stays an index at which nothing is found.
+///
+/// ```
+/// use story_image::{PathText, Step};
+///
+/// let path = PathText::new(".^.^.night.3");
+/// assert!(path.relative);
+/// assert!(path.steps().eq([Step::Parent, Step::Parent, Step::Name("night"), Step::Index(3)]));
+/// ```
+#[derive(Clone, Copy, Debug, PartialEq, Eq)]
+pub struct PathText<'a> {
+    pub relative: bool,
+    /// What has the parts; nothing where there are none.
+    rest: Option<&'a str>,
+}
+
+impl<'a> PathText<'a> {
+    pub fn new(text: &'a str) -> Self {
+        match text.strip_prefix('.') {
+            Some(rest) => PathText { relative: true, rest: Some(rest) },
+            None => PathText { relative: false, rest: Some(text).filter(|text| !text.is_empty()) },
+        }
+    }
+
+    /// Its components.
+    pub fn steps(&self) -> impl Iterator<Item = Step<'a>> + use<'a> {
+        self.parts().map(Step::from_part)
+    }
+
+    /// The texts between the dots.
+    pub(crate) fn parts(&self) -> impl Iterator<Item = &'a str> + use<'a> {
+        self.rest.into_iter().flat_map(|rest| rest.split('.'))
+    }
 }
 
 /// Components and bytes of names that one call is handed.

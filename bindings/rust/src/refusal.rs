@@ -45,12 +45,14 @@ refusals! {
     16 BAD_INDEX "the path index is out of order, or a text does not fit its container"
     17 BAD_DEFINITION "definitions or items are out of order, an item's text is bad, or items are left over"
     18 NOT_FOUND "a query finds nothing: no such node, child, name, step or item"
-    19 BAD_DRAFT "a draft's tables are broken"
+    19 BAD_DRAFT "a draft's tables are broken, or the list of paths beside it"
     20 DRAFT_UNREACHED "a draft has a node that is not reached"
     21 DRAFT_SHAPE "a draft's root, parents, tree or order of definitions is wrong"
     22 DRAFT_PATHS "two containers of a draft have one path, or one has neither name nor place"
     23 NO_ROOM "the output is too short, or the image would have more than 4294967295 bytes"
     24 TOO_FEW_SLOTS "fewer words are lent than a slot for each number takes: twelve"
+    25 NO_TARGET "no node is at the path of a node of the draft"
+    26 NO_CONTAINER "the node at a path is no container where one is due"
 }
 
 impl Refusal {

@@ -87,10 +87,10 @@ fn short_view() {
 /// The words are those of README's table, FORMAT has as many rows, and the header has the same names.
 #[test]
 fn words_of_numbers() {
-    assert_eq!((Refusal(0).words(), Refusal(25).words()), ("", ""));
+    assert_eq!((Refusal(0).words(), Refusal(27).words()), ("", ""));
     // rows before it number commands and operators
     let table = FORMAT.split("\n## Numbers\n").nth(1).unwrap();
-    for number in 1..=24 {
+    for number in 1..=26 {
         let words = Refusal(number).words();
         assert!(README.contains(&format!("| {number} | {} |\n", words.replace("BLINKIMG", "`BLINKIMG`"))), "{words}");
         assert!(table.contains(&format!("\n| {number} | ")), "FORMAT has no row {number}");
@@ -103,6 +103,8 @@ fn words_of_numbers() {
         ("DRAFT_SHAPE", Refusal::DRAFT_SHAPE),
         ("NO_ROOM", Refusal::NO_ROOM),
         ("TOO_FEW_SLOTS", Refusal::TOO_FEW_SLOTS),
+        ("NO_TARGET", Refusal::NO_TARGET),
+        ("NO_CONTAINER", Refusal::NO_CONTAINER),
     ] {
         assert!(HEADER.contains(&format!("STORY_IMAGE_{name} = {}", refusal.number())), "{name}");
     }
