@@ -1,11 +1,12 @@
 //! Both sides measured in one process, in turns, by processor time: load, node views, depths, walks and list look-ups,
-//! writing; pages against lone calls; then the leaves by themselves, and the size of the library.
+//! writing; pages against lone calls; targets from paths; then the leaves by themselves, and the size of the library.
 
 mod archive;
 mod inputs;
 mod leaves;
 #[cfg(feature = "queries")]
 mod pages;
+mod targets;
 
 #[cfg(not(feature = "queries"))]
 mod pages {
@@ -40,6 +41,7 @@ pub fn run(seconds: u64, words: &str) -> bool {
     println!("median of up to {ROUNDS} rounds; ratio of ours to the published Rust: median (lowest to highest)");
     println!("pages: ratio of one call to forty, which shall be at most 0.7");
     println!("items in the last of sixty definitions: ratio to the published Rust, which shall be at most 0.2");
+    println!("targets of 200,000 mixed nodes with paths: ratio to the published Rust, which shall be at most 1");
     let (mut measured, pages_alone) = (0, words == PAGES);
     for make in inputs::ALL {
         let input = make(&mut random);
@@ -53,6 +55,9 @@ pub fn run(seconds: u64, words: &str) -> bool {
         if input.asked {
             measured += pages::run(&input, long);
         }
+    }
+    if !pages_alone {
+        measured += targets::run(long, words);
     }
     if words.is_empty() {
         measured += leaves::run(long, &mut random) + archive::run();

@@ -1,5 +1,5 @@
 //! The cases of a run: whole families of small images, every single fault of a few images, random stories and damage,
-//! drafts, definitions that share items.
+//! drafts, definitions that share items, drafts with paths.
 
 use crate::damage;
 use crate::drafts::{self, Case};
@@ -9,14 +9,19 @@ use crate::progress::Progress;
 use crate::random::Random;
 use crate::small::{self, FAMILIES, TREES};
 use crate::stories::{Shape, Story};
+use crate::targets;
 
 /// An image of many definitions comes once in so many cases: each takes long.
 const MANY: u64 = 500;
+
+/// Drafts whose list gives each path text, to a case.
+const LISTED: u64 = 2;
 
 /// What is done with each case.
 pub trait Visitor {
     fn image(&mut self, name: &'static str, bytes: &[u8], random: &mut Random);
     fn draft(&mut self, case: &Case, random: &mut Random);
+    fn targets(&mut self, case: &targets::drafts::Case, random: &mut Random);
     /// Whether drafts are cases at all.
     fn takes_drafts(&self) -> bool {
         true
@@ -38,7 +43,7 @@ fn member(visit: u64, size: u64) -> u64 {
 /// All cases of a run, in an order that the seed fixes.
 pub fn all(name: &str, cases: u64, seed: u64, visitor: &mut dyn Visitor) {
     let families: u64 = FAMILIES.iter().map(|family| family.size.min(cases)).sum();
-    let drafts = if visitor.takes_drafts() { TREES.min(cases) + cases } else { 0 };
+    let drafts = if visitor.takes_drafts() { TREES.min(cases) + cases + LISTED * cases + cases } else { 0 };
     let lists = 2 * SHARED.min(cases) + 5 * (cases / MANY);
     let progress = Progress::new(name, families + 5 * cases + drafts + lists);
     let mut run = Run { visitor, progress, random: Random::new(seed) };
@@ -53,6 +58,9 @@ pub fn all(name: &str, cases: u64, seed: u64, visitor: &mut dyn Visitor) {
     }
     run.shared_items(cases);
     run.many_lists(cases);
+    if drafts > 0 {
+        run.path_lists(cases);
+    }
     run.progress.end();
 }
 
@@ -126,6 +134,19 @@ impl Run<'_> {
                 let damaged = damage::lists(&parts, &mut self.random);
                 self.image("many lists, damaged", &damaged);
             }
+        }
+    }
+
+    fn path_lists(&mut self, cases: u64) {
+        for _ in 0..LISTED * cases {
+            let case = targets::drafts::listed(&mut self.random);
+            self.visitor.targets(&case, &mut self.random);
+            self.progress.step();
+        }
+        for _ in 0..cases {
+            let case = targets::lists::other(&mut self.random);
+            self.visitor.targets(&case, &mut self.random);
+            self.progress.step();
         }
     }
 

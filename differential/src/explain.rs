@@ -4,6 +4,7 @@
 use crate::corpus::{self, Visitor};
 use crate::drafts::Case;
 use crate::random::Random;
+use crate::targets;
 use inspect::library;
 use inspect::rules::{RULES, first_broken};
 use std::collections::BTreeMap;
@@ -37,6 +38,8 @@ impl Visitor for Places {
     }
 
     fn draft(&mut self, _: &Case, _: &mut Random) {}
+
+    fn targets(&mut self, _: &targets::drafts::Case, _: &mut Random) {}
 
     fn takes_drafts(&self) -> bool {
         false

@@ -37,6 +37,7 @@ pub trait Library {
     fn load(&self, bytes: &[u8], work: &mut [u32]) -> (u32, View);
     fn queries(&self) -> Option<&dyn Queries>;
     fn writer(&self) -> Option<&dyn Writer>;
+    fn targets(&self) -> Option<&dyn Targets>;
     /// Whether it answers where the published Rust does not: unaccepted bytes, broken drafts.
     fn answers_all(&self) -> bool {
         true
@@ -88,6 +89,20 @@ pub trait Queries {
 pub trait Writer {
     /// The number, and the length that was written with 0, is needed with 23.
     fn write(&self, ink: u32, draft: &Draft, work: &mut [u32], output: &mut [u8]) -> (u32, usize);
+}
+
+/// Paths beside a draft: four words each (node, 0 absolute or 1 relative, first component, how many), three words a
+/// component, the bytes of names.
+#[derive(Clone, Debug, Default, PartialEq)]
+pub struct PathList {
+    pub entries: Vec<u32>,
+    pub components: Vec<u32>,
+    pub names: Vec<u8>,
+}
+
+pub trait Targets {
+    /// The number; the draft's nodes are written with 0.
+    fn resolve(&self, ink: u32, draft: &mut Draft, paths: &PathList, work: &mut [u32]) -> u32;
 }
 
 /// Steps as components and names.

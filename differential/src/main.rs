@@ -30,6 +30,7 @@ mod small;
 mod stories;
 mod strange;
 mod tally;
+mod targets;
 mod texts;
 mod writes;
 mod wrong;

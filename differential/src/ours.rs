@@ -1,11 +1,14 @@
-//! Our library, through its Rust binding. What it has beside the load is told by the features `queries` and `write`.
+//! Our library, through its Rust binding. What it has beside the load is told by the features `queries`, `write` and
+//! `targets`.
 
 #[cfg(feature = "queries")]
 mod queries;
+#[cfg(feature = "targets")]
+pub mod targets;
 #[cfg(feature = "write")]
 pub mod write;
 
-use crate::library::{Library, Queries, View, Writer};
+use crate::library::{Library, Queries, Targets, View, Writer};
 use story_image::{Image, NodeKindOf, ValueOf};
 
 pub struct Ours;
@@ -89,6 +92,16 @@ impl Library for Ours {
 
     #[cfg(not(feature = "write"))]
     fn writer(&self) -> Option<&dyn Writer> {
+        None
+    }
+
+    #[cfg(feature = "targets")]
+    fn targets(&self) -> Option<&dyn Targets> {
+        Some(self)
+    }
+
+    #[cfg(not(feature = "targets"))]
+    fn targets(&self) -> Option<&dyn Targets> {
         None
     }
 }

@@ -1,12 +1,13 @@
 //! The published Rust in the place of our library, with a mistake planted in it: the comparison must notice.
 
 use crate::depths::{Way, by_words};
-use crate::library::{Entry, Found, Library, Looked, Place, Queries, View, Writer};
+use crate::library::{Entry, Found, Library, Looked, PathList, Place, Queries, Targets, View, Writer};
 use crate::library::{header_view, load_words, section, write_words};
 use crate::pages::{Nodes, SLOT, slot_of};
 use crate::parts::{ENTRY_SIZES, NONE, word_at};
 use crate::rows::{row_of, writer_row};
 use crate::searched::{Lists, is_blank, split};
+use crate::targets::model::Model;
 use reference::{Draft, Image, Kind, ListEntries, Named, NodeView, Step, Written};
 
 #[derive(Clone, Copy, Debug, PartialEq)]
@@ -47,9 +48,19 @@ pub enum Mistake {
     NoTwentyThree,
     Needed,
     DraftNumber,
+    TargetLast,
+    TargetEarly,
+    TargetIndex,
+    TargetKept,
+    TargetText,
+    TargetSkip,
+    TargetTwice,
+    TargetExternal,
+    TargetTested,
+    TargetWork,
 }
 
-pub const MISTAKES: [Mistake; 35] = [
+pub const MISTAKES: [Mistake; 45] = [
     Mistake::Number,
     Mistake::WorkLeft,
     Mistake::NoSeven,
@@ -85,6 +96,16 @@ pub const MISTAKES: [Mistake; 35] = [
     Mistake::NoTwentyThree,
     Mistake::Needed,
     Mistake::DraftNumber,
+    Mistake::TargetLast,
+    Mistake::TargetEarly,
+    Mistake::TargetIndex,
+    Mistake::TargetKept,
+    Mistake::TargetText,
+    Mistake::TargetSkip,
+    Mistake::TargetTwice,
+    Mistake::TargetExternal,
+    Mistake::TargetTested,
+    Mistake::TargetWork,
 ];
 
 pub struct Published(pub Mistake);
@@ -166,6 +187,10 @@ impl Library for Published {
     }
 
     fn writer(&self) -> Option<&dyn Writer> {
+        Some(self)
+    }
+
+    fn targets(&self) -> Option<&dyn Targets> {
         Some(self)
     }
 }
@@ -354,5 +379,29 @@ impl Writer for Published {
             _ => 21,
         };
         (if self.has(Mistake::DraftNumber) && number == 20 { 22 } else { number }, 0)
+    }
+}
+
+impl Targets for Published {
+    /// By the words of draft and list, of a draft that passes 19 to 21 but for its targets: the published Rust takes no
+    /// list, and is compared with these words.
+    fn resolve(&self, ink: u32, draft: &mut Draft, paths: &PathList, work: &mut [u32]) -> u32 {
+        if !(18..=21).contains(&ink) {
+            return 3;
+        }
+        let words = write_words(draft);
+        let model = Model::new(draft, paths, self.0);
+        if model.list_broken() || model.wrong_target() {
+            return 19;
+        }
+        if work.len() < words {
+            return 7;
+        }
+        let (number, nodes) = model.answer();
+        if number == 0 || !self.has(Mistake::TargetWork) {
+            work[..words].fill(0);
+        }
+        draft.nodes = nodes;
+        number
     }
 }

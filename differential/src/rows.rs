@@ -80,3 +80,15 @@ pub const WRITER: [(&str, u32); 4] = [
 pub fn writer_row(message: &str) -> Option<u32> {
     WRITER.iter().find(|(text, _)| *text == message).map(|(_, row)| *row)
 }
+
+/// The messages of the published function that finds targets. After 21 the last one cannot be: only an index leads to a
+/// node that is no container.
+pub const RESOLVER: [(&str, u32, bool); 3] = [
+    ("static story target could not be resolved", 25, true),
+    ("choice or read-count target is not a container", 26, true),
+    ("named divert target is not a container", 26, false),
+];
+
+pub fn resolver_row(message: &str) -> Option<u32> {
+    RESOLVER.iter().find(|(text, _, _)| *text == message).map(|(_, row, _)| *row)
+}

@@ -9,9 +9,10 @@ use crate::pages;
 use crate::published::{MISTAKES, Mistake, Published};
 use crate::queries::KINDS;
 use crate::random::Random;
-use crate::rows::{REASONS, WRITER, row_of};
+use crate::rows::{REASONS, RESOLVER, WRITER, row_of};
 use crate::searched;
 use crate::tally::Tally;
+use crate::targets;
 use crate::writes;
 
 /// From so many cases on, every row and reason must come up.
@@ -33,7 +34,8 @@ pub fn compare(cases: u64, seed: u64, ours: Option<&dyn Library>) -> bool {
         Some(ours) => {
             let compared = |has: bool| if has { "compared" } else { "not compared, the published Rust alone" };
             let (queries, written) = (compared(ours.queries().is_some()), compared(ours.writer().is_some()));
-            println!("loads: compared; queries: {queries}; written images: {written}");
+            let targets = compared(ours.targets().is_some());
+            println!("loads: compared; queries: {queries}; written images: {written}; targets from paths: {targets}");
         }
     }
     println!("{} passed, {} failed", tally.passed, tally.failed);
@@ -53,6 +55,10 @@ impl Visitor for Comparison<'_> {
 
     fn draft(&mut self, case: &Case, random: &mut Random) {
         writes::draft(case, self.ours, random, self.tally);
+    }
+
+    fn targets(&mut self, case: &targets::drafts::Case, random: &mut Random) {
+        targets::compare(case, self.ours, random, self.tally);
     }
 }
 
@@ -90,12 +96,34 @@ fn coverage(tally: &mut Tally) {
     for ((what, on_accepted), [accepted, others]) in pages.chain(searched::CASES.iter().zip(tally.searches)) {
         need(others > 0 && (accepted > 0) == *on_accepted, format!("{what}: accepted {accepted}, others {others}"));
     }
-    for (message, row) in WRITER {
-        need(row == 23 || tally.written.contains_key(message), format!("writer: {message}"));
-    }
+    drafts_met(tally, need);
     tally.passed += met;
     for what in missing {
         tally.check(false, || format!("not met: {what}"), &[]);
+    }
+}
+
+/// What must have come up where drafts were written and targets found.
+fn drafts_met(tally: &Tally, mut need: impl FnMut(bool, String)) {
+    for (message, row) in WRITER {
+        need(row == 23 || tally.written.contains_key(message), format!("writer: {message}"));
+    }
+    for ((what, expected), counts) in targets::CASES.iter().zip(tally.targets) {
+        need(counts.map(|count| count > 0) == *expected, format!("{what}: {counts:?}"));
+    }
+    for (what, count) in targets::MET.iter().zip(tally.resolved) {
+        need(count > 0, format!("drafts with paths: {what}"));
+    }
+    for (message, _, reachable) in RESOLVER {
+        need(tally.refused.contains_key(message) == reachable, format!("{message}, reachable: {reachable}"));
+    }
+    for change in &targets::lists::CHANGES {
+        // without our writer nothing is due of some
+        let told = tally.lists.keys().any(|(name, _)| *name == change.name);
+        for number in change.numbers.iter().filter(|_| told) {
+            let met = tally.lists.contains_key(&(change.name, *number));
+            need(met, format!("{}: {number}", change.name));
+        }
     }
 }
 

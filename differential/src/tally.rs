@@ -2,6 +2,7 @@
 
 use crate::pages;
 use crate::searched;
+use crate::targets;
 use std::collections::BTreeMap;
 
 #[derive(Default)]
@@ -22,6 +23,14 @@ pub struct Tally {
     pub drafts: BTreeMap<&'static str, u64>,
     pub written: BTreeMap<String, u64>,
     pub numbers: BTreeMap<u32, u64>,
+    /// Of nodes that follow a path: in resolved drafts, deciding with 25, with 26.
+    pub targets: [[u64; 3]; targets::CASES.len()],
+    /// What was met where targets were found, drafts.
+    pub resolved: [u64; targets::MET.len()],
+    /// What the published function said.
+    pub refused: BTreeMap<String, u64>,
+    /// Other lists, by what was done and the number.
+    pub lists: BTreeMap<(&'static str, u32), u64>,
     pub passed: u64,
     pub failed: u64,
     quiet: bool,
@@ -85,6 +94,22 @@ impl Tally {
         print("what the published writer did", self.written.iter());
         if !self.numbers.is_empty() {
             print("our numbers for drafts", self.numbers.iter());
+        }
+        self.print_targets();
+    }
+
+    fn print_targets(&self) {
+        println!("nodes that follow a path: resolved, decide with 25, with 26");
+        for ((name, _), [resolved, nowhere, other]) in targets::CASES.iter().zip(self.targets) {
+            println!("    {name:50} {resolved:>10} {nowhere:>10} {other:>10}");
+        }
+        print("drafts with paths", targets::MET.iter().zip(&self.resolved));
+        print("what the published function refused with", self.refused.iter());
+        println!("other lists and drafts, by what was done: 0, 3, 19, 20, 21, 25, 26");
+        for name in targets::lists::CHANGES.iter().map(|change| change.name).chain([targets::lists::TWO]) {
+            let count = |number| self.lists.get(&(name, number)).unwrap_or(&0);
+            let counts = targets::lists::NUMBERS.map(|number| format!(" {:>8}", count(number)));
+            println!("    {name:36}{}", counts.concat());
         }
     }
 }

@@ -51,11 +51,17 @@ pub fn write(ink_version: u32, draft: &Draft) -> Written {
 }
 
 /// A draft as the published writer takes it.
-pub struct Story(StoryData);
+pub struct Story(pub(crate) StoryData);
 
 impl Story {
+    /// Each path text is one component, so that nothing is parsed and printed anew.
     pub fn new(draft: &Draft) -> Option<Self> {
-        story_of(draft).map(Story)
+        story_of(draft, &Texts { bytes: &draft.strings, parsed: false }).map(Story)
+    }
+
+    /// Path texts are parsed.
+    pub fn with_paths(draft: &Draft) -> Option<Self> {
+        story_of(draft, &Texts { bytes: &draft.strings, parsed: true }).map(Story)
     }
 }
 
@@ -117,7 +123,11 @@ fn optional(word: u32) -> Option<u32> {
     (word != NONE).then_some(word)
 }
 
-struct Texts<'a>(&'a [u8]);
+struct Texts<'a> {
+    bytes: &'a [u8],
+    /// Paths are parsed.
+    parsed: bool,
+}
 
 impl Texts<'_> {
     fn text(&self, offset: u32, length: u32) -> Option<String> {
@@ -125,7 +135,7 @@ impl Texts<'_> {
             return None;
         }
         let start = offset as usize;
-        let part = self.0.get(start..start + length as usize)?;
+        let part = self.bytes.get(start..start + length as usize)?;
         Some(core::str::from_utf8(part).ok()?.to_owned())
     }
 
@@ -134,9 +144,10 @@ impl Texts<'_> {
         if offset == NONE && length == NONE { Some(None) } else { self.text(offset, length).map(Some) }
     }
 
-    /// The whole text as one component, so that nothing is parsed and printed anew.
     fn path(&self, offset: u32, length: u32) -> Option<StaticPath> {
-        Some(StaticPath { components: vec![Component::new(&self.text(offset, length)?)], relative: false })
+        let text = self.text(offset, length)?;
+        let whole = || StaticPath { components: vec![Component::new(&text)], relative: false };
+        Some(if self.parsed { StaticPath::from_text(&text) } else { whole() })
     }
 
     fn optional_path(&self, offset: u32, length: u32) -> Option<Option<StaticPath>> {
@@ -144,8 +155,7 @@ impl Texts<'_> {
     }
 }
 
-fn story_of(draft: &Draft) -> Option<StoryData> {
-    let texts = Texts(&draft.strings);
+fn story_of(draft: &Draft, texts: &Texts<'_>) -> Option<StoryData> {
     let whole = [(&draft.nodes, 10), (&draft.named, 3), (&draft.definitions, 4), (&draft.items, 3)];
     if whole.iter().any(|(words, size)| words.len() % size != 0) || draft.nodes.is_empty() {
         return None;
@@ -155,7 +165,7 @@ fn story_of(draft: &Draft) -> Option<StoryData> {
         nodes.push(NodeRecord {
             parent: optional(record[0]).map(NodeId),
             child_index: optional(record[1]),
-            kind: kind_of(draft, &texts, record)?,
+            kind: kind_of(draft, texts, record)?,
         });
     }
     let mut named = Vec::with_capacity(draft.named.len() / 3);

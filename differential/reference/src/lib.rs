@@ -19,9 +19,11 @@ use std::io;
 include!(concat!(env!("OUT_DIR"), "/published/modules.rs"));
 
 mod draft;
+mod targets;
 mod view;
 
 pub use draft::{Draft, Story, Written, write, write_story};
+pub use targets::{Resolved, resolve, resolve_story, steps_of};
 pub use view::{Image, Kind, ListEntries, ListEntry, Named, NodeView, Step, Walk, load};
 
 /// Every reason string in the published loader's source.

@@ -58,7 +58,7 @@ pub const ALL: [fn(&mut Random) -> Input; 19] = [
     |_| loaded("lapped chain of 20,000 containers", lapped_chain(20_000)),
 ];
 
-fn mixed(nodes: usize, random: &mut Random) -> Parts {
+pub fn mixed(nodes: usize, random: &mut Random) -> Parts {
     let laying = Laying::Shared;
     let shape = Shape { nodes, containers: 3, depth: 3, plain: true, laying, shuffled: true, loose: false };
     with_definitions(Story::random(shape, random).parts(random))
