@@ -7,7 +7,7 @@ use Rattle.texts.specs.Text.{ascii, texts}
 use Rattle.image.specs.Sections.{Sections, f}
 use Rattle.draft.specs.Source.{draftOf}
 use Rattle.draft_image.specs.Encode.{encodeRule, encodes}
-use Rattle.static_targets.specs.Targets.{PathList, resolveRule, resolved, targets}
+use Rattle.target_finding.specs.Targets.{PathList, resolveRule, resolved, targets}
 use Rattle.edges.specs.Examples.{nodeEntry, examples}
 
 -- a root with ordered children 1 a choice, 2 a divert, 3 a container that is also named a, with a glue 4, then 5 a divert-target value and

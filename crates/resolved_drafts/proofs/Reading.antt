@@ -22,7 +22,7 @@ use Rattle.records.specs.Fields.{targetPlace, kindOf, schema}
 use Rattle.draft.specs.PathList.{follows}
 use Rattle.draft.proofs.PathTables.{FollowTag, follow-tag, no-container, no-list, followed}
 use Rattle.draft_image.proofs.Joins.{even-read, even-len}
-use Rattle.static_targets.specs.Targets.{PathList, targetFound, isPathText, followedWord, resolvedWord, resolvedNode, resolvedNodes, resolved}
+use Rattle.target_finding.specs.Targets.{PathList, targetFound, isPathText, followedWord, resolvedWord, resolvedNode, resolvedNodes, resolved}
 use Rattle.resolved_drafts.specs.Resolved.{ResolvedKeeps, DraftKept}
 use Rattle.resolved_drafts.proofs.SameTree.{SameTree}
 

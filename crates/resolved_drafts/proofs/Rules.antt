@@ -28,7 +28,7 @@ use Rattle.draft.proofs.PathTables.{FollowTag, path-whole}
 use Rattle.lookups.proofs.Plain.{last-some}
 use Rattle.views.specs.declared.Found.{Found}
 use Rattle.views.specs.declared.Found.the-variants as found
-use Rattle.static_targets.specs.Targets.{PathList, pathEnd, endsInIndex, needsContainer, endRule, entryRule, targetRule, resolveRule, targetFound, isPathText, followedWord, resolvedNodes, resolved}
+use Rattle.target_finding.specs.Targets.{PathList, pathEnd, endsInIndex, needsContainer, endRule, entryRule, targetRule, resolveRule, targetFound, isPathText, followedWord, resolvedNodes, resolved}
 use Rattle.static_targets.proofs.FoundInside.{Leads, leads, end-inside}
 use Rattle.resolved_drafts.specs.Resolved.{ResolvedPasses, TargetSet, TargetsSet}
 use Rattle.resolved_drafts.proofs.SameTree.{SameTree, same-inside, same-box, same-fields, same-tables, same-reach, same-shape}

@@ -26,7 +26,7 @@ use Rattle.draft.specs.PathList.{pathOf, listRight, follows, pathTablesRule}
 use Rattle.draft.proofs.Rules.{shape}
 use Rattle.draft.proofs.PathTables.{no-paths}
 use Rattle.draft_image.specs.Encode.{imageFor, draftRule, encodeRule}
-use Rattle.static_targets.specs.Targets.{PathList, pathListRule, targetRule, resolveRule, resolvedNodes, resolved}
+use Rattle.target_finding.specs.Targets.{PathList, pathListRule, targetRule, resolveRule, resolvedNodes, resolved}
 use Rattle.resolved_drafts.specs.Resolved.{ResolvedPaths, ResolvedWrites, ResolvedRefusals, ResolvedWords, noPaths, EmptyList, EmptyKeeps, EmptyUnchanged}
 use Rattle.resolved_drafts.proofs.SameTree.{withNodes, SameTree, same-box}
 use Rattle.resolved_drafts.proofs.Reading.{kept, same-tree, unchanged}

@@ -21,7 +21,7 @@ use Rattle.draft_image.specs.Encode.{imageFor, draftRule, encodeRule}
 use Rattle.written.specs.Written.{DraftWords, Written}
 use Rattle.views.specs.declared.Found.the-variants.{Node}
 use Rattle.walks.specs.Walk.{Component, resolve}
-use Rattle.static_targets.specs.Targets.{PathList, pathEnd, endsInIndex, needsContainer, resolveRule, isPathText, resolvedNodes, resolved}
+use Rattle.target_finding.specs.Targets.{PathList, pathEnd, endsInIndex, needsContainer, resolveRule, isPathText, resolvedNodes, resolved}
 
 -- P holds of every draft and list that are not refused, with whatever ink version and count of work words
 abbrev pub Resolved : (ℕ → Sections → PathList → ℕ → Type 0) → Type 0

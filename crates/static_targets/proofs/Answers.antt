@@ -21,7 +21,7 @@ use Rattle.walks.specs.Walk.{componentWords}
 use Rattle.views.specs.declared.Found.{Found}
 use Rattle.views.specs.declared.Found.the-variants as found
 use Rattle.static_targets.specs.Late.{lateRule, Late}
-use Rattle.static_targets.specs.Targets.{PathList, pathListRule, pathEnd, endsInIndex, needsContainer, endRule, entryRule, targetRule, resolveRule, resolvedNodes, nodesAfter}
+use Rattle.target_finding.specs.Targets.{PathList, pathListRule, pathEnd, endsInIndex, needsContainer, endRule, entryRule, targetRule, resolveRule, resolvedNodes, nodesAfter}
 
 -- ---- which numbers the rules give
 

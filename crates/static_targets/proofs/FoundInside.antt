@@ -25,7 +25,7 @@ use Rattle.views.specs.Children.{childQuery}
 use Rattle.lookups.specs.Lookup.{entryText, searched, foundAt, namedBy, findNamed}
 use Rattle.lookups.proofs.HalvingSearch.{found-there}
 use Rattle.walks.specs.Walk.{Component, Parent, Index, Name, Broken, components, parentQuery, step, stepFrom, steps, resolve}
-use Rattle.static_targets.specs.Targets.{PathList, pathComponents, pathEnd}
+use Rattle.target_finding.specs.Targets.{PathList, pathComponents, pathEnd}
 
 -- ---- numbers that steps do not lead out of: those of entries, and of the parents that nodes have
 

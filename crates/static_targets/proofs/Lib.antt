@@ -1,9 +1,3 @@
 pub mod FoundInside
-pub mod Finding
-pub mod SetNode
-pub mod SetLoop
-pub mod AllResolved
 pub mod Answers
-pub mod RuleLoop
-pub mod EntryLoop
 pub mod Steps

@@ -30,13 +30,13 @@ use Rattle.views.specs.declared.Found.the-variants as found
 use Rattle.walks.specs.Walk.{componentWords}
 use Rattle.write_numbering.specs.Work.{treeOf, Leads}
 use Rattle.write_numbering.proofs.WholeDraft.{whole-seen, fit-tree, leads-tree}
-use Rattle.static_targets.specs.Targets.{PathList, pathEnd, endsInIndex, needsContainer, endRule, entryRule, targetRule, foundNode, entryTarget, targetFound, pathList}
-use Rattle.static_targets.specs.Finding.{ComponentsInside, OriginsInside, AllFound}
+use Rattle.target_finding.specs.Targets.{PathList, pathEnd, endsInIndex, needsContainer, endRule, entryRule, targetRule, foundNode, entryTarget, targetFound, pathList}
+use Rattle.target_finding.specs.Finding.{ComponentsInside, OriginsInside, AllFound}
 use Rattle.static_targets.specs.Late.{Late}
-use Rattle.static_targets.specs.Setting.{Settable, AllSet}
-use Rattle.static_targets.proofs.AllResolved.{TargetsAt, settable, all-resolved}
+use Rattle.target_setting.specs.Setting.{Settable, AllSet}
+use Rattle.target_setting.proofs.AllResolved.{TargetsAt, settable, all-resolved}
 use Rattle.static_targets.proofs.Answers.{late-tree, late-target, late-done}
-use Rattle.static_targets.proofs.Finding.{components-inside, origins-inside}
+use Rattle.target_setting.proofs.RightEntries.{entry-right, origins-inside}
 use Rattle.static_targets.proofs.FoundInside.{leads, end-some}
 
 -- ---- a node that follows a path and passes has a target
@@ -145,6 +145,11 @@ module _ (version : ℕ) (ns cs ms ds is ps ss entries lent names : List ℕ) (t
               late-done s p reach shaped (sym z₂ ∙ found .answer) ns′ (all-resolved s p w₂ targets-at (path-whole s entries t .nodes) ns′ a)
 
 -- the rule loop
+components-inside : (n : ℕ) (entries lent : List ℕ) → listRight n (length lent / componentWords) entries ≡ true → ComponentsInside entries lent
+components-inside n entries lent h k l =
+    let few = entry-right n (length lent / componentWords) entries h k l .components in
+    omega (arith, few)
+
 pub targets-ask : (version : ℕ) (ns cs ms ds is ps ss entries lent w₁ : List ℕ) → length w₁ ≡ writeWords (draftOf version ns cs ms ds is ps ss)
     → listRight (nodeCount (draftOf version ns cs ms ds is ps ss)) (length lent / componentWords) entries ≡ true
     → (length ns / nodeWords version ≤ length w₁) × ComponentsInside entries lent × OriginsInside (length ns / nodeWords version) entries

@@ -5,7 +5,7 @@ use mathlib.Core.List.{List}
 use Rattle.laws.specs.Refusal.{_▸_, firstOf}
 use Rattle.image.specs.Sections.{Sections, nodeCount}
 use Rattle.draft.specs.Draft.{reachRule, shapeRule}
-use Rattle.static_targets.specs.Targets.{PathList, targetRule, nodesAfter}
+use Rattle.target_finding.specs.Targets.{PathList, targetRule, nodesAfter}
 
 abbrev pub lateRule : Sections → PathList → ℕ
 lateRule s p = reachRule s ▸ shapeRule s ▸ firstOf (nodeCount s) (targetRule s p)

@@ -1,4 +1,1 @@
-pub mod Targets
-pub mod Finding
-pub mod Setting
 pub mod Late

@@ -1,7 +1,4 @@
 // Targets found from paths: the nodes of a draft that follow a path of the list beside it get the node at its end as their target.
-mod rule; // rule.rt: rules 25 and 26
-mod set; // set.rt: the draft is written
-
 ghost use mathlib.Core.Path.{_≡_};
 ghost use mathlib.Core.Bool.{true};
 ghost use Prim.Native.Nat.{_/_};
@@ -14,10 +11,8 @@ ghost use Rattle.draft.specs.Draft.{writeWords, reachRule, shapeRule};
 ghost use Rattle.draft.specs.PathList.{listRight, pathTablesRule};
 ghost use Rattle.draft_image.specs.Encode.{encodeWorkAfter};
 ghost use Rattle.walks.specs.Walk.{componentWords};
-ghost use Rattle.static_targets.specs.Targets.{resolveRule, nodesAfter, pathList};
+ghost use Rattle.target_finding.specs.Targets.{resolveRule, nodesAfter, pathList};
 ghost use Rattle.static_targets.specs.Late.{Late};
-use crate::rule::targets_rule;
-use crate::set::set_targets;
 use draft::Needed;
 use draft::path_list;
 use draft::shape;
@@ -30,6 +25,8 @@ use image::refusal::BAD_DRAFT;
 use image::refusal::BAD_INK_VERSION;
 use image::refusal::DRAFT_UNREACHED;
 use image::refusal::TOO_FEW_WORDS;
+use target_finding::targets_rule;
+use target_setting::set_targets;
 use walks::COMPONENT_WORDS;
 
 // Rules 20 and 21 of a draft whose tables are right, in exactly the work words that it needs: told at once where the draft stands in a tree, else

@@ -5,7 +5,7 @@ ghost use Rattle.image.specs.Header.{version};
 ghost use Rattle.draft.specs.Source.{draftOf};
 ghost use Rattle.draft.specs.Draft.{writeWords};
 ghost use Rattle.draft_image.specs.Encode.{encodeWorkAfter};
-ghost use Rattle.static_targets.specs.Targets.{resolveRule, nodesAfter, pathList};
+ghost use Rattle.target_finding.specs.Targets.{resolveRule, nodesAfter, pathList};
 
 // Sets the targets of the nodes that follow a path of the list; or gives the number of the first rule broken, and leaves the nodes as they
 // were.

@@ -5,7 +5,7 @@ use Rattle.image.specs.Header.{version}
 use Rattle.draft.specs.Source.{draftOf}
 use Rattle.draft.specs.Draft.{writeWords}
 use Rattle.draft_image.proofs.WorkWords.{few-words, no-rule, lent, lent-fits, lent-long, lent-needed, clear-fits, given-back}
-use Rattle.static_targets.specs.Targets.{pathList}
+use Rattle.target_finding.specs.Targets.{pathList}
 use Rattle.static_targets.proofs.Answers.{ended, list-is, ink-refused, list-refused, tables-refused, words-refused, late-answered}
 use borrow.Author.Needs.{needs}
 use Rattle.static_targets.proofs.resolve_static_targets.Statement.{statement}

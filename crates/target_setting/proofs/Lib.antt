@@ -1,0 +1,4 @@
+pub mod SetNode
+pub mod SetLoop
+pub mod RightEntries
+pub mod AllResolved
