@@ -52,9 +52,10 @@ same-length-6 c = search needs
 returns-3 : tie.Need-returns-3
 returns-3 c =
     let to = c .before .before .before .before .before .before .before .before .before .before .before .before .before .before .before .before .before .before .before .before .before .before .before .before .before .before .before .before .args in
+    let asked = c .before .before .before .before .before .before .before .before .before .before .before .before .before .before .before .before .before .before .before .before .before .before .before .before .before .before .before .before .pre in
     let found = c .before .before .before .before .before .before .before .before .targets-rule .ensures (to .definitions .now) (to .items .now) (to .payload .now) in
-    all-set (to .source .version) (to .nodes .now) (to .children .now) (to .named .now) (to .definitions .now) (to .items .now) (to .payload .now) (to .strings .now) (to .paths .now) (to .components .now) (to .names .now) (c .before .before .before .before .before .before .before .before .before .before .before .before .before .before .before .before .before .before .before .before .before .before .before .before .before .before .before .before .pre .0 .0) _ (c .before .before .before .before .before .before .before .before .before .before .before .before .before .before .tree-rule .ensures) (search needs) _ _ found (search needs)
-    (c .before .before .before .before .before .before .before .before .targets-rule .kept .1 .1 .1 .1 .1 .1 .1 .0 ∙ c .before .before .before .before .before .before .before .before .before .before .before .before .before .before .tree-rule .kept .1 .1 .1 .1 .1 .1 .1 .1 .0 ∙ c .before .before .before .before .before .before .before .before .before .before .before .before .before .before .before .before .before .before .before .before .before .before .before .before .before .before .before .before .pre .1) _ (c .before .before .set-targets .ensures)
+    all-set (to .source .version) (to .nodes .now) (to .children .now) (to .named .now) (to .definitions .now) (to .items .now) (to .payload .now) (to .strings .now) (to .paths .now) (to .components .now) (to .names .now) (asked .0 .0) _ (c .before .before .before .before .before .before .before .before .before .before .before .before .before .before .tree-rule .ensures) (search needs) _ _ found (search needs)
+    (c .before .before .before .before .before .before .before .before .targets-rule .kept .1 .1 .1 .1 .1 .1 .1 .0 ∙ c .before .before .before .before .before .before .before .before .before .before .before .before .before .before .tree-rule .kept .1 .1 .1 .1 .1 .1 .1 .1 .0 ∙ asked .1) _ (c .before .before .set-targets .ensures)
 
 pub resolve-spec : {M : Type 1} → statement M
 resolve-spec =
