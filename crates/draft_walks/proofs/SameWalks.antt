@@ -1,16 +1,28 @@
--- A walk over a draft reads its nodes, entries and strings alone: the other sections may be any.
+-- A walk over a draft: where it begins, and that it reads its nodes, entries and strings alone, so that the other sections may be any.
 use Prim.Native.Nat.{ℕ}
-use mathlib.Core.Path.{_≡_, refl, _∙_}
+use mathlib.Core.Path.{_≡_, refl, sym, ap, _∙_}
 use mathlib.Core.List.{List}
 use mathlib.Core.Bool.{Bool}
+use lib.ListN.{drop}
 use Rattle.image.specs.Sections.{Sections, nodeWord, childWord}
 use Rattle.draft.specs.Source.{draftOf}
 use Rattle.views.specs.declared.Found.{Found}
+use Rattle.views.specs.declared.Found.the-variants.{Node, NotFound}
 use Rattle.views.specs.Children.{childQuery}
 use Rattle.lookups.specs.Lookup.{findNamed}
-use Rattle.walks.specs.Walk.{Component, Parent, Index, Name, Broken, parentQuery, step, resolve}
+use Rattle.walks.specs.Walk.{Component, Parent, Index, Name, Broken, components, parentQuery, step, steps, resolve}
 use Rattle.walks.proofs.SameWalks.{SameSteps, same-walks}
-use Rattle.draft_walks.specs.Walked.{walked}
+use Rattle.draft_walks.specs.declared.Start.{Start}
+use Rattle.draft_walks.specs.declared.Start.the-variants.{At, Nowhere}
+use Rattle.draft_walks.specs.Walked.{walked, walkFrom}
+
+-- the walk that begins there answers r
+module _ (s : Sections) (names path : List ℕ) (x : Start) (r : Found) (e : walkFrom s x names path ≡ r) where
+  pub walk-missing : x ≡ Nowhere → NotFound ≡ r
+  walk-missing h = ap (λ (y : Start). walkFrom s y names path) (sym h) ∙ e
+
+  pub walk-begun : (from first : ℕ) → x ≡ At from first → (a : Found) → a ≡ steps s (Node from) (components names (drop first path)) → a ≡ r
+  walk-begun from first h a g = g ∙ ap (λ (y : Start). walkFrom s y names path) (sym h) ∙ e
 
 module _ (version : ℕ) (nodes children named definitions items payload strings : List ℕ) where
   abbrev part : Sections

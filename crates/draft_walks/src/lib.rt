@@ -10,7 +10,7 @@ ghost use Rattle.views.specs.Children.{childQuery};
 ghost use Rattle.lookups.specs.Lookup.{foundPlace, searched, namedBy, findNamed};
 ghost use Rattle.walks.specs.Walk.{component, components, parentQuery, step, steps, resolve};
 ghost use Rattle.draft.specs.Source.{draftOf};
-ghost use Rattle.draft_walks.specs.Walked.{walked};
+ghost use Rattle.draft_walks.specs.Walked.{walked, walkFrom};
 use draft::source::Source;
 use image::ImageView;
 use image::NONE;
@@ -24,6 +24,12 @@ use walks::COMPONENT_WORDS;
 use walks::INDEX;
 use walks::NAME;
 use walks::PARENT;
+
+// Where a walk begins: at a node, along the words of the path from there on.
+enum Start {
+    Nowhere,
+    At(u32, usize),
+}
 
 // Node `id`.
 fn node_of(nodes: &[u32], id: u32, source: Source) -> RecordFound
@@ -245,8 +251,30 @@ fn walk(
     Found::Node(at)
 }
 
-// The node at the end of a path, in a draft. An absolute walk starts at node 0 and does not test its origin; a relative one starts at the
-// origin if that is a container, else at its parent, and skips one component.
+// Where a walk begins. An absolute walk starts at node 0 and does not test its origin; a relative one starts at the origin if that is a
+// container, else at its parent, and skips one component.
+fn start_of(nodes: &[u32], origin: u32, relative: bool, source: Source) -> Start
+    ensures { λ r. ⌜ ((children named strings names path : List ℕ) → let s = walked (source .version) (now (nodes .entry)) children named strings in
+        walkFrom s r names path ≡ resolve s relative origin (components names path)) ⌝ }
+{
+    if !relative {
+        return Start::At(0, 0);
+    }
+    match node_of(nodes, origin, source) {
+        RecordFound::NotFound => Start::Nowhere,
+        RecordFound::Record(node) => {
+            if node.tag == tag::CONTAINER {
+                return Start::At(origin, 0);
+            }
+            if node.parent == NONE {
+                return Start::Nowhere;
+            }
+            Start::At(node.parent, COMPONENT_WORDS)
+        }
+    }
+}
+
+// The node at the end of a path, in a draft.
 pub fn resolve_path(
     nodes: &[u32],
     children: &[u32],
@@ -262,39 +290,18 @@ pub fn resolve_path(
         (now (named .entry)) definitions items payload (now (strings .entry)) in
         r ≡ resolve s relative origin (components (now (names .entry)) (now (path .entry)))) ⌝ }
 {
-    if !relative {
-        return walk(nodes, children, named, strings, 0, path, 0, names, source);
-    }
-    match node_of(nodes, origin, source) {
-        RecordFound::NotFound => Found::NotFound,
-        RecordFound::Record(node) => {
-            if node.tag == tag::CONTAINER {
-                return walk(
-                    nodes,
-                    children,
-                    named,
-                    strings,
-                    origin,
-                    path,
-                    0,
-                    names,
-                    source,
-                );
-            }
-            if node.parent == NONE {
-                return Found::NotFound;
-            }
-            walk(
-                nodes,
-                children,
-                named,
-                strings,
-                node.parent,
-                path,
-                COMPONENT_WORDS,
-                names,
-                source,
-            )
-        }
+    match start_of(nodes, origin, relative, source) {
+        Start::Nowhere => Found::NotFound,
+        Start::At(from, first) => walk(
+            nodes,
+            children,
+            named,
+            strings,
+            from,
+            path,
+            first,
+            names,
+            source,
+        ),
     }
 }
