@@ -31,12 +31,12 @@ use Rattle.walks.specs.Walk.{componentWords}
 use Rattle.write_numbering.specs.Work.{treeOf, Leads}
 use Rattle.write_numbering.proofs.WholeDraft.{whole-seen, fit-tree, leads-tree}
 use Rattle.target_finding.specs.Targets.{PathList, pathEnd, endsInIndex, needsContainer, endRule, entryRule, targetRule, foundNode, entryTarget, targetFound, pathList}
-use Rattle.target_finding.specs.Finding.{ComponentsInside, OriginsInside, AllFound}
+use Rattle.target_finding.specs.Finding.{ComponentsInside, OriginsInside, OriginsApart, AllFound}
 use Rattle.static_targets.specs.Late.{Late}
 use Rattle.target_setting.specs.Setting.{Settable, AllSet}
 use Rattle.target_setting.proofs.AllResolved.{TargetsAt, settable, all-resolved}
 use Rattle.static_targets.proofs.Answers.{late-tree, late-target, late-done}
-use Rattle.target_setting.proofs.RightEntries.{entry-right, origins-inside}
+use Rattle.target_setting.proofs.RightEntries.{entry-right, origins-inside, origins-apart}
 use Rattle.static_targets.proofs.FoundInside.{leads, end-some}
 
 -- ---- a node that follows a path and passes has a target
@@ -153,4 +153,5 @@ components-inside n entries lent h k l =
 pub targets-ask : (version : ℕ) (ns cs ms ds is ps ss entries lent w₁ : List ℕ) → length w₁ ≡ writeWords (draftOf version ns cs ms ds is ps ss)
     → listRight (nodeCount (draftOf version ns cs ms ds is ps ss)) (length lent / componentWords) entries ≡ true
     → (length ns / nodeWords version ≤ length w₁) × ComponentsInside entries lent × OriginsInside (length ns / nodeWords version) entries
-targets-ask version ns cs ms ds is ps ss entries lent w₁ long l = (omega arith, components-inside _ entries lent l, origins-inside _ _ entries l)
+    × OriginsApart entries
+targets-ask version ns cs ms ds is ps ss entries lent w₁ long l = (omega arith, components-inside _ entries lent l, origins-inside _ _ entries l, origins-apart _ _ entries l)

@@ -9,7 +9,7 @@ use native.Mathlib.Nat.{not-suc-le-zero}
 use native.Mathlib.Decide.{ℕ-discrete}
 use lib.ListN.{length, getD, take, drop}
 use lib.Dec.{eqb}
-use borrow.Author.Tests.{lt-ltb, eq-eqb, ne-eqb, eqb-true}
+use borrow.Author.Tests.{lt-ltb, eq-eqb, ne-eqb, eqb-true, eqb-false}
 use Rattle.laws.specs.Refusal.{unless}
 use Rattle.laws.specs.Counted.{lastOf}
 use Rattle.words.specs.Words.{NONE}
@@ -18,11 +18,9 @@ use Rattle.image.specs.Sections.{Sections, nodeWord, tagOf, partAt}
 use Rattle.image.specs.Entries.{recordOf, nodeIn}
 use Rattle.image.proofs.Entries.{node-record}
 use Rattle.draft.specs.declared.path_list.PathEntry.{PathEntry}
-use Rattle.draft.specs.declared.path_list.PathPlace.{PathPlace}
-use Rattle.draft.specs.declared.path_list.PathPlace.the-variants as place
 use Rattle.draft.specs.Source.{wordOf}
 use Rattle.draft.specs.PathList.{pathCount, pathOrigin, pathOf, mayFollow}
-use Rattle.draft.specs.PathEntries.{pathEntry, foundPath}
+use Rattle.draft.specs.PathEntries.{pathEntry}
 use Rattle.views.specs.declared.Found.{Found}
 use Rattle.views.specs.declared.Found.the-variants as found
 use Rattle.walks.specs.Walk.{componentWords, indexKind, components, resolve}
@@ -30,6 +28,24 @@ use Rattle.target_finding.specs.declared.Target.{Target}
 use Rattle.target_finding.specs.declared.Target.the-variants.{At, Refused}
 use Rattle.target_finding.specs.Targets.{lastIsIndex, PathList, pathComponents, pathEnd, endsInIndex, needsContainer, entryRule, targetRule, entryTarget, targetFound, pathList}
 use Rattle.target_finding.specs.Finding.{ComponentsInside, targetBy, endOf, dueOf, endTarget, entryAnswer}
+
+-- ---- what an answer says
+
+pub by-at : (r t n : ℕ) (a : Target) → a ≡ targetBy r t → a ≡ At n → (r ≡ 0) × (n ≡ t)
+unfolding targetBy
+by-at r t n a e q = go (eqb r 0) refl (sym q ∙ e)
+  where
+    go : (b : Bool) → eqb r 0 ≡ b → At n ≡ cond b (At t) (Refused r) → (r ≡ 0) × (n ≡ t)
+    go true h z = (eqb-true r 0 h, cc)
+    go false h z = let w : _≡_ {A = ℕ} 0 1 = cc in absurd (omega arith)
+
+pub by-refused : (r t k : ℕ) (a : Target) → a ≡ targetBy r t → a ≡ Refused k → (k ≡ r) × (k ≡ 0 → ⊥)
+unfolding targetBy
+by-refused r t k a e q = go (eqb r 0) refl (sym q ∙ e)
+  where
+    go : (b : Bool) → eqb r 0 ≡ b → Refused k ≡ cond b (At t) (Refused r) → (k ≡ r) × (k ≡ 0 → ⊥)
+    go true h z = let w : _≡_ {A = ℕ} 0 1 = cc in absurd (omega arith)
+    go false h z = let w : k ≡ r = cc in (w, λ x. eqb-false r 0 h (sym w ∙ x))
 
 -- ---- the last component
 
@@ -122,20 +138,6 @@ pub path-nowhere : (entries : List ℕ) (i : ℕ) → pathOf entries i ≡ none 
 unfolding pathOf
 path-nowhere entries i e k l q =
     true≢false (sym (eq-eqb (pathOrigin entries k) i q) ∙ last-nowhere (λ j. eqb (pathOrigin entries j) i) (pathCount entries) e k l)
-
--- what the search for the entry of node i has found
-module _ (entries : List ℕ) (i : ℕ) (x : PathPlace) (e : foundPath x ≡ pathOf entries i) where
-  pub no-entry : x ≡ place.Nowhere → pathOf entries i ≡ none
-  no-entry q = rw q at (sym e)
-
-  pub an-entry : (k : ℕ) → x ≡ place.At k → pathOf entries i ≡ some k
-  an-entry k q = rw q at (sym e)
-
-  pub entry-below : (k : ℕ) → x ≡ place.At k → k < pathCount entries
-  entry-below k q = path-there entries i k (an-entry k q) .0
-
-  pub entry-node : (k : ℕ) → x ≡ place.At k → (entry : PathEntry) → entry ≡ pathEntry entries k → entry .node ≡ i
-  entry-node k q entry r = ap (λ (y : PathEntry). y .node) r ∙ path-there entries i k (an-entry k q) .1
 
 pub entry-inside : (entries lent : List ℕ) (k : ℕ) → k < pathCount entries → ComponentsInside entries lent → (entry : PathEntry) → entry ≡ pathEntry entries k
     → componentWords * (entry .first + entry .count) ≤ length lent

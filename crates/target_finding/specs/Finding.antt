@@ -25,6 +25,10 @@ ComponentsInside entries lent = (k : ℕ) → k < pathCount entries → componen
 abbrev pub OriginsInside : ℕ → List ℕ → Type 0
 OriginsInside n entries = (k : ℕ) → k < pathCount entries → pathOrigin entries k < n
 
+-- no two entries are of one node
+abbrev pub OriginsApart : List ℕ → Type 0
+OriginsApart entries = (j k : ℕ) → j < k → k < pathCount entries → pathOrigin entries j ≡ pathOrigin entries k → ⊥
+
 -- so many words are NONE
 abbrev pub NoneBelow : List ℕ → ℕ → Type 0
 NoneBelow work n = (i : ℕ) → i < n → getD work i 0 ≡ NONE

@@ -1,19 +1,15 @@
 // Rules 25 and 26: where the paths lead. The target of each node goes into the work words, nothing of the draft is written.
 ghost use mathlib.Core.Path.{_≡_};
 ghost use mathlib.Core.List.{List};
-ghost use mathlib.Core.Bool.{true};
 ghost use Prim.Native.Nat.{ℕ, _+_, _*_, _/_, _≤_, _<_};
 ghost use lib.ListN.{length};
 ghost use Rattle.image.specs.Sections.{nodeWords};
 ghost use Rattle.draft.specs.Source.{draftOf};
-ghost use Rattle.draft.specs.PathEntries.{pathsRise, Hinted};
 ghost use Rattle.walks.specs.Walk.{componentWords};
-ghost use Rattle.target_finding.specs.Targets.{lastIsIndex, needsContainer, targetRule, targetFound, pathList};
-ghost use Rattle.target_finding.specs.Finding.{ComponentsInside, OriginsInside, NoneBelow, targetBy, endOf, dueOf, endTarget, entryAnswer, AllFound};
+ghost use Rattle.target_finding.specs.Targets.{lastIsIndex, needsContainer, pathList};
+ghost use Rattle.target_finding.specs.Finding.{ComponentsInside, OriginsInside, OriginsApart, NoneBelow, endOf, dueOf, endTarget, entryAnswer, AllFound};
 use draft::path_list;
-use draft::path_list::Hint;
 use draft::path_list::PathEntry;
-use draft::path_list::PathPlace;
 use draft::source;
 use draft::source::Source;
 use image::NONE;
@@ -138,87 +134,6 @@ fn entry_target(
     )
 }
 
-// The target of node `i`, by its entry in the list.
-fn find_target(
-    nodes: &[u32],
-    children: &[u32],
-    named: &[u32],
-    strings: &[u8],
-    paths: &[u32],
-    components: &[u32],
-    names: &[u8],
-    i: usize,
-    hint: Hint,
-    source: Source,
-) -> Target
-    requires { ⌜ (i < length (now nodes) / nodeWords (source .version)) × Hinted (now paths) i hint × ComponentsInside (now paths) (now components) ⌝ }
-    ensures { λ r. ⌜ ((definitions items payload : List ℕ) → let s = draftOf (source .version) (now (nodes .entry)) (now (children .entry))
-        (now (named .entry)) definitions items payload (now (strings .entry)) in
-        let p = pathList (now (paths .entry)) (now (components .entry)) (now (names .entry)) in
-        r ≡ targetBy (targetRule s p i) (targetFound s p i)) ⌝ }
-{
-    match path_list::path_of(paths, i, hint) {
-        PathPlace::Nowhere => Target::At(NONE),
-        PathPlace::At(k) => {
-            let entry = path_list::entry_at(paths, k);
-            entry_target(
-                nodes,
-                children,
-                named,
-                strings,
-                entry,
-                components,
-                names,
-                source,
-            )
-        }
-    }
-}
-
-// What `targets_rule` answers, node by node.
-fn targets_by_nodes(
-    nodes: &[u32],
-    children: &[u32],
-    named: &[u32],
-    strings: &[u8],
-    paths: &[u32],
-    components: &[u32],
-    names: &[u8],
-    work: &mut [u32],
-    source: Source,
-) -> u32
-    requires { ⌜ (length (now nodes) / nodeWords (source .version) ≤ length (now work)) × ComponentsInside (now paths) (now components) ⌝ }
-    ensures { λ r. ⌜ ((definitions items payload : List ℕ) → let s = draftOf (source .version) (now (nodes .entry)) (now (children .entry))
-        (now (named .entry)) definitions items payload (now (strings .entry)) in
-        AllFound s (pathList (now (paths .entry)) (now (components .entry)) (now (names .entry))) (now (work .exit)) r) ⌝ }
-{
-    let count = source::node_count(nodes, source);
-    let mut hint = path_list::first_hint(paths);
-    let mut i = 0;
-    while i < count {
-        match find_target(
-            nodes,
-            children,
-            named,
-            strings,
-            paths,
-            components,
-            names,
-            i,
-            hint,
-            source,
-        ) {
-            Target::Refused(number) => return number,
-            Target::At(target) => {
-                work[i] = target;
-            }
-        }
-        hint = path_list::next_hint(paths, i, hint);
-        i += 1;
-    }
-    0
-}
-
 // NONE for the first `n` words.
 fn fill_none(work: &mut [u32], n: usize)
     requires { ⌜ n ≤ length (now work) ⌝ }
@@ -231,50 +146,8 @@ fn fill_none(work: &mut [u32], n: usize)
     }
 }
 
-// What `targets_rule` answers, entry by entry: where the nodes of the entries rise, the first that fails is the first node that does.
-fn targets_by_entries(
-    nodes: &[u32],
-    children: &[u32],
-    named: &[u32],
-    strings: &[u8],
-    paths: &[u32],
-    components: &[u32],
-    names: &[u8],
-    work: &mut [u32],
-    source: Source,
-) -> u32
-    requires { ⌜ (length (now nodes) / nodeWords (source .version) ≤ length (now work)) × ComponentsInside (now paths) (now components)
-        × OriginsInside (length (now nodes) / nodeWords (source .version)) (now paths) × (pathsRise (now paths) ≡ true) ⌝ }
-    ensures { λ r. ⌜ ((definitions items payload : List ℕ) → let s = draftOf (source .version) (now (nodes .entry)) (now (children .entry))
-        (now (named .entry)) definitions items payload (now (strings .entry)) in
-        AllFound s (pathList (now (paths .entry)) (now (components .entry)) (now (names .entry))) (now (work .exit)) r) ⌝ }
-{
-    fill_none(work, source::node_count(nodes, source));
-    let count = path_list::path_count(paths);
-    let mut k = 0;
-    while k < count {
-        let entry = path_list::entry_at(paths, k);
-        match entry_target(
-            nodes,
-            children,
-            named,
-            strings,
-            entry,
-            components,
-            names,
-            source,
-        ) {
-            Target::Refused(number) => return number,
-            Target::At(target) => {
-                work[entry.node as usize] = target;
-            }
-        }
-        k += 1;
-    }
-    0
-}
-
-// The number of the first node whose path breaks a rule, else 0, and then the target of each node stands in the work word of its number.
+// The number of the first node whose path breaks a rule, else 0, and then the target of each node stands in the work word of its number. The
+// entries are gone through once, in their order, which may be any.
 pub fn targets_rule(
     nodes: &[u32],
     children: &[u32],
@@ -287,34 +160,41 @@ pub fn targets_rule(
     source: Source,
 ) -> u32
     requires { ⌜ (length (now nodes) / nodeWords (source .version) ≤ length (now work)) × ComponentsInside (now paths) (now components)
-        × OriginsInside (length (now nodes) / nodeWords (source .version)) (now paths) ⌝ }
+        × OriginsInside (length (now nodes) / nodeWords (source .version)) (now paths) × OriginsApart (now paths) ⌝ }
     ensures { λ r. ⌜ ((definitions items payload : List ℕ) → let s = draftOf (source .version) (now (nodes .entry)) (now (children .entry))
         (now (named .entry)) definitions items payload (now (strings .entry)) in
         AllFound s (pathList (now (paths .entry)) (now (components .entry)) (now (names .entry))) (now (work .exit)) r) ⌝ }
 {
-    let hint = path_list::first_hint(paths);
-    if hint.rises {
-        return targets_by_entries(
+    let total = source::node_count(nodes, source);
+    fill_none(work, total);
+    let count = path_list::path_count(paths);
+    let mut failing = total;
+    let mut answer = 0;
+    let mut k = 0;
+    while k < count {
+        let entry = path_list::entry_at(paths, k);
+        let node = entry.node as usize;
+        k += 1;
+        match entry_target(
             nodes,
             children,
             named,
             strings,
-            paths,
+            entry,
             components,
             names,
-            work,
             source,
-        );
+        ) {
+            Target::Refused(number) => {
+                if node < failing {
+                    failing = node;
+                    answer = number;
+                }
+            }
+            Target::At(target) => {
+                work[node] = target;
+            }
+        }
     }
-    targets_by_nodes(
-        nodes,
-        children,
-        named,
-        strings,
-        paths,
-        components,
-        names,
-        work,
-        source,
-    )
+    answer
 }

@@ -19,7 +19,7 @@ use Rattle.draft.specs.PathList.{listRight, listed, mayFollow, follows}
 use Rattle.draft_image.proofs.Joins.{even-read, even-len}
 use Rattle.target_finding.specs.Targets.{PathList, targetFound, followedWord, resolvedWord, resolvedNode, resolvedNodes}
 use Rattle.target_setting.specs.Setting.{followerTag, setWord, Settable, AllSet}
-use Rattle.target_setting.proofs.RightEntries.{entry-right, origins-inside}
+use Rattle.target_setting.proofs.RightEntries.{origins-inside, origins-apart}
 
 -- ---- words by node and place
 
@@ -72,7 +72,7 @@ module _ (s : Sections) (p : PathList) where
           followers = λ i h. by-follows i h (follows s (p .entries) i) refl;
           has = λ i h. by-listed i h (follows s (p .entries) i) refl;
           inside = origins-inside (nodeCount s) m (p .entries) l;
-          apart = λ j k b h. entry-right (nodeCount s) m (p .entries) l k h .new j b;
+          apart = origins-apart (nodeCount s) m (p .entries) l;
         }
 
     set-word : (i k : ℕ) → i < nodeCount s → setWord (tagOf s i) (getD work i 0) k (nodeWord s i k) ≡ resolvedWord s p i k

@@ -10,7 +10,7 @@ use Rattle.laws.proofs.Flags.{both-true, all-at}
 use Rattle.image.specs.Sections.{insideAmong}
 use Rattle.image.proofs.Tests.{inside-true}
 use Rattle.draft.specs.PathList.{pathEntryWords, newOrigin, pathCount, pathWord, pathOrigin, pathRight, listRight}
-use Rattle.target_finding.specs.Finding.{OriginsInside}
+use Rattle.target_finding.specs.Finding.{OriginsInside, OriginsApart}
 
 pub record EntryRight (n m : ℕ) (entries : List ℕ) (k : ℕ) : Type 0 where
   pub inside : pathOrigin entries k < n
@@ -33,3 +33,6 @@ entry-right n m entries h k l =
 
 pub origins-inside : (n m : ℕ) (entries : List ℕ) → listRight n m entries ≡ true → OriginsInside n entries
 origins-inside n m entries h k l = entry-right n m entries h k l .inside
+
+pub origins-apart : (n m : ℕ) (entries : List ℕ) → listRight n m entries ≡ true → OriginsApart entries
+origins-apart n m entries h j k b l = entry-right n m entries h k l .new j b

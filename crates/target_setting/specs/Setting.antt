@@ -8,10 +8,10 @@ use lib.Dec.{eqb}
 use Rattle.words.specs.Words.{NONE, isNone}
 use Rattle.image.specs.Sections.{nodeWords}
 use Rattle.image.specs.Tags.{choiceTag, divertTag, targetTag, referenceTag}
-use Rattle.draft.specs.PathList.{pathCount, pathOrigin, listed}
+use Rattle.draft.specs.PathList.{listed}
 use Rattle.draft.specs.Source.{wordOf}
 use Rattle.target_finding.specs.Targets.{followedWord}
-use Rattle.target_finding.specs.Finding.{OriginsInside}
+use Rattle.target_finding.specs.Finding.{OriginsInside, OriginsApart}
 
 -- a node of this tag may follow a path
 unfoldable pub followerTag : ℕ → Bool
@@ -34,7 +34,7 @@ pub record Settable (version : ℕ) (paths nodes work : List ℕ) : Type 0 where
   pub followers : (i : ℕ) → i < length nodes / nodeWords version → (getD work i 0 ≡ NONE → ⊥) → followerTag (wordOf version nodes i 2) ≡ true
   pub has : (i : ℕ) → i < length nodes / nodeWords version → (getD work i 0 ≡ NONE → ⊥) → listed paths i ≡ true
   pub inside : OriginsInside (length nodes / nodeWords version) paths
-  pub apart : (j k : ℕ) → j < k → k < pathCount paths → pathOrigin paths j ≡ pathOrigin paths k → ⊥
+  pub apart : OriginsApart paths
 
 -- every node is set by its work word
 pub record AllSet (version : ℕ) (nodes₀ work nodes : List ℕ) : Type 0 where
