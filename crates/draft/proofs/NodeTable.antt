@@ -1,33 +1,34 @@
 -- The loop over a draft's nodes: what it is told of each node, and what it has shown when it has passed some.
 use Prim.Native.Nat.{ℕ, zero, suc, _+_, _≤_, _<_}
 use mathlib.Core.Path.{_≡_, refl, sym, ap, _∙_}
+use mathlib.Core.Logic.{inl}
 use mathlib.Core.List.{List, []}
-use mathlib.Core.Bool.{Bool, true, false, cond, _||_}
+use mathlib.Core.Bool.{Bool, true, false, cond, not, _||_}
 use native.Mathlib.Omega.{arith}
 use native.Mathlib.Numerals.{add-one}
 use lib.Dec.{eqb}
 use borrow.Author.Tests.{eq-eqb, ne-eqb}
-use Rattle.laws.specs.Refusal.{unless, countsAs, _▸_, firstOf}
+use Rattle.laws.specs.Refusal.{unless, countsAs, passes, _▸_, firstOf}
 use Rattle.laws.specs.Counted.{sumOf}
-use Rattle.laws.proofs.First.{both, second, pass, fail, as-zero, zero-as, first-next}
-use Rattle.laws.proofs.Chains.{refused, first-broken, first-done}
+use Rattle.laws.proofs.First.{both, second, pass, fail, as-zero, first-next}
+use Rattle.laws.proofs.Chains.{stop, go, refused, first-broken, first-done}
 use Rattle.image.specs.declared.EntryCounts.{EntryCounts}
 use Rattle.image.specs.declared.NodeRecord.{NodeRecord}
 use Rattle.image.specs.Sections.{Sections, nodeCount, nodeWord, parentOf, inside, insideAmong, isContainer}
 use Rattle.image.specs.Entries.{nodeIn, recordOf}
-use Rattle.image.specs.Tags.{containerTag}
 use Rattle.image.proofs.Entries.{node-record}
 use Rattle.records.specs.declared.Sums.{Sums}
 use Rattle.records.specs.Fields.{kindOf}
 use Rattle.records.specs.Records.{targetIn, containerOf, containersBefore, usedUp}
-use Rattle.records.specs.Shown.{Shows, tagIn, sumsBefore, fieldsBy}
-use Rattle.records.proofs.ByKind.{counts-kept, shown-fields}
+use Rattle.records.specs.Shown.{Shows, tagIn, sumsBefore, choiceRule, referenceRule, fieldsBy}
+use Rattle.records.proofs.ByKind.{counts-kept, shown-fields, target-second, target-fourth, at-choice, at-reference}
 use Rattle.records.proofs.PassedRules.{first-sums}
 use Rattle.draft.specs.Needs.{draftCounts}
 use Rattle.draft.specs.Source.{NodesFrom, draftOf}
 use Rattle.draft.specs.PathList.{follows, pathFieldsRule, pathNodeRule}
-use Rattle.draft.specs.PathEntries.{rootTarget, testedRecord, testedTag}
-use Rattle.draft.proofs.PathTables.{followed, path-fields-free, path-fields-own, free-fields}
+use Rattle.draft.specs.PathEntries.{followerRight}
+use Rattle.draft.proofs.Runs.{as-passes}
+use Rattle.draft.proofs.PathTables.{followed, path-fields-free, path-fields-own, follower-fields}
 
 -- ---- what is told of node i
 
@@ -52,27 +53,16 @@ module _ {v : ℕ} (s : Sections) (ns ps ts : List ℕ) (counts : EntryCounts) (
           strings = sym (g .strings-are);
         }
 
-    -- the rules of its fields, of the record and the tag that are tested
-    module _ (entries : List ℕ) (sums : Sums) (u : sums ≡ sumsBefore s i) (tested : NodeRecord) (tag : ℕ) where
-      fields-free : 0 < nodeCount s → follows s entries i ≡ true → tested ≡ rootTarget r → tag ≡ containerTag
-          → fieldsBy (kindOf (tested .tag)) tested counts sums tag ps ts ≡ pathFieldsRule s entries i
-      unfolding rootTarget
-      fields-free some h e t =
-          let same : tested ≡ rootTarget (nodeIn s i) = e ∙ ap rootTarget node in
-          (λ j. fieldsBy (kindOf (same j .tag)) (same j) counts sums (t j) ps (sym (g .strings-are) j))
-          ∙ free-fields s i some (followed s entries i h) counts count-is sums ps ∙ sym (path-fields-free s entries i h)
+    -- whether its fields are right, by whether it follows a path
+    pub fields-free : (entries : List ℕ) → follows s entries i ≡ true → (b : Bool) → b ≡ followerRight r ts → b ≡ passes (pathFieldsRule s entries i)
+    fields-free entries h b e =
+        e ∙ (λ j. followerRight (node j) (sym (g .strings-are) j)) ∙ follower-fields s i (followed s entries i h) ∙ ap passes (sym (path-fields-free s entries i h))
 
-      fields-own : follows s entries i ≡ false → tested ≡ r → tag ≡ tagIn (draftOf v ns [] [] [] [] [] []) (targetIn r (kindOf (r .tag)))
-          → fieldsBy (kindOf (tested .tag)) tested counts sums tag ps ts ≡ pathFieldsRule s entries i
-      fields-own h e t =
-          ap (λ (x : NodeRecord). fieldsBy (kindOf (x .tag)) x counts sums tag ps ts) e
-          ∙ shown-fields s i r counts sums tag ps ts (fields-told sums tag u t) ∙ sym (path-fields-own s entries i h)
-
-      pub fields-tested : 0 < nodeCount s → (follow : Bool) → follow ≡ follows s entries i → tested ≡ testedRecord follow r
-          → tag ≡ testedTag follow (tagIn (draftOf v ns [] [] [] [] [] []) (targetIn r (kindOf (r .tag)))) → (x : ℕ)
-          → x ≡ fieldsBy (kindOf (tested .tag)) tested counts sums tag ps ts → x ≡ pathFieldsRule s entries i
-      fields-tested some true h e t x q = q ∙ fields-free some (sym h) e t
-      fields-tested some false h e t x q = q ∙ fields-own (sym h) e t
+    pub fields-own : (entries : List ℕ) (sums : Sums) → sums ≡ sumsBefore s i → follows s entries i ≡ false → (x : ℕ)
+        → x ≡ fieldsBy (kindOf (r .tag)) r counts sums (tagIn (draftOf v ns [] [] [] [] [] []) (targetIn r (kindOf (r .tag)))) ps ts
+        → passes x ≡ passes (pathFieldsRule s entries i)
+    fields-own entries sums u h x e =
+        ap passes (e ∙ shown-fields s i r counts sums _ ps ts (fields-told sums _ u refl) ∙ sym (path-fields-own s entries i h))
 
     parent-told : (b : Bool) → b ≡ insideAmong (counts .nodes) (r .parent) → b ≡ inside s (parentOf s i)
     parent-told b e =
@@ -80,34 +70,44 @@ module _ {v : ℕ} (s : Sections) (ns ps ts : List ℕ) (counts : EntryCounts) (
 
     -- ---- the rules of node i by the answers of their tests
 
-    as-refused : (k x : ℕ) → (x ≡ 0 → ⊥) → k ≡ countsAs k x
-    unfolding countsAs
-    as-refused k zero d = absurd (d refl)
-    as-refused k (suc x) d = refl
-
-    pub fields-wrong : (entries : List ℕ) (x : ℕ) → x ≡ pathFieldsRule s entries i → (x ≡ 0 → ⊥) → 19 ≡ pathNodeRule s entries i
-    unfolding pathNodeRule
-    fields-wrong entries x e d =
-        refused (countsAs 19 (pathFieldsRule s entries i)) (unless (eqb i 0 || inside s (parentOf s i)) 19) 19
-        (as-refused 19 (pathFieldsRule s entries i) (λ z. d (e ∙ z))) (λ q. omega arith)
-
-    module _ (entries : List ℕ) (x : ℕ) (e : x ≡ pathFieldsRule s entries i) (z : x ≡ 0) where
-      past-fields : pathNodeRule s entries i ≡ unless (eqb i 0 || inside s (parentOf s i)) 19
+    module _ (entries : List ℕ) (a : Bool) (e : a ≡ passes (pathFieldsRule s entries i)) where
+      pub fields-wrong : not a ≡ true → 19 ≡ pathNodeRule s entries i
       unfolding pathNodeRule
-      past-fields = second (countsAs 19 (pathFieldsRule s entries i)) (unless (eqb i 0 || inside s (parentOf s i)) 19) (zero-as 19 (pathFieldsRule s entries i) (sym e ∙ z))
+      fields-wrong q = rw (as-passes 19 (pathFieldsRule s entries i)) (stop (passes (pathFieldsRule s entries i)) a 19 _ refl e q)
 
-      pub root-passes : i ≡ 0 → 0 ≡ pathNodeRule s entries i
-      root-passes q = sym (past-fields ∙ pass (eqb i 0 || inside s (parentOf s i)) 19 (rw (eq-eqb i 0 q) refl))
+      module _ (q : not a ≡ false) where
+        past-fields : (x : ℕ) → x ≡ unless (eqb i 0 || inside s (parentOf s i)) 19 → x ≡ pathNodeRule s entries i
+        unfolding pathNodeRule
+        past-fields x h = rw (as-passes 19 (pathFieldsRule s entries i)) (go (passes (pathFieldsRule s entries i)) a 19 _ x e q h)
 
-      module _ (d : i ≡ 0 → ⊥) (b : Bool) (p : b ≡ insideAmong (counts .nodes) (r .parent)) where
-        by-parent : (eqb i 0 || inside s (parentOf s i)) ≡ b
-        by-parent = rw (ne-eqb i 0 d) (sym (parent-told b p))
+        pub root-passes : i ≡ 0 → 0 ≡ pathNodeRule s entries i
+        root-passes z = past-fields 0 (sym (pass (eqb i 0 || inside s (parentOf s i)) 19 (rw (eq-eqb i 0 z) refl)))
 
-        pub parent-passes : b ≡ true → 0 ≡ pathNodeRule s entries i
-        parent-passes q = sym (past-fields ∙ pass (eqb i 0 || inside s (parentOf s i)) 19 (by-parent ∙ q))
+        module _ (d : i ≡ 0 → ⊥) (b : Bool) (p : b ≡ insideAmong (counts .nodes) (r .parent)) where
+          by-parent : (eqb i 0 || inside s (parentOf s i)) ≡ b
+          by-parent = rw (ne-eqb i 0 d) (sym (parent-told b p))
 
-        pub parent-wrong : b ≡ false → 19 ≡ pathNodeRule s entries i
-        parent-wrong q = sym (past-fields ∙ fail (eqb i 0 || inside s (parentOf s i)) 19 (by-parent ∙ q))
+          pub parent-passes : b ≡ true → 0 ≡ pathNodeRule s entries i
+          parent-passes k = past-fields 0 (sym (pass (eqb i 0 || inside s (parentOf s i)) 19 (by-parent ∙ k)))
+
+          pub parent-wrong : b ≡ false → 19 ≡ pathNodeRule s entries i
+          parent-wrong k = past-fields 19 (sym (fail (eqb i 0 || inside s (parentOf s i)) 19 (by-parent ∙ k)))
+
+-- ---- the rules that ask for the tag of a target
+
+module _ (d : Sections) (r : NodeRecord) (counts : EntryCounts) (sums : Sums) (ps ts : List ℕ) (tag x : ℕ) where
+  abbrev Own : Type 0
+  Own = x ≡ fieldsBy (kindOf (r .tag)) r counts sums (tagIn d (targetIn r (kindOf (r .tag)))) ps ts
+
+  pub own-choice : r .tag ≡ 2 → tag ≡ tagIn d (r .f2) → x ≡ choiceRule r (counts .nodes) tag ts → Own
+  own-choice e t h =
+      h ∙ ap (λ (n : ℕ). choiceRule r (counts .nodes) n ts) (t ∙ ap (tagIn d) (target-second r (r .tag) (inl e)))
+      ∙ at-choice r counts sums _ ps ts e
+
+  pub own-reference : r .tag ≡ 17 → tag ≡ tagIn d (r .f4) → x ≡ referenceRule r (counts .nodes) tag ts → Own
+  own-reference e t h =
+      h ∙ ap (λ (n : ℕ). referenceRule r (counts .nodes) n ts) (t ∙ ap (tagIn d) (target-fourth r (r .tag) e))
+      ∙ at-reference r counts sums _ ps ts e
 
 -- ---- the loop
 

@@ -152,7 +152,7 @@ module _ (entries : List ℕ) (i : ℕ) (h : Hint) (t : Hinted entries i h) (y :
     pub hint-room : h .next < pathCount entries
     hint-room = there .0
 
-    pub hint-steps : Hinted entries (i + 1) (record { rises = true; next = h .next + 1 })
+    pub hint-steps : Hinted entries (i + 1) (record { rises = h .rises; next = h .next + 1 })
     hint-steps = record { order = λ z. t .order y; below = λ z k l. lower k l (ℕ-discrete k (h .next)); above = λ z k l c. let a = above k (omega arith) c in omega arith }
       where
         lower : (k : ℕ) → k < h .next + 1 → Dec (k ≡ h .next) → pathOrigin entries k < i + 1

@@ -1,25 +1,22 @@
--- Row 19 with a list of paths: the nodes that follow a path, the test of their other fields, and what a draft that passes has.
-use Prim.Native.Nat.{ℕ, suc, _/_, _%_, _<_}
+-- Row 19 with a list of paths: the nodes that follow a path, the tests of their other fields, and what a draft that passes has.
+use Prim.Native.Nat.{ℕ, suc, _/_, _%_}
 use mathlib.Core.Path.{_≡_, refl, sym, ap, _∙_}
 use mathlib.Core.Logic.{_⊎_, inl, inr}
 use mathlib.Core.List.{List, []}
 use mathlib.Core.Bool.{Bool, true, false, _&&_, _||_, not, true≢false}
 use native.Mathlib.Omega.{arith}
-use lib.Dec.{eqb}
-use borrow.Author.Tests.{eqb-true, eq-eqb, ne-eqb, lt-ltb, not-true, not-false}
-use Rattle.laws.specs.Refusal.{unless}
+use lib.Dec.{leb, eqb}
+use borrow.Author.Tests.{eqb-true, ne-eqb, not-true, not-false}
+use Rattle.laws.specs.Refusal.{unless, passes, _▸_}
 use Rattle.laws.specs.Counted.{lastOf}
 use Rattle.laws.proofs.Flags.{both-true}
-use Rattle.laws.proofs.Chains.{skip, last}
-use Rattle.image.specs.declared.EntryCounts.{EntryCounts}
 use Rattle.image.specs.declared.NodeRecord.{NodeRecord}
 use Rattle.image.specs.Entries.{nodeIn}
-use Rattle.image.specs.Sections.{Sections, nodeCount, tagOf, insideAmong, isContainer}
-use Rattle.image.specs.Tags.{containerTag}
+use Rattle.image.specs.Sections.{Sections, tagOf, f, isContainer, absent, goodIn, optionalIn}
 use Rattle.records.specs.declared.Sums.{Sums}
-use Rattle.records.specs.Fields.{kindOf, kinds, fields}
-use Rattle.records.specs.Records.{targetIn, fieldsAt, fieldRule, firstField, fieldsRule}
-use Rattle.records.specs.Shown.{tagIn, sumsBefore, sumsAfter, choiceRule, divertRule, targetRule, referenceRule, fieldsBy}
+use Rattle.records.specs.Fields.{kinds, fields}
+use Rattle.records.specs.Records.{fieldsAt, fieldRule, firstField, fieldsRule}
+use Rattle.records.specs.Shown.{sumsBefore, sumsAfter}
 use Rattle.records.proofs.ByKind.{after-other}
 use Rattle.records.proofs.PassedRules.{sums-other, shown-sums}
 use Rattle.tree.specs.Parts.{Fit}
@@ -27,7 +24,7 @@ use Rattle.draft.specs.declared.path_list.PathPlace.{PathPlace}
 use Rattle.draft.specs.declared.path_list.PathPlace.the-variants.{At, Nowhere}
 use Rattle.draft.specs.Draft.{draftNodeRule, tablesRule}
 use Rattle.draft.specs.PathList.{pathOf, listed, mayFollow, plainDivert, follows, withoutTarget, pathFieldsRule, pathNodeRule, pathTablesRule}
-use Rattle.draft.specs.PathEntries.{foundPath, rootTarget, testedRecord, testedTag}
+use Rattle.draft.specs.PathEntries.{foundPath, followerRight}
 use Rattle.draft.specs.Shown.{TablesPassed}
 use Rattle.draft.proofs.Rules.{Entries, TablesBy, tables-by, whole-by, tables-fit}
 use Rattle.draft.proofs.Row21.{tables-passed}
@@ -118,61 +115,98 @@ module _ (entries : List ℕ) (i : ℕ) (place : PathPlace) (e : foundPath place
   pub follows-nowhere : place ≡ Nowhere → false ≡ (listed entries i && mayFollow node)
   follows-nowhere p = rw (← e, p) refl
 
--- ---- what is tested of a node, by the tests that the code makes
+-- ---- the fields of a node that follows a path, the target aside, by the tests that the code makes
 
-module _ (follow : Bool) (r : NodeRecord) where
-  pub tested-own : not follow ≡ true → r ≡ testedRecord follow r
-  tested-own h = rw (not-true follow h)
+module _ (r : NodeRecord) (ts : List ℕ) where
+  pub choice-right : r .tag ≡ 2 → (b : Bool) → b ≡ optionalIn ts (r .f0) (r .f1) → b ≡ followerRight r ts
+  unfolding followerRight
+  choice-right e b h = rw e h
 
-  pub tested-reference : not follow ≡ false → r .tag ≡ 17
-      → record { parent = r .parent; place = r .place; tag = r .tag; f0 = r .f0; f1 = r .f1; f2 = r .f2; f3 = r .f3; f4 = 0; f5 = r .f5; f6 = r .f6 } ≡ testedRecord follow r
-  unfolding rootTarget
-  tested-reference h e = rw (not-false follow h, eq-eqb (r .tag) 17 e)
+  module _ (e : r .tag ≡ 4) (b : Bool) (h : b ≡ optionalIn ts (r .f0) (r .f1)) where
+    pub divert-wrong : not b ≡ true → false ≡ followerRight r ts
+    unfolding followerRight
+    divert-wrong q = rw (e, ← h, not-true b q)
 
-  pub tested-other : not follow ≡ false → (r .tag ≡ 17 → ⊥)
-      → record { parent = r .parent; place = r .place; tag = r .tag; f0 = r .f0; f1 = r .f1; f2 = 0; f3 = r .f3; f4 = r .f4; f5 = r .f5; f6 = r .f6 } ≡ testedRecord follow r
-  unfolding rootTarget
-  tested-other h d = rw (not-false follow h, ne-eqb (r .tag) 17 d)
+    pub divert-right : not b ≡ false → leb (r .f6) 23 ≡ followerRight r ts
+    unfolding followerRight
+    divert-right q = rw (e, ← h, not-false b q)
 
-pub tag-own : (follow : Bool) → follow ≡ false → (s : Sections) (r : NodeRecord) (target tag : ℕ) → target ≡ targetIn r (kindOf (r .tag)) → tag ≡ tagIn s target
-    → tag ≡ testedTag follow (tagIn s (targetIn r (kindOf (r .tag))))
-tag-own follow h s r target tag t e = rw h (e ∙ ap (tagIn s) t)
+  module _ (e : r .tag ≡ 17) (b : Bool) (h : b ≡ goodIn ts (r .f0) (r .f1)) where
+    pub reference-wrong : not b ≡ true → false ≡ followerRight r ts
+    unfolding followerRight
+    reference-wrong q = rw (e, ← h, not-true b q)
 
--- ---- the other fields of a node that follows a path: the rules by kind, of the record that has the root for its target
+    pub reference-right : not b ≡ false → (a : Bool) → a ≡ optionalIn ts (r .f2) (r .f3) → a ≡ followerRight r ts
+    unfolding followerRight
+    reference-right q a k = rw (e, ← h, not-false b q) k
 
-module _ (s : Sections) (i : ℕ) (c : EntryCounts) (u : Sums) (ps : List ℕ) (there : insideAmong (c .nodes) 0 ≡ true) where
-  abbrev Free : Type 0
-  Free = fieldsBy (kindOf (tagOf s i)) (rootTarget (nodeIn s i)) c u containerTag ps (s .strings) ≡ firstField s i (withoutTarget (fieldsAt s i))
+  pub target-right : (r .tag ≡ 2 → ⊥) → (r .tag ≡ 4 → ⊥) → (r .tag ≡ 17 → ⊥) → (b : Bool) → b ≡ goodIn ts (r .f0) (r .f1) → b ≡ followerRight r ts
+  unfolding followerRight
+  target-right x y z b h = rw (ne-eqb (r .tag) 2 x, ne-eqb (r .tag) 4 y, ne-eqb (r .tag) 17 z) h
 
-  choice-free : tagOf s i ≡ 2 → Free
-  unfolding unless rootTarget fieldsBy kinds choiceRule firstField fieldRule fields withoutTarget
-  choice-free e = rw (e, there) (simp (skip, last))
+-- ---- these tests are the rules of its fields without the target
 
-  divert-free : tagOf s i ≡ 4 → Free
-  unfolding unless rootTarget fieldsBy kinds divertRule firstField fieldRule fields withoutTarget
-  divert-free e = rw (e, there) (simp (skip, last))
+-- a text; a text before a word that may be any; two texts; a text, an absent one and flags
+text-passes : (a : Bool) → a ≡ passes (unless a 10 ▸ 0)
+unfolding unless _▸_
+text-passes true = refl
+text-passes false = refl
 
-  target-free : tagOf s i ≡ 13 → Free
-  unfolding unless rootTarget fieldsBy kinds targetRule firstField fieldRule fields withoutTarget
-  target-free e = rw (e, there) (simp last)
+word-passes : (a : Bool) → a ≡ passes (unless a 10 ▸ 0 ▸ 0)
+unfolding _▸_
+word-passes a = text-passes a
 
-  reference-free : tagOf s i ≡ 17 → Free
-  unfolding unless rootTarget fieldsBy kinds referenceRule firstField fieldRule fields withoutTarget
-  reference-free e = rw (e, there) (simp last)
+texts-pass : (a b : Bool) → (a && b) ≡ passes (unless a 10 ▸ unless b 10 ▸ 0)
+unfolding unless _▸_
+texts-pass true true = refl
+texts-pass true false = refl
+texts-pass false b = refl
 
-  by-tag : FollowTag (tagOf s i) → Free
-  by-tag (inl e) = choice-free e
-  by-tag (inr (inl e)) = divert-free e
-  by-tag (inr (inr (inl e))) = target-free e
-  by-tag (inr (inr (inr e))) = reference-free e
+flags-pass : (a b c : Bool) → b ≡ true → (a && c) ≡ passes (unless a 10 ▸ unless b 10 ▸ 0 ▸ unless c 12 ▸ 0)
+unfolding unless _▸_
+flags-pass true true true e = refl
+flags-pass true true false e = refl
+flags-pass true false c e = absurd (true≢false (sym e))
+flags-pass false b c e = refl
 
-pub free-fields : (s : Sections) (i : ℕ) → 0 < nodeCount s → mayFollow (nodeIn s i) ≡ true → (c : EntryCounts) → c .nodes ≡ nodeCount s
-    → (u : Sums) (ps : List ℕ)
-    → fieldsBy (kindOf (tagOf s i)) (rootTarget (nodeIn s i)) c u containerTag ps (s .strings) ≡ firstField s i (withoutTarget (fieldsAt s i))
-free-fields s i some h c e u ps = by-tag s i c u ps there (follow-tag (nodeIn s i) h)
+-- a divert that may follow a path has no variable
+no-variable : (r : NodeRecord) → mayFollow r ≡ true → r .tag ≡ 4 → absent (r .f3) (r .f4) ≡ true
+unfolding mayFollow
+no-variable r h e = go (not (eqb (r .f6 / 2 % 2) 1)) (absent (r .f3) (r .f4)) (rw e at h)
   where
-    there : insideAmong (c .nodes) 0 ≡ true
-    there = rw (e, lt-ltb 0 (nodeCount s) some)
+    go : (a b : Bool) → (a && b || false || false) ≡ true → b ≡ true
+    go true true q = refl
+    go true false q = absurd (true≢false (sym q))
+    go false b q = absurd (true≢false (sym q))
+
+module _ (s : Sections) (i : ℕ) where
+  abbrev Right : Type 0
+  Right = followerRight (nodeIn s i) (s .strings) ≡ passes (firstField s i (withoutTarget (fieldsAt s i)))
+
+  choice-fields : tagOf s i ≡ 2 → Right
+  unfolding followerRight kinds firstField fieldRule fields withoutTarget
+  choice-fields e = rw e (word-passes (optionalIn (s .strings) (f s i 0) (f s i 1)))
+
+  divert-fields : tagOf s i ≡ 4 → absent (f s i 3) (f s i 4) ≡ true → Right
+  unfolding followerRight kinds firstField fieldRule fields withoutTarget
+  divert-fields e a = rw e (flags-pass (optionalIn (s .strings) (f s i 0) (f s i 1)) (optionalIn (s .strings) (f s i 3) (f s i 4)) (leb (f s i 6) 23) (rw a))
+
+  target-fields : tagOf s i ≡ 13 → Right
+  unfolding followerRight kinds firstField fieldRule fields withoutTarget
+  target-fields e = rw e (text-passes (goodIn (s .strings) (f s i 0) (f s i 1)))
+
+  reference-fields : tagOf s i ≡ 17 → Right
+  unfolding followerRight kinds firstField fieldRule fields withoutTarget
+  reference-fields e = rw e (texts-pass (goodIn (s .strings) (f s i 0) (f s i 1)) (optionalIn (s .strings) (f s i 2) (f s i 3)))
+
+  pub follower-fields : mayFollow (nodeIn s i) ≡ true → followerRight (nodeIn s i) (s .strings) ≡ passes (firstField s i (withoutTarget (fieldsAt s i)))
+  follower-fields h = by (follow-tag (nodeIn s i) h)
+    where
+      by : FollowTag (tagOf s i) → Right
+      by (inl e) = choice-fields e
+      by (inr (inl e)) = divert-fields e (no-variable (nodeIn s i) h e)
+      by (inr (inr (inl e))) = target-fields e
+      by (inr (inr (inr e))) = reference-fields e
 
 -- ---- what a draft has that passes
 

@@ -95,6 +95,16 @@ module _ (v : ℕ) (ns ms ts : List ℕ) (i first j : ℕ) (b : Bool) (e : b ≡
 
 -- ---- the rules of node i
 
+-- one that is no container has no entries
+pub no-entries : (s : Sections) (i : ℕ) → (tagOf s i ≡ 1 → ⊥) → entriesRule s i ≡ 0
+unfolding entriesRule numberOfChildren numberOfNamed firstOf _▸_
+no-entries s i d =
+    ap (λ (t : Bool). firstOf (cond t (f s i 4) 0) (childRule s i) ▸ firstOf (cond t (f s i 6) 0) (namedRule s i)) (ne-eqb (tagOf s i) 1 d)
+
+pub plain-entries : (v : ℕ) (ns cs ms ts : List ℕ) (i tag : ℕ) → tag ≡ wordOf v ns i 2 → (tag ≡ 1 → ⊥) → entriesRule (draftOf v ns cs ms [] [] [] ts) i ≡ 0
+unfolding nodeWord
+plain-entries v ns cs ms ts i tag e d = no-entries (draftOf v ns cs ms [] [] [] ts) i (λ q. d (e ∙ q))
+
 module _ {v : ℕ} (ns cs ms ts : List ℕ) (g : TreePassed (draftOf v ns cs ms [] [] [] ts)) (i : ℕ) (h : i < length ns / nodeWords v) (r : NodeRecord)
     (node : r ≡ nodeIn (draftOf v ns cs ms [] [] [] ts) i) where
   abbrev s : Sections
@@ -182,9 +192,7 @@ module _ {v : ℕ} (ns cs ms ts : List ℕ) (g : TreePassed (draftOf v ns cs ms 
   -- ---- its entries, by the answers
 
   pub plain-node : (r .tag ≡ 1 → ⊥) → true ≡ passes (entriesRule s i)
-  unfolding entriesRule numberOfChildren numberOfNamed firstOf _▸_
-  plain-node d =
-      sym (ap (λ (t : Bool). passes (firstOf (cond t (f s i 4) 0) (childRule s i) ▸ firstOf (cond t (f s i 6) 0) (namedRule s i))) (ne-eqb (tagOf s i) 1 (λ q. d (node-words .tag ∙ q))))
+  plain-node d = sym (ap passes (no-entries s i (λ q. d (node-words .tag ∙ q))))
 
   module _ (t : r .tag ≡ 1) where
     by-tests : passes (entriesRule s i) ≡ (children-tests t && named-tests t)

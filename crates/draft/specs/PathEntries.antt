@@ -2,12 +2,13 @@
 use Prim.Native.Nat.{ℕ, suc, _-_, _≤_, _<_}
 use mathlib.Core.Path.{_≡_}
 use mathlib.Core.List.{List}
-use mathlib.Core.Bool.{Bool, true, cond}
+use mathlib.Core.Bool.{Bool, true, cond, _&&_}
 use mathlib.Core.Option.{Option, none, some}
-use lib.Dec.{ltb, eqb}
+use lib.Dec.{leb, ltb, eqb}
 use Rattle.laws.specs.Counted.{allOf}
 use Rattle.image.specs.declared.NodeRecord.{NodeRecord}
-use Rattle.image.specs.Tags.{containerTag, referenceTag}
+use Rattle.image.specs.Sections.{goodIn, optionalIn}
+use Rattle.image.specs.Tags.{choiceTag, divertTag, referenceTag}
 use Rattle.draft.specs.declared.path_list.PathEntry.{PathEntry}
 use Rattle.draft.specs.declared.path_list.PathPlace.{PathPlace}
 use Rattle.draft.specs.declared.path_list.PathPlace.the-variants.{At, Nowhere}
@@ -45,26 +46,13 @@ pub record Hinted (entries : List ℕ) (i : ℕ) (h : Hint) : Type 0 where
 
 -- ---- a node that follows a path
 
--- the record of a node that follows a path, with the root for its target: f4 of a reference, f2 of another
-unfoldable pub rootTarget : NodeRecord → NodeRecord
-rootTarget r =
-    let reference = eqb (r .tag) referenceTag in
-    record {
-      parent = r .parent;
-      place = r .place;
-      tag = r .tag;
-      f0 = r .f0;
-      f1 = r .f1;
-      f2 = cond reference (r .f2) 0;
-      f3 = r .f3;
-      f4 = cond reference 0 (r .f4);
-      f5 = r .f5;
-      f6 = r .f6;
-    }
-
--- what is tested of a node, by whether it follows a path: its record, and the tag of its target
-abbrev pub testedRecord : Bool → NodeRecord → NodeRecord
-testedRecord follow r = cond follow (rootTarget r) r
-
-abbrev pub testedTag : Bool → ℕ → ℕ
-testedTag follow tag = cond follow containerTag tag
+-- its fields are right, the target aside, of a record that may follow a path: the variable of such a divert is absent
+unfoldable pub followerRight : NodeRecord → List ℕ → Bool
+followerRight r strings =
+    cond (eqb (r .tag) choiceTag)
+    (optionalIn strings (r .f0) (r .f1))
+    (cond (eqb (r .tag) divertTag)
+    (optionalIn strings (r .f0) (r .f1) && leb (r .f6) 23)
+    (cond (eqb (r .tag) referenceTag)
+    (goodIn strings (r .f0) (r .f1) && optionalIn strings (r .f2) (r .f3))
+    (goodIn strings (r .f0) (r .f1))))

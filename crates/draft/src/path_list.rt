@@ -114,7 +114,7 @@ fn search_all(entries: &[u32], i: usize) -> PathPlace
 }
 
 // The entry of node `i`: the hinted one or none, where the nodes rise.
-pub fn path_of(entries: &[u32], i: usize, hint: Hint) -> PathPlace
+fn path_of(entries: &[u32], i: usize, hint: Hint) -> PathPlace
     requires { ⌜ Hinted (now entries) i hint ⌝ }
     ensures { λ r. ⌜ foundPath r ≡ pathOf (now (entries .entry)) i ⌝ }
 {
@@ -128,21 +128,18 @@ pub fn path_of(entries: &[u32], i: usize, hint: Hint) -> PathPlace
     }
 }
 
-// The hint for the node after node `i`, from that for node `i`.
-pub fn next_hint(entries: &[u32], i: usize, hint: Hint) -> Hint
+// Where the hint for the node after node `i` points, from that for node `i`.
+pub fn next_hint(entries: &[u32], i: usize, hint: Hint) -> usize
     requires { ⌜ Hinted (now entries) i hint ⌝ }
-    ensures { λ r. ⌜ Hinted (now (entries .entry)) (i + 1) r ⌝ }
+    ensures { λ r. ⌜ Hinted (now (entries .entry)) (i + 1) (record { rises = hint .rises; next = r }) ⌝ }
 {
     if !hint.rises {
-        return hint;
+        return hint.next;
     }
     if is_of(entries, hint.next, i) {
-        Hint {
-            rises: true,
-            next: hint.next + 1,
-        }
+        hint.next + 1
     } else {
-        hint
+        hint.next
     }
 }
 

@@ -216,9 +216,11 @@ pub fn entries_right(
     let count = source::node_count(nodes, source);
     let mut i = 0;
     while i < count {
-        let node = source::node_at(nodes, i, source);
-        if !node_entries_right(nodes, children, named, strings, node, i, source) {
-            return false;
+        if source::node_word(nodes, i, NodeRecord::TAG, source) == CONTAINER {
+            let node = source::node_at(nodes, i, source);
+            if !node_entries_right(nodes, children, named, strings, node, i, source) {
+                return false;
+            }
         }
         i += 1;
     }

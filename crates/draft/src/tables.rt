@@ -1,19 +1,20 @@
 // Row 19: a draft's tables. Every record rule holds, every text is good, and every number that should be a node's is one.
 ghost use mathlib.Core.Path.{_≡_};
 ghost use mathlib.Core.List.{List, []};
+ghost use mathlib.Core.Bool.{true};
 ghost use Prim.Native.Nat.{ℕ, _<_};
-ghost use Rattle.laws.specs.Refusal.{unless, _▸_, firstOf};
-ghost use Rattle.image.specs.Sections.{Sections, insideAmong, nodeCount, childCount, namedCount, definitionCount, itemCount, goodIn};
+ghost use Rattle.laws.specs.Refusal.{unless, passes, _▸_, firstOf};
+ghost use Rattle.image.specs.Sections.{Sections, insideAmong, nodeCount, childCount, namedCount, definitionCount, itemCount, goodBytes, goodIn};
 ghost use Rattle.image.specs.Entries.{nodeIn};
 ghost use Rattle.image.specs.Refusals.{badDraft};
 ghost use Rattle.records.specs.Fields.{kindOf};
 ghost use Rattle.records.specs.Records.{targetIn, usedUp};
-ghost use Rattle.records.specs.Shown.{sumsBefore, tagIn, startsNext};
+ghost use Rattle.records.specs.Shown.{sumsBefore, tagIn, startsNext, fieldsBy};
 ghost use Rattle.index.specs.Definitions.{itemsUsedUp};
 ghost use Rattle.draft.specs.Source.{NodesFrom, draftOf};
 ghost use Rattle.draft.specs.Draft.{wholeEntries, draftChildRule, draftNamedRule, draftDefinitionRule, draftItemRule};
-ghost use Rattle.draft.specs.PathList.{follows, pathNodeRule, pathTablesRule};
-ghost use Rattle.draft.specs.PathEntries.{testedRecord, testedTag};
+ghost use Rattle.draft.specs.PathList.{follows, pathFieldsRule, pathNodeRule, pathTablesRule};
+ghost use Rattle.draft.specs.PathEntries.{followerRight};
 use crate::entry_counts;
 use crate::path_list;
 use crate::source;
@@ -24,6 +25,7 @@ use image::ImageView;
 use image::NodeRecord;
 use image::TextEntry;
 use image::refusal::BAD_DRAFT;
+use image::refusal::BAD_TAG;
 use image::tag;
 use records::Sums;
 
@@ -53,31 +55,99 @@ fn whole_entries(
     source::node_count(nodes, source) != 0
 }
 
-// The record that is tested: that of a node that follows a path has the root for its target.
-fn tested_record(node: NodeRecord, follow: bool) -> NodeRecord
-    ensures { λ r. ⌜ r ≡ testedRecord follow node ⌝ }
+// Whether the fields of a node that follows a path are right, its target aside.
+fn follower_right(node: NodeRecord, strings: &[u8], whole: bool) -> bool
+    requires { ⌜ (whole ≡ true → goodBytes (now strings) ≡ true) ⌝ }
+    ensures { λ r. ⌜ r ≡ followerRight node (now (strings .entry)) ⌝ }
 {
-    let mut tested = node;
-    if !follow {
-        return tested;
+    let node_tag = node.tag;
+    match node_tag {
+        tag::CHOICE => image::good_optional(strings, node.f0, node.f1, whole),
+        tag::DIVERT => {
+            if !image::good_optional(strings, node.f0, node.f1, whole) {
+                return false;
+            }
+            node.f6 <= 23
+        }
+        tag::REFERENCE => {
+            if !image::good_within(strings, node.f0, node.f1, whole) {
+                return false;
+            }
+            image::good_optional(strings, node.f2, node.f3, whole)
+        }
+        _ => image::good_within(strings, node.f0, node.f1, whole),
     }
-    if node.tag == tag::REFERENCE {
-        tested.f4 = 0;
-        return tested;
-    }
-    tested.f2 = 0;
-    tested
 }
 
-// The tag of the target that is tested: for a node that follows a path that of a container, which no rule refuses.
-fn tested_tag(nodes: &[u32], node: NodeRecord, follow: bool, source: Source) -> u32
-    ensures { λ r. ⌜ r ≡ testedTag follow (tagIn (draftOf (source .version) (now (nodes .entry)) [] [] [] [] [] [])
-        (targetIn node (kindOf (node .tag)))) ⌝ }
+// The rules of the fields of a node that follows no path: the tag of its target is read only for a kind that asks for it.
+fn own_rule(
+    nodes: &[u32],
+    payload: &[u8],
+    strings: &[u8],
+    counts: EntryCounts,
+    sums: Sums,
+    node: NodeRecord,
+    source: Source,
+    whole: bool,
+) -> u32
+    requires { ⌜ (whole ≡ true → goodBytes (now strings) ≡ true) ⌝ }
+    ensures { λ r. ⌜ r ≡ fieldsBy (kindOf (node .tag)) node counts sums
+        (tagIn (draftOf (source .version) (now (nodes .entry)) [] [] [] [] [] []) (targetIn node (kindOf (node .tag))))
+        (now (payload .entry)) (now (strings .entry)) ⌝ }
+{
+    let node_tag = node.tag;
+    match node_tag {
+        tag::CONTAINER => records::container(node, counts, sums, strings, whole),
+        tag::CHOICE => records::choice(
+            node,
+            counts.nodes,
+            source::tag_at(nodes, node.f2, source),
+            strings,
+            whole,
+        ),
+        tag::DIVERT => records::divert(node, counts.nodes, strings, whole),
+        tag::GLUE | tag::VOID => 0,
+        tag::COMMAND | tag::STRING_VALUE | tag::POINTER_VALUE => {
+            records::text_only(node_tag, node.f0, node.f1, strings, whole)
+        }
+        tag::OPERATOR..=tag::TAG => records::text_only(node_tag, node.f0, node.f1, strings, whole),
+        tag::BOOL_VALUE => records::at_most(node.f0, 1),
+        tag::INT_VALUE..=tag::FLOAT_VALUE => 0,
+        tag::LIST_VALUE => records::list_value(node, sums, payload, strings),
+        tag::TARGET_VALUE => records::target_value(node, counts.nodes, strings, whole),
+        tag::ASSIGNMENT => records::assignment(node, strings, whole),
+        tag::REFERENCE => records::reference(
+            node,
+            counts.nodes,
+            source::tag_at(nodes, node.f4, source),
+            strings,
+            whole,
+        ),
+        _ => BAD_TAG,
+    }
+}
+
+// Whether the fields of a node are right, the target aside if it follows a path.
+fn fields_right(
+    nodes: &[u32],
+    payload: &[u8],
+    strings: &[u8],
+    counts: EntryCounts,
+    sums: Sums,
+    node: NodeRecord,
+    follow: bool,
+    source: Source,
+    whole: bool,
+) -> bool
+    requires { ⌜ (whole ≡ true → goodBytes (now strings) ≡ true) ⌝ }
+    ensures { λ r. ⌜ ((s : Sections) → NodesFrom s (source .version) (now (nodes .entry)) (now (payload .entry)) (now (strings .entry)) counts
+        → (i : ℕ) → sums ≡ sumsBefore s i → node ≡ nodeIn s i → (entries : List ℕ) → follow ≡ follows s entries i
+        → r ≡ passes (pathFieldsRule s entries i)) ⌝ }
 {
     if follow {
-        return tag::CONTAINER;
+        return follower_right(node, strings, whole);
     }
-    source::tag_at(nodes, records::target_of(node), source)
+    own_rule(nodes, payload, strings, counts, sums, node, source, whole) == 0
 }
 
 // The rules of node `i`: those of its fields, the target aside if it follows a path, and that its parent is a node, the root aside.
@@ -91,14 +161,24 @@ fn node_rule(
     node: NodeRecord,
     follow: bool,
     source: Source,
+    whole: bool,
 ) -> u32
+    requires { ⌜ (whole ≡ true → goodBytes (now strings) ≡ true) ⌝ }
     ensures { λ r. ⌜ ((s : Sections) → NodesFrom s (source .version) (now (nodes .entry)) (now (payload .entry)) (now (strings .entry)) counts
         → i < nodeCount s → sums ≡ sumsBefore s i → node ≡ nodeIn s i → (entries : List ℕ) → follow ≡ follows s entries i
         → r ≡ pathNodeRule s entries i) ⌝ }
 {
-    let tested = tested_record(node, follow);
-    let target_tag = tested_tag(nodes, node, follow, source);
-    if records::fields_rule(tested, counts, sums, target_tag, payload, strings) != 0 {
+    if !fields_right(
+        nodes,
+        payload,
+        strings,
+        counts,
+        sums,
+        node,
+        follow,
+        source,
+        whole,
+    ) {
         return BAD_DRAFT;
     }
     if i == 0 {
@@ -122,7 +202,9 @@ fn nodes_rule(
     strings: &[u8],
     paths: &[u32],
     source: Source,
+    whole: bool,
 ) -> u32
+    requires { ⌜ (whole ≡ true → goodBytes (now strings) ≡ true) ⌝ }
     ensures { λ r. ⌜ (let s = draftOf (source .version) (now (nodes .entry)) (now (children .entry)) (now (named .entry)) (now (definitions .entry))
         (now (items .entry)) (now (payload .entry)) (now (strings .entry)) in
         r ≡ (firstOf (nodeCount s) (pathNodeRule s (now (paths .entry))) ▸ unless (usedUp s) badDraft)) ⌝ }
@@ -139,11 +221,25 @@ fn nodes_rule(
     while i < counts.nodes {
         let node = source::node_at(nodes, i, source);
         let free = path_list::follows(paths, i, hint, node);
-        if node_rule(nodes, payload, strings, counts, sums, i, node, free, source) != 0 {
+        if node_rule(
+            nodes,
+            payload,
+            strings,
+            counts,
+            sums,
+            i,
+            node,
+            free,
+            source,
+            whole,
+        )
+            != 0
+        {
             return BAD_DRAFT;
         }
         sums = records::add(sums, node);
-        hint = path_list::next_hint(paths, i, hint);
+        let next = path_list::next_hint(paths, i, hint);
+        hint.next = next;
         i += 1;
     }
     if records::used_up(sums, counts) {
@@ -170,11 +266,12 @@ fn children_rule(nodes: &[u32], children: &[u32], source: Source) -> u32
 }
 
 // A named entry, where there are so many nodes: its text is good, and it names a node.
-fn entry_rule(entry: TextEntry, nodes: usize, strings: &[u8]) -> u32
+fn entry_rule(entry: TextEntry, nodes: usize, strings: &[u8], whole: bool) -> u32
+    requires { ⌜ (whole ≡ true → goodBytes (now strings) ≡ true) ⌝ }
     ensures { λ r. ⌜ r ≡ (unless (goodIn (now (strings .entry)) (entry .offset) (entry .len)) badDraft
         ▸ unless (insideAmong nodes (entry .value)) badDraft) ⌝ }
 {
-    if !image::good_text(strings, entry.offset, entry.len) {
+    if !image::good_within(strings, entry.offset, entry.len, whole) {
         return BAD_DRAFT;
     }
     if image::is_inside(nodes, entry.value) {
@@ -185,7 +282,8 @@ fn entry_rule(entry: TextEntry, nodes: usize, strings: &[u8]) -> u32
 }
 
 // The rules of every named entry.
-fn named_rule(nodes: &[u32], named: &[u32], strings: &[u8], source: Source) -> u32
+fn named_rule(nodes: &[u32], named: &[u32], strings: &[u8], source: Source, whole: bool) -> u32
+    requires { ⌜ (whole ≡ true → goodBytes (now strings) ≡ true) ⌝ }
     ensures { λ r. ⌜ (let s = draftOf (source .version) (now (nodes .entry)) [] (now (named .entry)) [] [] [] (now (strings .entry)) in
         r ≡ firstOf (namedCount s) (draftNamedRule s)) ⌝ }
 {
@@ -193,7 +291,7 @@ fn named_rule(nodes: &[u32], named: &[u32], strings: &[u8], source: Source) -> u
     let count = named.len() / ImageView::TEXT_ENTRY_WORDS;
     let mut j = 0;
     while j < count {
-        let refused = entry_rule(source::entry_at(named, j), nodes, strings);
+        let refused = entry_rule(source::entry_at(named, j), nodes, strings, whole);
         if refused != 0 {
             return refused;
         }
@@ -272,6 +370,7 @@ pub fn tables_rule(
     if !whole_entries(nodes, named, definitions, items, source) {
         return BAD_DRAFT;
     }
+    let whole = image::good_bytes(strings);
     let refused = nodes_rule(
         nodes,
         children,
@@ -282,6 +381,7 @@ pub fn tables_rule(
         strings,
         paths,
         source,
+        whole,
     );
     if refused != 0 {
         return refused;
@@ -290,7 +390,7 @@ pub fn tables_rule(
     if refused != 0 {
         return refused;
     }
-    let refused = named_rule(nodes, named, strings, source);
+    let refused = named_rule(nodes, named, strings, source, whole);
     if refused != 0 {
         return refused;
     }

@@ -1,5 +1,6 @@
 // A story image: its header, the sections that the header bounds, and how records are read out of them.
 ghost use mathlib.Core.Path.{_≡_};
+ghost use mathlib.Core.Bool.{true};
 ghost use Prim.Native.Nat.{_+_, _*_, _/_, _≤_, _<_};
 ghost use lib.ListN.{length, getD};
 ghost use Rattle.words.specs.Words.{wordsOf};
@@ -375,12 +376,48 @@ pub fn good_text(strings: &[u8], offset: u32, len: u32) -> bool
     }
 }
 
+// Whether a text is present, inside the strings, and cuts no sequence of theirs. Nothing is said of a text for which the answer is false.
+fn is_uncut(strings: &[u8], offset: u32, len: u32) -> bool
+    ensures { λ r. ⌜ (r ≡ true → goodBytes (now (strings .entry)) ≡ true → goodIn (now (strings .entry)) offset len ≡ true) ⌝ }
+{
+    if offset == NONE {
+        return false;
+    }
+    if len == NONE {
+        return false;
+    }
+    let start = offset as usize;
+    let end = start + len as usize;
+    if strings.len() < end {
+        return false;
+    }
+    if utf8::cuts(strings, start) {
+        return false;
+    }
+    !utf8::cuts(strings, end)
+}
+
+// The same as `good_text`. Where the strings are good as a whole, a text of theirs is good if it cuts no sequence, and its bytes are not read.
+pub fn good_within(strings: &[u8], offset: u32, len: u32, whole: bool) -> bool
+    requires { ⌜ (whole ≡ true → goodBytes (now strings) ≡ true) ⌝ }
+    ensures { λ r. ⌜ r ≡ goodIn (now (strings .entry)) offset len ⌝ }
+{
+    if !whole {
+        return good_text(strings, offset, len);
+    }
+    if is_uncut(strings, offset, len) {
+        return true;
+    }
+    good_text(strings, offset, len)
+}
+
 // Whether an optional text is absent or good; with one word NONE it is neither.
-pub fn good_optional(strings: &[u8], offset: u32, len: u32) -> bool
+pub fn good_optional(strings: &[u8], offset: u32, len: u32, whole: bool) -> bool
+    requires { ⌜ (whole ≡ true → goodBytes (now strings) ≡ true) ⌝ }
     ensures { λ r. ⌜ r ≡ optionalIn (now (strings .entry)) offset len ⌝ }
 {
     if offset != NONE {
-        return good_text(strings, offset, len);
+        return good_within(strings, offset, len, whole);
     }
     if len == NONE { true } else { false }
 }

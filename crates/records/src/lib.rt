@@ -12,14 +12,14 @@ use image::refusal::BAD_TEXT;
 use image::tag;
 use names::Number;
 ghost use mathlib.Core.Path.{_≡_};
-ghost use mathlib.Core.Bool.{_||_};
+ghost use mathlib.Core.Bool.{true, _||_};
 ghost use Prim.Native.Nat.{_<_};
 ghost use lib.Dec.{leb};
 ghost use Rattle.laws.specs.Refusal.{unless};
 ghost use Rattle.words.specs.Words.{isNone};
 ghost use Rattle.texts.specs.Text.{holds};
 ghost use Rattle.names.specs.Names.{commands, operators};
-ghost use Rattle.image.specs.Sections.{insideAmong};
+ghost use Rattle.image.specs.Sections.{goodBytes, insideAmong};
 ghost use Rattle.image.specs.Refusals.{badTag};
 ghost use Rattle.records.specs.Fields.{kindOf};
 ghost use Rattle.records.specs.Records.{targetIn};
@@ -90,17 +90,24 @@ fn is_next(start: u32, count: u32, before: usize, all: usize) -> bool
 }
 
 // A word that is at most so much.
-fn at_most(word: u32, most: u32) -> u32
+pub fn at_most(word: u32, most: u32) -> u32
     ensures { λ r. ⌜ r ≡ unless (leb word most) badTag ⌝ }
 {
     if word <= most { 0 } else { BAD_TAG }
 }
 
 // A container: an optional name, then its ranges of ordered and of named children.
-fn container(node: NodeRecord, counts: EntryCounts, sums: Sums, strings: &[u8]) -> u32
+pub fn container(
+    node: NodeRecord,
+    counts: EntryCounts,
+    sums: Sums,
+    strings: &[u8],
+    whole: bool,
+) -> u32
+    requires { ⌜ (whole ≡ true → goodBytes (now strings) ≡ true) ⌝ }
     ensures { λ r. ⌜ r ≡ containerRule node counts sums (now (strings .entry)) ⌝ }
 {
-    if !image::good_optional(strings, node.f0, node.f1) {
+    if !image::good_optional(strings, node.f0, node.f1, whole) {
         return BAD_TEXT;
     }
     if !is_next(node.f3, node.f4, sums.children, counts.children) {
@@ -113,10 +120,11 @@ fn container(node: NodeRecord, counts: EntryCounts, sums: Sums, strings: &[u8]) 
 }
 
 // A choice: an optional path, then the container that it leads to.
-fn choice(node: NodeRecord, nodes: usize, target_tag: u32, strings: &[u8]) -> u32
+pub fn choice(node: NodeRecord, nodes: usize, target_tag: u32, strings: &[u8], whole: bool) -> u32
+    requires { ⌜ (whole ≡ true → goodBytes (now strings) ≡ true) ⌝ }
     ensures { λ r. ⌜ r ≡ choiceRule node nodes «target_tag» (now (strings .entry)) ⌝ }
 {
-    if !image::good_optional(strings, node.f0, node.f1) {
+    if !image::good_optional(strings, node.f0, node.f1, whole) {
         return BAD_TEXT;
     }
     if !is_container(nodes, node.f2, target_tag) {
@@ -126,16 +134,17 @@ fn choice(node: NodeRecord, nodes: usize, target_tag: u32, strings: &[u8]) -> u3
 }
 
 // A divert: an optional path, an optional node, an optional variable, flags.
-fn divert(node: NodeRecord, nodes: usize, strings: &[u8]) -> u32
+pub fn divert(node: NodeRecord, nodes: usize, strings: &[u8], whole: bool) -> u32
+    requires { ⌜ (whole ≡ true → goodBytes (now strings) ≡ true) ⌝ }
     ensures { λ r. ⌜ r ≡ divertRule node nodes (now (strings .entry)) ⌝ }
 {
-    if !image::good_optional(strings, node.f0, node.f1) {
+    if !image::good_optional(strings, node.f0, node.f1, whole) {
         return BAD_TEXT;
     }
     if !is_optional_node(nodes, node.f2) {
         return BAD_NODE;
     }
-    if !image::good_optional(strings, node.f3, node.f4) {
+    if !image::good_optional(strings, node.f3, node.f4, whole) {
         return BAD_TEXT;
     }
     at_most(node.f6, 23)
@@ -162,10 +171,11 @@ fn is_operator(name: &[u8]) -> bool
 }
 
 // A kind that is a text alone: of a command or an operator, by the tag, its known name.
-fn text_only(text_tag: u32, offset: u32, len: u32, strings: &[u8]) -> u32
+pub fn text_only(text_tag: u32, offset: u32, len: u32, strings: &[u8], whole: bool) -> u32
+    requires { ⌜ (whole ≡ true → goodBytes (now strings) ≡ true) ⌝ }
     ensures { λ r. ⌜ r ≡ textRule «text_tag» offset len (now (strings .entry)) ⌝ }
 {
-    if !image::good_text(strings, offset, len) {
+    if !image::good_within(strings, offset, len, whole) {
         return BAD_TEXT;
     }
     let name = image::text_part(strings, offset, len);
@@ -185,10 +195,11 @@ fn text_only(text_tag: u32, offset: u32, len: u32, strings: &[u8]) -> u32
 }
 
 // A divert target: a text, then a node.
-fn target_value(node: NodeRecord, nodes: usize, strings: &[u8]) -> u32
+pub fn target_value(node: NodeRecord, nodes: usize, strings: &[u8], whole: bool) -> u32
+    requires { ⌜ (whole ≡ true → goodBytes (now strings) ≡ true) ⌝ }
     ensures { λ r. ⌜ r ≡ targetRule node nodes (now (strings .entry)) ⌝ }
 {
-    if !image::good_text(strings, node.f0, node.f1) {
+    if !image::good_within(strings, node.f0, node.f1, whole) {
         return BAD_TEXT;
     }
     if !is_inside(nodes, node.f2) {
@@ -198,23 +209,31 @@ fn target_value(node: NodeRecord, nodes: usize, strings: &[u8]) -> u32
 }
 
 // An assignment: a text, then flags.
-fn assignment(node: NodeRecord, strings: &[u8]) -> u32
+pub fn assignment(node: NodeRecord, strings: &[u8], whole: bool) -> u32
+    requires { ⌜ (whole ≡ true → goodBytes (now strings) ≡ true) ⌝ }
     ensures { λ r. ⌜ r ≡ assignmentRule node (now (strings .entry)) ⌝ }
 {
-    if !image::good_text(strings, node.f0, node.f1) {
+    if !image::good_within(strings, node.f0, node.f1, whole) {
         return BAD_TEXT;
     }
     at_most(node.f2, 3)
 }
 
 // A reference: a name, an optional path, an optional container.
-fn reference(node: NodeRecord, nodes: usize, target_tag: u32, strings: &[u8]) -> u32
+pub fn reference(
+    node: NodeRecord,
+    nodes: usize,
+    target_tag: u32,
+    strings: &[u8],
+    whole: bool,
+) -> u32
+    requires { ⌜ (whole ≡ true → goodBytes (now strings) ≡ true) ⌝ }
     ensures { λ r. ⌜ r ≡ referenceRule node nodes «target_tag» (now (strings .entry)) ⌝ }
 {
-    if !image::good_text(strings, node.f0, node.f1) {
+    if !image::good_within(strings, node.f0, node.f1, whole) {
         return BAD_TEXT;
     }
-    if !image::good_optional(strings, node.f2, node.f3) {
+    if !image::good_optional(strings, node.f2, node.f3, whole) {
         return BAD_TEXT;
     }
     if !is_optional_container(nodes, node.f4, target_tag) {
@@ -224,7 +243,7 @@ fn reference(node: NodeRecord, nodes: usize, target_tag: u32, strings: &[u8]) ->
 }
 
 // A list value: its payload begins where those before it end, and keeps its rules.
-fn list_value(node: NodeRecord, sums: Sums, payload: &[u8], strings: &[u8]) -> u32
+pub fn list_value(node: NodeRecord, sums: Sums, payload: &[u8], strings: &[u8]) -> u32
     ensures { λ r. ⌜ r ≡ listRule node sums (now (payload .entry)) (now (strings .entry)) ⌝ }
 {
     let start = node.f0 as usize;
@@ -247,20 +266,20 @@ pub fn fields_rule(
 {
     let node_tag = node.tag;
     match node_tag {
-        tag::CONTAINER => container(node, counts, sums, strings),
-        tag::CHOICE => choice(node, counts.nodes, target_tag, strings),
-        tag::DIVERT => divert(node, counts.nodes, strings),
+        tag::CONTAINER => container(node, counts, sums, strings, false),
+        tag::CHOICE => choice(node, counts.nodes, target_tag, strings, false),
+        tag::DIVERT => divert(node, counts.nodes, strings, false),
         tag::GLUE | tag::VOID => 0,
         tag::COMMAND | tag::STRING_VALUE | tag::POINTER_VALUE => {
-            text_only(node_tag, node.f0, node.f1, strings)
+            text_only(node_tag, node.f0, node.f1, strings, false)
         }
-        tag::OPERATOR..=tag::TAG => text_only(node_tag, node.f0, node.f1, strings),
+        tag::OPERATOR..=tag::TAG => text_only(node_tag, node.f0, node.f1, strings, false),
         tag::BOOL_VALUE => at_most(node.f0, 1),
         tag::INT_VALUE..=tag::FLOAT_VALUE => 0,
         tag::LIST_VALUE => list_value(node, sums, payload, strings),
-        tag::TARGET_VALUE => target_value(node, counts.nodes, strings),
-        tag::ASSIGNMENT => assignment(node, strings),
-        tag::REFERENCE => reference(node, counts.nodes, target_tag, strings),
+        tag::TARGET_VALUE => target_value(node, counts.nodes, strings, false),
+        tag::ASSIGNMENT => assignment(node, strings, false),
+        tag::REFERENCE => reference(node, counts.nodes, target_tag, strings, false),
         _ => BAD_TAG,
     }
 }

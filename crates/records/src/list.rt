@@ -26,7 +26,7 @@ fn item(payload: &[u8], strings: &[u8], at: usize, j: usize) -> u32
     let origin_len = words::word(payload, first + ORIGIN_LENGTH_AT);
     let name = words::word(payload, first + NAME_AT);
     let name_len = words::word(payload, first + NAME_LENGTH_AT);
-    if !image::good_optional(strings, origin, origin_len) {
+    if !image::good_optional(strings, origin, origin_len, false) {
         return BAD_TEXT;
     }
     if !image::good_text(strings, name, name_len) {

@@ -8,7 +8,7 @@ use native.Mathlib.Decide.{decLt}
 use native.Mathlib.Nat.{zero-add}
 use native.Mathlib.Numerals.{add-one}
 use borrow.Author.Tests.{lt-ltb, ltb-true}
-use lib.Dec.{ltb, eqb}
+use lib.Dec.{eqb}
 use lib.Bits.{bitOr, bitAnd, bitXor, or-add-and, and-le-l, and-le-r}
 use lib.ListN.{length, drop, getD, drop-of-length-le}
 use lib.Seq.{drop-cons}
@@ -17,7 +17,7 @@ use Rattle.laws.proofs.Flags.{both-true, all-at, all-of, or-zero}
 use Rattle.utf8.specs.Runs.{Passes}
 use Rattle.utf8.specs.Utf8.{rows, sizeIn, utf8}
 use Rattle.utf8.specs.Places.{flag, differ, due, wrong, rightAt, starts, ends, Passed, AsciiTo}
-use Rattle.utf8.proofs.Ascii.{or-ascii, asciiAt, ascii-passes}
+use Rattle.utf8.proofs.Ascii.{asciiAt, ascii-passes}
 use Rattle.utf8.proofs.Places.{right-ascii, placed, utf8-placed}
 
 -- ---- flags as bytes
@@ -59,10 +59,6 @@ flag-zero x false p = rw p
 
 pub no-fault : (x y z : ℕ) (a b c : Bool) → x ≡ flag a → y ≡ flag b → z ≡ flag c → eqb (bitOr (bitOr x y) z) 0 ≡ ((not a && not b) && not c)
 no-fault x y z a b c p q r = rw (or-zero (bitOr x y) z, or-zero x y, flag-zero x a p, flag-zero y b q, flag-zero z c r)
-
--- the bits of three bytes and of a block
-pub three-ascii : (a b c d : ℕ) (t : Bool) → ltb d 0x80 ≡ t → ltb (bitOr (bitOr (bitOr a b) c) d) 0x80 ≡ (((ltb a 0x80 && ltb b 0x80) && ltb c 0x80) && t)
-three-ascii a b c d t e = rw (or-ascii (bitOr (bitOr a b) c) d, or-ascii (bitOr a b) c, or-ascii a b, e)
 
 -- ---- places by index
 
@@ -311,23 +307,3 @@ ascii-passed {s} {e} a h =
       start = ascii-starts a h;
       all = λ k l. low-right s k (a .low k (omega arith)) (a .low (k + 1) (omega arith)) (a .low (k + 2) (omega arith)) (a .low (k + 3) (omega arith));
     }
-
--- ASCII after three ASCII bytes
-pub ascii-right : (s : List ℕ) (i n : ℕ) → ((ltb (getD s i 0) 0x80 && ltb (getD s (i + 1) 0) 0x80) && ltb (getD s (i + 2) 0) 0x80) && allOf n (asciiAt s (i + 3)) ≡ true → true ≡ allOf n (λ j. rightAt s (i + j))
-ascii-right s i n f = sym (all-of n (λ j. rightAt s (i + j)) (λ k l. low-right s (i + k) (low (i + k) (omega arith) (omega arith)) (low (i + k + 1) (omega arith) (omega arith)) (low (i + k + 2) (omega arith) (omega arith)) (low (i + k + 3) (omega arith) (omega arith))))
-  where
-    low : (m : ℕ) → i ≤ m → m < i + n + 3 → getD s m 0 < 0x80
-    low m h l =
-        let p = both-true ((ltb (getD s i 0) 0x80 && ltb (getD s (i + 1) 0) 0x80) && ltb (getD s (i + 2) 0) 0x80) (allOf n (asciiAt s (i + 3))) f in
-        let q = both-true (ltb (getD s i 0) 0x80 && ltb (getD s (i + 1) 0) 0x80) (ltb (getD s (i + 2) 0) 0x80) (p .0) in
-        let r = both-true (ltb (getD s i 0) 0x80) (ltb (getD s (i + 1) 0) 0x80) (q .0) in
-        elim (decLt m (i + 1)) [
-          | yes u ↦ let d : m ≡ i = omega arith in rw d (ltb-true (getD s i 0) 0x80 (r .0))
-          | no u ↦ elim (decLt m (i + 2)) [
-            | yes v ↦ let d : m ≡ i + 1 = omega arith in rw d (ltb-true (getD s (i + 1) 0) 0x80 (r .1))
-            | no v ↦ elim (decLt m (i + 3)) [
-              | yes w ↦ let d : m ≡ i + 2 = omega arith in rw d (ltb-true (getD s (i + 2) 0) 0x80 (q .1))
-              | no w ↦ let d : i + 3 + (m - (i + 3)) ≡ m = omega arith in ltb-true (getD s m 0) 0x80 (rw d at (all-at n (asciiAt s (i + 3)) (p .1) (m - (i + 3)) (omega arith)))
-            ]
-          ]
-        ]

@@ -71,11 +71,11 @@ not-not true = refl
 not-not false = refl
 
 -- a second byte after a first with no range of its own
-low-none : (p b : ℕ) → (p ≡ 0xe0 → ⊥) → (p ≡ 0xf0 → ⊥) → tooLow p b ≡ false
+pub low-none : (p b : ℕ) → (p ≡ 0xe0 → ⊥) → (p ≡ 0xf0 → ⊥) → tooLow p b ≡ false
 unfolding tooLow
 low-none p b h k = rw (ne-eqb p 0xe0 h, ne-eqb p 0xf0 k)
 
-high-none : (p b : ℕ) → (p ≡ 0xed → ⊥) → (p ≡ 0xf4 → ⊥) → tooHigh p b ≡ false
+pub high-none : (p b : ℕ) → (p ≡ 0xed → ⊥) → (p ≡ 0xf4 → ⊥) → tooHigh p b ≡ false
 unfolding tooHigh
 high-none p b h k = rw (ne-eqb p 0xed h, ne-eqb p 0xf4 k)
 
@@ -333,7 +333,10 @@ upto zero p3 p2 p1 (b ∷ t) h w = absurd (omega arith)
 upto (suc n) p3 p2 p1 [] h w = nil-placed w
 upto (suc n) p3 p2 p1 (b ∷ t) h w = first-placed n (λ q3 q2 q1 u k v. upto n q3 q2 q1 u k v) w b t (omega arith)
 
+pub whole-placed : (p3 p2 p1 : ℕ) (t : List ℕ) → Whole p3 p2 p1 → placed p3 p2 p1 t ≡ utf8 t
+unfolding utf8
+whole-placed p3 p2 p1 t w = upto (length t) p3 p2 p1 t (omega arith) w
+
 -- the law
 pub utf8-placed : (bs : List ℕ) → utf8 bs ≡ placed 0 0 0 bs
-unfolding utf8
-utf8-placed bs = sym (upto (length bs) 0 0 0 bs (omega arith) (record { near = omega arith; mid = omega arith; far = omega arith }))
+utf8-placed bs = sym (whole-placed 0 0 0 bs (record { near = omega arith; mid = omega arith; far = omega arith }))

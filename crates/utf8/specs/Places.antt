@@ -5,7 +5,6 @@ use mathlib.Core.List.{List, []}
 use mathlib.Core.Bool.{Bool, true, not, cond, _&&_, _||_}
 use lib.ListN.{length, getD}
 use lib.Dec.{leb, ltb, eqb}
-use Rattle.laws.specs.Counted.{allOf}
 
 -- 1 where the test passes, else 0
 unfoldable pub flag : Bool → ℕ
@@ -37,6 +36,10 @@ tooHigh p b = (eqb p 0xed && leb 0xa0 b) || (eqb p 0xf4 && leb 0x90 b)
 unfoldable pub wrong : ℕ → ℕ → ℕ → ℕ → Bool
 wrong p3 p2 p1 b = ((differ (continues b) (due p3 p2 p1) || never b) || tooLow p1 b) || tooHigh p1 b
 
+-- byte b after p1 is wrong in a text of sequences of one and two bytes, or is the first byte of a longer one
+unfoldable pub shortWrong : ℕ → ℕ → Bool
+shortWrong p1 b = (differ (continues b) (leb 0xc0 p1) || eqb (b / 2) 96) || leb 0xe0 b
+
 -- the byte at k + 3 is right
 unfoldable pub rightAt : List ℕ → ℕ → Bool
 rightAt s k = not (wrong (getD s k 0) (getD s (k + 1) 0) (getD s (k + 2) 0) (getD s (k + 3) 0))
@@ -57,12 +60,6 @@ pub record Passed (s : List ℕ) (i : ℕ) : Type 0 where
   pub start : starts s ≡ true
   pub all : (k : ℕ) → k < i → rightAt s k ≡ true
 
--- the three bytes from i on and the n after them are ASCII
-abbrev pub asciiBlock : List ℕ → ℕ → ℕ → Bool
-asciiBlock s i n =
-    ((ltb (getD s i 0) 0x80 && ltb (getD s (i + 1) 0) 0x80) && ltb (getD s (i + 2) 0) 0x80)
-    && allOf n (λ j. ltb (getD s (i + 3 + j) 0) 0x80)
-
 -- the bytes before e are ASCII
 pub record AsciiTo (s : List ℕ) (e : ℕ) : Type 0 where
   pub to : e ≤ length s
@@ -70,5 +67,5 @@ pub record AsciiTo (s : List ℕ) (e : ℕ) : Type 0 where
 
 -- names on an `unfolding` line what a computation with this module needs
 unfoldable pub places : Unit {0}
-unfolding flag differ due continues never tooLow tooHigh wrong rightAt starts ends
+unfolding flag differ due continues never tooLow tooHigh wrong shortWrong rightAt starts ends
 places = tt

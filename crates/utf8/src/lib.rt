@@ -2,14 +2,14 @@
 // to vector code: a text is UTF-8 where every byte is right after the three before it and the last sequence is whole.
 ghost use mathlib.Core.Path.{_≡_};
 ghost use mathlib.Core.List.{[], _∷_};
-ghost use mathlib.Core.Bool.{cond, _&&_};
+ghost use mathlib.Core.Bool.{true, cond, _&&_};
 ghost use Prim.Native.Nat.{_+_, _-_, _<_, _≤_};
 ghost use lib.Dec.{ltb};
 ghost use lib.ListN.{length, drop, getD};
 ghost use Rattle.laws.specs.Counted.{allOf};
 ghost use Rattle.utf8.specs.Utf8.{_··_, within, rows, fitsRow, sizeIn, utf8};
 ghost use Rattle.utf8.specs.Seconds.{lowestAfter, highestAfter};
-ghost use Rattle.utf8.specs.Places.{flag, due, never, tooLow, tooHigh, wrong, rightAt, starts, ends, asciiBlock, AsciiTo, Passed};
+ghost use Rattle.utf8.specs.Places.{flag, due, continues, never, tooLow, tooHigh, wrong, shortWrong, rightAt, starts, ends, AsciiTo, Passed};
 ghost use Rattle.utf8.specs.White.{whites, begins, frontOf, blank};
 
 // Whether b lies from `low` to `high`.
@@ -241,26 +241,25 @@ fn block_right(s: &[u8], at: usize) -> bool
     e == 0
 }
 
-// The bits of the 64 bytes from `at` on, gathered: below 128 where all are ASCII.
-fn block_bits(s: &[u8], at: usize) -> u8
-    requires { ⌜ at + 64 ≤ length (now s) ⌝ }
-    ensures { λ r. ⌜ ltb r 0x80 ≡ allOf 64 (λ j. ltb (getD (now (s .entry)) (at + j) 0) 0x80) ⌝ }
+// 1 where b, after p1, is wrong in a text of sequences of one and two bytes, or is the first byte of a longer one, else 0.
+fn short_fault(p1: u8, b: u8) -> u8
+    ensures { λ r. ⌜ r ≡ flag (shortWrong p1 b) ⌝ }
 {
-    let mut bits: u8 = 0;
-    let mut j = 0;
-    while j < 64 {
-        bits = bits | s[at + j];
-        j += 1;
-    }
-    bits
+    (bit(b / 64 == 2) ^ bit(0xc0 <= p1)) | bit(b / 2 == 96) | bit(0xe0 <= b)
 }
 
-// Whether the 67 bytes from `at` on are ASCII.
-fn blocks_ascii(s: &[u8], at: usize) -> bool
+// Whether the 67 bytes from `at` on are below 0xe0, and the 64 behind the first three are right among such.
+fn blocks_short(s: &[u8], at: usize) -> bool
     requires { ⌜ at + 67 ≤ length (now s) ⌝ }
-    ensures { λ r. ⌜ r ≡ asciiBlock (now (s .entry)) at 64 ⌝ }
+    ensures { λ r. ⌜ (r ≡ true → allOf 64 (λ j. rightAt (now (s .entry)) (at + j)) ≡ true) ⌝ }
 {
-    s[at] | s[at + 1] | s[at + 2] | block_bits(s, at + 3) < 0x80
+    let mut e: u8 = bit(0xe0 <= s[at]) | bit(0xe0 <= s[at + 1]) | bit(0xe0 <= s[at + 2]);
+    let mut j = 0;
+    while j < 64 {
+        e = e | short_fault(s[at + j + 2], s[at + j + 3]);
+        j += 1;
+    }
+    e == 0
 }
 
 // Whether the 64 bytes behind the three from `at` on are right.
@@ -268,7 +267,7 @@ fn blocks_right(s: &[u8], at: usize) -> bool
     requires { ⌜ at + 67 ≤ length (now s) ⌝ }
     ensures { λ r. ⌜ r ≡ allOf 64 (λ j. rightAt (now (s .entry)) (at + j)) ⌝ }
 {
-    if blocks_ascii(s, at) {
+    if blocks_short(s, at) {
         return true;
     }
     if !block_right(s, at) {
@@ -478,6 +477,13 @@ fn byte(s: &[u8], i: usize) -> u8
         return s[i];
     }
     0
+}
+
+// Whether a sequence of s is cut before i: the byte there continues one.
+pub fn cuts(s: &[u8], i: usize) -> bool
+    ensures { λ r. ⌜ r ≡ continues (getD (now (s .entry)) i 0) ⌝ }
+{
+    byte(s, i) / 64 == 2
 }
 
 // How many bytes the White_Space character has that begins with the bytes e2, 80, d, or 0.

@@ -5,8 +5,8 @@ use Rattle.records.specs.Shown.{assignmentRule}
 use Rattle.records.proofs.assignment.Statement.{statement}
 use Rattle.records.proofs.assignment.Tie as tie
 
-good-text-requires : tie.Need-good-text-requires
-good-text-requires c κs = search needs
+good-within-requires : tie.Need-good-within-requires
+good-within-requires c κs = search needs
 
 returns : tie.Need-returns
 unfolding assignmentRule
@@ -20,4 +20,4 @@ unfolding assignmentRule
 returns-2 c = search rules depth 12
 
 pub assignment-spec : {M : Type 1} → statement M
-assignment-spec = tie.close (tie.spec good-text-requires returns at-most-requires returns-2)
+assignment-spec = tie.close (tie.spec good-within-requires returns at-most-requires returns-2)

@@ -2,21 +2,22 @@
 use mathlib.Core.Path.{_∙_}
 use mathlib.Core.Logic.{inl}
 use borrow.Author.Needs.{needs}
+use Rattle.image.proofs.GoodBytes.{none-known}
 use Rattle.records.proofs.ByKind.{at-container, at-choice, at-divert, at-empty, at-text, at-text-range, at-bool, at-number, at-list, at-target, at-assignment, at-reference, at-unknown, from-six, from-nine, no-kind}
 use Rattle.records.proofs.fields_rule.Statement.{statement}
 use Rattle.records.proofs.fields_rule.Tie as tie
 
 container-requires : tie.Need-container-requires
-container-requires c κs = search needs
+container-requires c κs = none-known
 
 choice-requires : tie.Need-choice-requires
-choice-requires c κs = search needs
+choice-requires c κs = none-known
 
 divert-requires : tie.Need-divert-requires
-divert-requires c κs = search needs
+divert-requires c κs = none-known
 
 text-only-requires : tie.Need-text-only-requires
-text-only-requires c κs = search needs
+text-only-requires c κs = none-known
 
 at-most-requires : tie.Need-at-most-requires
 at-most-requires c κs = search needs
@@ -25,16 +26,16 @@ list-value-requires : tie.Need-list-value-requires
 list-value-requires c κs = search needs
 
 target-value-requires : tie.Need-target-value-requires
-target-value-requires c κs = search needs
+target-value-requires c κs = none-known
 
 assignment-requires : tie.Need-assignment-requires
-assignment-requires c κs = search needs
+assignment-requires c κs = none-known
 
 reference-requires : tie.Need-reference-requires
-reference-requires c κs = search needs
+reference-requires c κs = none-known
 
 text-only-requires-2 : tie.Need-text-only-requires-2
-text-only-requires-2 c κs = search needs
+text-only-requires-2 c κs = none-known
 
 returns : tie.Need-returns
 returns c = c .container .ensures ∙ at-container _ _ _ _ _ _ (c .before .match .keys1)

@@ -5,8 +5,8 @@ use Rattle.records.specs.Shown.{referenceRule}
 use Rattle.records.proofs.reference.Statement.{statement}
 use Rattle.records.proofs.reference.Tie as tie
 
-good-text-requires : tie.Need-good-text-requires
-good-text-requires c κs = search needs
+good-within-requires : tie.Need-good-within-requires
+good-within-requires c κs = search needs
 
 returns : tie.Need-returns
 unfolding referenceRule
@@ -34,7 +34,7 @@ pub reference-spec : {M : Type 1} → statement M
 reference-spec =
     tie.close
     (tie.spec
-    good-text-requires
+    good-within-requires
     returns
     good-optional-requires
     returns-2

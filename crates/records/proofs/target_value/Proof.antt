@@ -5,8 +5,8 @@ use Rattle.records.specs.Shown.{targetRule}
 use Rattle.records.proofs.target_value.Statement.{statement}
 use Rattle.records.proofs.target_value.Tie as tie
 
-good-text-requires : tie.Need-good-text-requires
-good-text-requires c κs = search needs
+good-within-requires : tie.Need-good-within-requires
+good-within-requires c κs = search needs
 
 returns : tie.Need-returns
 unfolding targetRule
@@ -25,4 +25,4 @@ returns-3 c = search rules depth 12
 
 pub target-value-spec : {M : Type 1} → statement M
 target-value-spec =
-    tie.close (tie.spec good-text-requires returns is-inside-requires returns-2 returns-3)
+    tie.close (tie.spec good-within-requires returns is-inside-requires returns-2 returns-3)

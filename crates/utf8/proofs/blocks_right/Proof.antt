@@ -1,20 +1,17 @@
 -- `utf8::blocks_right` meets its contract.
 use borrow.Author.Needs.{needs}
-use mathlib.Core.Path.{sym, _∙_}
+use mathlib.Core.Path.{sym}
 use native.Mathlib.Omega.{arith}
 use borrow.Author.Tests.{not-true, not-false}
-use Rattle.utf8.proofs.Blocks.{ascii-right, one-wrong, two-right}
+use Rattle.utf8.proofs.Blocks.{one-wrong, two-right}
 use Rattle.utf8.proofs.blocks_right.Statement.{statement}
 use Rattle.utf8.proofs.blocks_right.Tie as tie
 
-blocks-ascii-requires : tie.Need-blocks-ascii-requires
-blocks-ascii-requires c κs = search needs
+blocks-short-requires : tie.Need-blocks-short-requires
+blocks-short-requires c κs = search needs
 
 returns : tie.Need-returns
-returns c =
-    let a = c .before .before .before .args in
-    let f = c .before .«blocks-ascii» in
-    ascii-right (a .s .now) (a .at) 64 (sym (f .ensures) ∙ c .if1 .taken)
+returns c = sym (c .before .«blocks-short» .ensures (c .if1 .taken))
 
 block-right-requires : tie.Need-block-right-requires
 block-right-requires c κs = search needs
@@ -42,7 +39,7 @@ pub blocks-right-spec : {M : Type 1} → statement M
 blocks-right-spec =
     tie.close
     (tie.spec
-    blocks-ascii-requires
+    blocks-short-requires
     returns
     block-right-requires
     returns-2

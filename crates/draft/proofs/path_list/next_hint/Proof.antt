@@ -12,8 +12,8 @@ returns c = hint-silent _ _ (c .before .before .before .args .hint) (not-true _ 
 is-of-requires : tie.Need-is-of-requires
 is-of-requires c κs = search needs
 
-add-t7 : tie.Need-add-t7
-add-t7 c = let to = c .before .before .before .before .before .before in let room = hint-room _ _ (to .args .hint) (to .pre) (not-false _ (c .before .before .before .if1 .left)) _ (c .before .before .is-of .ensures) (c .before .if2 .taken) in omega arith
+add-result : tie.Need-add-result
+add-result c = let to = c .before .before .before .before .before .before in let room = hint-room _ _ (to .args .hint) (to .pre) (not-false _ (c .before .before .before .if1 .left)) _ (c .before .before .is-of .ensures) (c .before .if2 .taken) in omega arith
 
 returns-2 : tie.Need-returns-2
 returns-2 c = let to = c .before .before .before .before .before .before in hint-steps _ _ (to .args .hint) (to .pre) (not-false _ (c .before .before .before .if1 .left)) _ (c .before .before .is-of .ensures) (c .before .if2 .taken)
@@ -22,4 +22,4 @@ returns-3 : tie.Need-returns-3
 returns-3 c = let to = c .before .before .before .before .before in hint-stays _ _ (to .args .hint) (to .pre) (not-false _ (c .before .before .if1 .left)) _ (c .before .is-of .ensures) (c .if2 .left)
 
 pub next-hint-spec : {M : Type 1} → statement M
-next-hint-spec = tie.close (tie.spec returns is-of-requires add-t7 returns-2 returns-3)
+next-hint-spec = tie.close (tie.spec returns is-of-requires add-result returns-2 returns-3)

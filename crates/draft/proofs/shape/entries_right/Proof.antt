@@ -1,17 +1,21 @@
 -- `draft::shape::entries_right` meets its contract. The invariant: the entries of the nodes before `i` are right.
 use Prim.Native.Nat.{_≤_, _-_}
 use mathlib.Core.Path.{_≡_, refl, sym, _∙_}
+use mathlib.Core.Logic.{⊎-elim}
 use mathlib.Core.List.{[]}
 use mathlib.Core.Bool.{true≢false}
+use native.Mathlib.Omega.{arith}
 use borrow.Author.Needs.{needs}
 use borrow.Author.Tests.{not-false, eqb-true}
 use Rattle.laws.specs.Refusal.{firstOf}
 use Rattle.laws.proofs.First.{first-all}
 use Rattle.laws.proofs.Chains.{first-done}
 use Rattle.laws.proofs.RuleRuns.{run-starts, run-goes}
+use Rattle.image.proofs.Widths.{words-some}
 use Rattle.tree.specs.Tree.{entriesRule}
 use Rattle.draft.specs.Source.{draftOf}
 use Rattle.draft.proofs.NodeCount.{below-count, upto-count, past-count}
+use Rattle.draft.proofs.Relations.{plain-entries}
 use Rattle.draft.proofs.shape.entries_right.Statement.{statement}
 use Rattle.draft.proofs.shape.entries_right.Tie as tie
 
@@ -28,11 +32,17 @@ node-count-requires c κs = search needs
 loop-holds : tie.Need-loop-holds Inv-loop μ-loop
 loop-holds c = (search needs, run-starts _)
 
+node-word-requires : tie.Need-node-word-requires Inv-loop μ-loop
+node-word-requires c κs = (
+  below-count _ _ (c .before .before .node-count .ensures) _ (c .loop-test .taken),
+  omega (arith, words-some (c .before .before .before .before .before .before .before .args .source .version)),
+)
+
 node-at-requires : tie.Need-node-at-requires Inv-loop μ-loop
-node-at-requires c κs = below-count _ _ (c .before .before .node-count .ensures) _ (c .loop-test .taken)
+node-at-requires c κs = below-count _ _ (c .before .before .before .before .node-count .ensures) _ (c .before .before .loop-test .taken)
 
 node-entries-right-requires : tie.Need-node-entries-right-requires Inv-loop μ-loop
-node-entries-right-requires c κs = ((c .before .before .before .before .before .before .before .before .pre, below-count _ _ (c .before .before .before .node-count .ensures) _ (c .before .loop-test .taken)), c .node-at .ensures)
+node-entries-right-requires c κs = ((c .before .before .before .before .before .before .before .before .before .before .pre, below-count _ _ (c .before .before .before .before .before .node-count .ensures) _ (c .before .before .before .loop-test .taken)), c .node-at .ensures)
 
 returns : tie.Need-returns Inv-loop μ-loop
 returns c = λ e. absurd (true≢false (sym e))
@@ -44,10 +54,12 @@ loop-less : tie.Need-loop-less Inv-loop μ-loop
 loop-less c = search needs
 
 loop-again : tie.Need-loop-again Inv-loop μ-loop
-loop-again c = (
-  search needs,
-  run-goes _ _ _ (c .before .before .before .before .loop .inv .1) refl (eqb-true _ _ (sym (c .before .node-entries-right .ensures) ∙ not-false _ (c .if1 .left))),
-)
+loop-again c =
+    let at = c .before .before .before .before .before .before .before .before .before .args in
+    let entries : entriesRule (draftOf (at .source .version) (at .nodes .now) (at .children .now) (at .named .now) [] [] [] (at .strings .now)) (c .before .before .before .loop .i) ≡ 0 =
+    ⊎-elim (λ w. eqb-true _ _ (sym (w .2 .ensures) ∙ not-false _ (w .3 .left)))
+    (λ w. plain-entries _ (at .nodes .now) (at .children .now) (at .named .now) (at .strings .now) _ _ (c .before .node-word .ensures) (w .left)) (c .if1 .came) in
+    (search needs, run-goes _ _ _ (c .before .before .before .loop .inv .1) refl entries)
 
 returns-2 : tie.Need-returns-2 Inv-loop μ-loop
 returns-2 c =
@@ -62,6 +74,7 @@ entries-right-spec =
     μ-loop
     node-count-requires
     loop-holds
+    node-word-requires
     node-at-requires
     node-entries-right-requires
     returns

@@ -15,12 +15,12 @@ use Rattle.draft.proofs.tables.named_rule.Statement.{statement}
 use Rattle.draft.proofs.tables.named_rule.Tie as tie
 
 abbrev Inv-loop : tie.InvT-loop
-Inv-loop nodes named strings all count j₀ j =
+Inv-loop nodes named strings whole all count j₀ j =
     (j ≤ count)
     × ((v : ℕ) → all ≡ length nodes / nodeWords v → firstOf j (draftNamedRule (draftOf v nodes [] named [] [] [] strings)) ≡ 0)
 
 abbrev μ-loop : tie.MeasureT-loop
-μ-loop nodes named strings all count j₀ j = count - j
+μ-loop nodes named strings whole all count j₀ j = count - j
 
 node-count-requires : tie.Need-node-count-requires Inv-loop μ-loop
 node-count-requires c κs = search needs

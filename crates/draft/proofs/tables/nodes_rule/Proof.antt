@@ -13,11 +13,11 @@ use Rattle.draft.proofs.tables.nodes_rule.Statement.{statement}
 use Rattle.draft.proofs.tables.nodes_rule.Tie as tie
 
 abbrev Inv-loop : tie.InvT-loop
-Inv-loop nodes children named definitions items payload strings paths source counts sums₀ hint₀ i₀ sums hint i =
+Inv-loop nodes children named definitions items payload strings paths source whole counts sums₀ hint₀ i₀ sums hint i =
     (i ≤ counts .nodes) × Passing (draftOf (source .version) nodes children named definitions items payload strings) paths i sums × Hinted paths i hint
 
 abbrev μ-loop : tie.MeasureT-loop
-μ-loop nodes children named definitions items payload strings paths source counts sums₀ hint₀ i₀ sums hint i = counts .nodes - i
+μ-loop nodes children named definitions items payload strings paths source whole counts sums₀ hint₀ i₀ sums hint i = counts .nodes - i
 
 entry-counts-requires : tie.Need-entry-counts-requires Inv-loop μ-loop
 entry-counts-requires c κs = search needs
@@ -41,7 +41,7 @@ follows-requires : tie.Need-follows-requires Inv-loop μ-loop
 follows-requires c κs = c .before .before .before .loop .inv .2
 
 node-rule-requires : tie.Need-node-rule-requires Inv-loop μ-loop
-node-rule-requires c κs = search needs
+node-rule-requires c κs = c .before .before .before .before .before .before .before .before .before .before .before .before .before .before .before .pre
 
 returns : tie.Need-returns Inv-loop μ-loop
 returns c =

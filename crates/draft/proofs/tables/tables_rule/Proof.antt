@@ -1,4 +1,5 @@
 -- `draft::tables::tables_rule` meets its contract.
+use mathlib.Core.Path.{sym, _∙_}
 use borrow.Author.Needs.{needs}
 use Rattle.draft.proofs.Row19.{broken-entries, nodes-refused, children-refused, named-refused, definitions-refused, items-decide}
 use Rattle.draft.proofs.tables.tables_rule.Statement.{statement}
@@ -10,13 +11,16 @@ whole-entries-requires c κs = search needs
 returns : tie.Need-returns
 returns c = broken-entries _ _ _ _ _ _ _ _ _ _ (c .before .whole-entries .ensures) (c .if1 .taken)
 
+good-bytes-requires : tie.Need-good-bytes-requires
+good-bytes-requires c κs = search needs
+
 nodes-rule-requires : tie.Need-nodes-rule-requires
-nodes-rule-requires c κs = search needs
+nodes-rule-requires c κs = λ e. sym (c .good-bytes .ensures) ∙ e
 
 returns-2 : tie.Need-returns-2
 returns-2 c =
-    let whole = c .before .before .before in
-    nodes-refused _ _ _ _ _ _ _ _ _ _ (whole .whole-entries .ensures) (c .before .before .if1 .left) _ (c .before .nodes-rule .ensures) (c .if2 .taken)
+    let whole = c .before .before .before .before in
+    nodes-refused _ _ _ _ _ _ _ _ _ _ (whole .whole-entries .ensures) (c .before .before .before .if1 .left) _ (c .before .nodes-rule .ensures) (c .if2 .taken)
 
 children-rule-requires : tie.Need-children-rule-requires
 children-rule-requires c κs = search needs
@@ -24,19 +28,19 @@ children-rule-requires c κs = search needs
 returns-3 : tie.Need-returns-3
 returns-3 c =
     let nodes = c .before .before .before in
-    let whole = c .before .before .before .before .before in
-    children-refused _ _ _ _ _ _ _ _ _ _ (whole .whole-entries .ensures) (c .before .before .before .before .if1 .left) _ (nodes .nodes-rule .ensures)
+    let whole = c .before .before .before .before .before .before in
+    children-refused _ _ _ _ _ _ _ _ _ _ (whole .whole-entries .ensures) (c .before .before .before .before .before .if1 .left) _ (nodes .nodes-rule .ensures)
     (c .before .before .if2 .left) _ (c .before .children-rule .ensures) (c .if3 .taken)
 
 named-rule-requires : tie.Need-named-rule-requires
-named-rule-requires c κs = search needs
+named-rule-requires c κs = λ e. sym (c .before .before .before .before .good-bytes .ensures) ∙ e
 
 returns-4 : tie.Need-returns-4
 returns-4 c =
     let nodes = c .before .before .before .before .before in
     let children = c .before .before .before in
-    let whole = c .before .before .before .before .before .before .before in
-    named-refused _ _ _ _ _ _ _ _ _ _ (whole .whole-entries .ensures) (c .before .before .before .before .before .before .if1 .left) _ (nodes .nodes-rule .ensures)
+    let whole = c .before .before .before .before .before .before .before .before in
+    named-refused _ _ _ _ _ _ _ _ _ _ (whole .whole-entries .ensures) (c .before .before .before .before .before .before .before .if1 .left) _ (nodes .nodes-rule .ensures)
     (c .before .before .before .before .if2 .left) _ (children .children-rule .ensures)
     (c .before .before .if3 .left) _ (c .before .named-rule .ensures) (c .if4 .taken)
 
@@ -48,8 +52,8 @@ returns-5 c =
     let nodes = c .before .before .before .before .before .before .before in
     let children = c .before .before .before .before .before in
     let named = c .before .before .before in
-    let whole = c .before .before .before .before .before .before .before .before .before in
-    definitions-refused _ _ _ _ _ _ _ _ _ _ (whole .whole-entries .ensures) (c .before .before .before .before .before .before .before .before .if1 .left) _ (nodes .nodes-rule .ensures)
+    let whole = c .before .before .before .before .before .before .before .before .before .before in
+    definitions-refused _ _ _ _ _ _ _ _ _ _ (whole .whole-entries .ensures) (c .before .before .before .before .before .before .before .before .before .if1 .left) _ (nodes .nodes-rule .ensures)
     (c .before .before .before .before .before .before .if2 .left) _ (children .children-rule .ensures)
     (c .before .before .before .before .if3 .left) _ (named .named-rule .ensures)
     (c .before .before .if4 .left) _ (c .before .definitions-rule .ensures) (c .if5 .taken)
@@ -63,8 +67,8 @@ returns-6 c =
     let children = c .before .before .before .before .before .before in
     let named = c .before .before .before .before in
     let definitions = c .before .before in
-    let whole = c .before .before .before .before .before .before .before .before .before .before in
-    items-decide _ _ _ _ _ _ _ _ _ _ (whole .whole-entries .ensures) (c .before .before .before .before .before .before .before .before .before .if1 .left) _ (nodes .nodes-rule .ensures)
+    let whole = c .before .before .before .before .before .before .before .before .before .before .before in
+    items-decide _ _ _ _ _ _ _ _ _ _ (whole .whole-entries .ensures) (c .before .before .before .before .before .before .before .before .before .before .if1 .left) _ (nodes .nodes-rule .ensures)
     (c .before .before .before .before .before .before .before .if2 .left) _ (children .children-rule .ensures)
     (c .before .before .before .before .before .if3 .left) _ (named .named-rule .ensures)
     (c .before .before .before .if4 .left) _ (definitions .definitions-rule .ensures)
@@ -76,6 +80,7 @@ tables-rule-spec =
     (tie.spec
     whole-entries-requires
     returns
+    good-bytes-requires
     nodes-rule-requires
     returns-2
     children-rule-requires

@@ -1,6 +1,7 @@
 -- `records::list::item` meets its contract.
 use mathlib.Core.Path.{refl}
 use borrow.Author.Needs.{needs}
+use Rattle.image.proofs.GoodBytes.{none-known}
 use Rattle.records.proofs.Lists.{item-origin, item-name, item-right}
 use Rattle.records.proofs.list.item.Statement.{statement}
 use Rattle.records.proofs.list.item.Tie as tie
@@ -36,7 +37,7 @@ word-requires-4 : tie.Need-word-requires-4
 word-requires-4 c κs = search needs
 
 good-optional-requires : tie.Need-good-optional-requires
-good-optional-requires c κs = search needs
+good-optional-requires c κs = none-known
 
 returns : tie.Need-returns
 returns c = item-origin _ _ _ _ _ _ _ _ _ refl (c .before .before .before .before .before .word .ensures) (c .before .before .before .before .word2 .ensures) (c .before .before .before .word3 .ensures) (c .before .before .word4 .ensures) _ (c .before .good-optional .ensures) (c .if1 .taken)
