@@ -14,8 +14,13 @@ use crate::targets;
 /// An image of many definitions comes once in so many cases: each takes long.
 const MANY: u64 = 500;
 
-/// Drafts whose list gives each path text, to a case.
+/// Drafts with paths as the published function takes them, to a case.
 const LISTED: u64 = 2;
+
+/// How many drafts with paths a run has, those with other lists among them.
+pub fn with_paths(cases: u64) -> u64 {
+    LISTED * cases + cases
+}
 
 /// What is done with each case.
 pub trait Visitor {
@@ -43,7 +48,7 @@ fn member(visit: u64, size: u64) -> u64 {
 /// All cases of a run, in an order that the seed fixes.
 pub fn all(name: &str, cases: u64, seed: u64, visitor: &mut dyn Visitor) {
     let families: u64 = FAMILIES.iter().map(|family| family.size.min(cases)).sum();
-    let drafts = if visitor.takes_drafts() { TREES.min(cases) + cases + LISTED * cases + cases } else { 0 };
+    let drafts = if visitor.takes_drafts() { TREES.min(cases) + cases + with_paths(cases) } else { 0 };
     let lists = 2 * SHARED.min(cases) + 5 * (cases / MANY);
     let progress = Progress::new(name, families + 5 * cases + drafts + lists);
     let mut run = Run { visitor, progress, random: Random::new(seed) };

@@ -103,6 +103,8 @@ pub struct PathList {
 pub trait Targets {
     /// The number; the draft's nodes are written with 0.
     fn resolve(&self, ink: u32, draft: &mut Draft, paths: &PathList, work: &mut [u32]) -> u32;
+    /// The list of all path texts of a draft, parsed; nodes rise.
+    fn paths(&self, draft: &Draft) -> PathList;
 }
 
 /// Steps as components and names.

@@ -2,11 +2,12 @@
 
 use crate::depths::{Way, by_words};
 use crate::library::{Entry, Found, Library, Looked, PathList, Place, Queries, Targets, View, Writer};
-use crate::library::{header_view, load_words, section, write_words};
+use crate::library::{components, header_view, load_words, section, write_words};
 use crate::pages::{Nodes, SLOT, slot_of};
 use crate::parts::{ENTRY_SIZES, NONE, word_at};
 use crate::rows::{row_of, writer_row};
 use crate::searched::{Lists, is_blank, split};
+use crate::targets::drafts::path_texts;
 use crate::targets::model::Model;
 use reference::{Draft, Image, Kind, ListEntries, Named, NodeView, Step, Written};
 
@@ -58,9 +59,10 @@ pub enum Mistake {
     TargetExternal,
     TargetTested,
     TargetWork,
+    TargetEmpty,
 }
 
-pub const MISTAKES: [Mistake; 45] = [
+pub const MISTAKES: [Mistake; 46] = [
     Mistake::Number,
     Mistake::WorkLeft,
     Mistake::NoSeven,
@@ -106,6 +108,7 @@ pub const MISTAKES: [Mistake; 45] = [
     Mistake::TargetExternal,
     Mistake::TargetTested,
     Mistake::TargetWork,
+    Mistake::TargetEmpty,
 ];
 
 pub struct Published(pub Mistake);
@@ -403,5 +406,19 @@ impl Targets for Published {
         }
         draft.nodes = nodes;
         number
+    }
+
+    fn paths(&self, draft: &Draft) -> PathList {
+        let (mut entries, mut steps) = (vec![], vec![]);
+        for (node, text) in path_texts(draft) {
+            let (relative, mut parsed) = reference::steps_of(text);
+            if self.has(Mistake::TargetEmpty) && text.is_empty() {
+                parsed.push(Step::Name(String::new()));
+            }
+            entries.extend([node, u32::from(relative), steps.len() as u32, parsed.len() as u32]);
+            steps.extend(parsed);
+        }
+        let (components, names) = components(&steps);
+        PathList { entries, components, names }
     }
 }

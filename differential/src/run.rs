@@ -24,8 +24,12 @@ pub fn compare(cases: u64, seed: u64, ours: Option<&dyn Library>) -> bool {
     corpus::all("comparison", cases, seed, &mut Comparison { ours, tally: &mut tally });
     depths::chain(ours, &mut tally);
     tally.print();
+    if ours.and_then(Library::targets).is_some() {
+        let (asked, drafts) = (tally.asked.values().sum::<u64>(), corpus::with_paths(cases));
+        tally.check(asked == drafts, || format!("{drafts} drafts with paths, our call was asked {asked} times"), &[]);
+    }
     if cases >= ENOUGH {
-        coverage(&mut tally);
+        coverage(ours, &mut tally);
     } else {
         println!("too few cases to ask that every row and reason came up");
     }
@@ -63,7 +67,7 @@ impl Visitor for Comparison<'_> {
 }
 
 /// Every row, reason, kind, query and message must have been met, and the table of reasons must be whole.
-fn coverage(tally: &mut Tally) {
+fn coverage(ours: Option<&dyn Library>, tally: &mut Tally) {
     let mut missing = vec![];
     let mut met = 0;
     let mut need = |right: bool, what: String| if right { met += 1 } else { missing.push(what) };
@@ -96,7 +100,7 @@ fn coverage(tally: &mut Tally) {
     for ((what, on_accepted), [accepted, others]) in pages.chain(searched::CASES.iter().zip(tally.searches)) {
         need(others > 0 && (accepted > 0) == *on_accepted, format!("{what}: accepted {accepted}, others {others}"));
     }
-    drafts_met(tally, need);
+    drafts_met(ours, tally, need);
     tally.passed += met;
     for what in missing {
         tally.check(false, || format!("not met: {what}"), &[]);
@@ -104,7 +108,7 @@ fn coverage(tally: &mut Tally) {
 }
 
 /// What must have come up where drafts were written and targets found.
-fn drafts_met(tally: &Tally, mut need: impl FnMut(bool, String)) {
+fn drafts_met(ours: Option<&dyn Library>, tally: &Tally, mut need: impl FnMut(bool, String)) {
     for (message, row) in WRITER {
         need(row == 23 || tally.written.contains_key(message), format!("writer: {message}"));
     }
@@ -117,14 +121,10 @@ fn drafts_met(tally: &Tally, mut need: impl FnMut(bool, String)) {
     for (message, _, reachable) in RESOLVER {
         need(tally.refused.contains_key(message) == reachable, format!("{message}, reachable: {reachable}"));
     }
-    for change in &targets::lists::CHANGES {
-        // without our writer nothing is due of some
-        let told = tally.lists.keys().any(|(name, _)| *name == change.name);
-        for number in change.numbers.iter().filter(|_| told) {
-            let met = tally.lists.contains_key(&(change.name, *number));
-            need(met, format!("{}: {number}", change.name));
-        }
+    for due in targets::lists::numbers(targets::teller(ours).is_some()) {
+        need(tally.lists.contains_key(&due), format!("{}: {}", due.0, due.1));
     }
+    need(tally.parsed > 0 || ours.and_then(Library::targets).is_none(), "a path text parsed by the wrapper".to_owned());
 }
 
 /// The published Rust on both sides: alone it must pass, and with each mistake it must fail.

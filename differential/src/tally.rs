@@ -31,6 +31,10 @@ pub struct Tally {
     pub refused: BTreeMap<String, u64>,
     /// Other lists, by what was done and the number.
     pub lists: BTreeMap<(&'static str, u32), u64>,
+    /// What our call gave, once a draft with paths.
+    pub asked: BTreeMap<u32, u64>,
+    /// Path texts that our side parsed.
+    pub parsed: u64,
     pub passed: u64,
     pub failed: u64,
     quiet: bool,
@@ -110,6 +114,10 @@ impl Tally {
             let count = |number| self.lists.get(&(name, number)).unwrap_or(&0);
             let counts = targets::lists::NUMBERS.map(|number| format!(" {:>8}", count(number)));
             println!("    {name:36}{}", counts.concat());
+        }
+        if !self.asked.is_empty() {
+            print("our numbers for drafts with paths", self.asked.iter());
+            println!("path texts parsed by the wrapper: {}", self.parsed);
         }
     }
 }

@@ -1,19 +1,19 @@
-//! Targets found from paths: on drafts whose list gives each path text, the published function; on other lists and
-//! drafts, the definition.
+//! Targets found from paths: on drafts whose list gives the path texts, the published function; on other lists and
+//! drafts, the definition. Path texts as the wrapper parses them: the published parser.
 
 pub mod drafts;
 pub mod lists;
 pub mod model;
 
 use crate::images::MARK;
-use crate::library::{Library, Targets, Writer, write_words};
+use crate::library::{Library, PathList, Targets, Writer, write_words};
 use crate::published::Mistake;
 use crate::random::Random;
 use crate::rows::{resolver_row, writer_row};
 use crate::tally::Tally;
 use drafts::Case;
-use model::{CHOICE, DIVERT, Entry, INDEX, Model, NAME, VALUE, target_word};
-use reference::{Draft, Resolved, Written};
+use model::{CHOICE, DIVERT, Entry, INDEX, Model, NAME, PARENT, VALUE, target_word};
+use reference::{Draft, Resolved, Step, Written};
 
 /// What is counted of nodes that follow a path, and whether it comes up among those of resolved drafts and those that
 /// decide with 25 and 26. After 21 a name and a step up lead to containers only, so that no divert has 26.
@@ -41,7 +41,7 @@ pub const CASES: [(&str, [bool; 3]); 20] = [
 ];
 
 /// What is counted of drafts, and must come up.
-pub const MET: [&str; 14] = [
+pub const MET: [&str; 17] = [
     RESOLVED,
     "refused with 25",
     "refused with 26",
@@ -50,6 +50,9 @@ pub const MET: [&str; 14] = [
     "26 decides, a later node has 25",
     "no path to follow",
     "paths of nodes that do not rise",
+    "path texts, each listed",
+    "path texts, not each listed",
+    "no path text",
     "a path of an external divert, listed",
     "a path of an external divert, not listed",
     "a path of a divert by variable, listed",
@@ -76,17 +79,25 @@ pub fn compare(case: &Case, ours: Option<&dyn Library>, random: &mut Random, tal
     if let Some(targets) = ours.and_then(Library::targets) {
         asked(case, &due, targets, random, tally);
         refused_before(case, &due, targets, random, tally);
+        if listed {
+            parsed(&case.draft, &targets.paths(&case.draft), tally);
+        }
     }
     if due.number == 0 {
         let resolved = Draft { nodes: due.nodes, ..case.draft.clone() };
         let writer = ours.and_then(Library::writer);
         if listed {
             written(case.ink, &resolved, writer, tally);
-        } else if let Some(writer) = writer.filter(|_| ours.is_some_and(Library::answers_all)) {
+        } else if let Some(writer) = teller(ours) {
             let number = tested(case.ink, &resolved, writer);
             tally.check(number == 0, || format!("{}: resolved, then {number}", case.name), &[]);
         }
     }
+}
+
+/// Our writer, where it can tell of any draft whether it passes 19 to 21.
+pub fn teller(ours: Option<&dyn Library>) -> Option<&dyn Writer> {
+    ours.filter(|ours| ours.answers_all()).and_then(Library::writer)
 }
 
 /// What the published function gives, and that the definition gives the same.
@@ -109,8 +120,7 @@ fn published(case: &Case, model: &Model, tally: &mut Tally) -> Due {
 
 /// What the definition gives; none where only our writer can tell whether the draft passes 19 to 21.
 fn defined(case: &Case, model: &Model, ours: Option<&dyn Library>, tally: &mut Tally) -> Option<Due> {
-    let writer = ours.filter(|ours| ours.answers_all()).and_then(Library::writer);
-    let by_writer = writer.map(|writer| before(case, model, || tested(case.ink, &model.harmless(), writer)));
+    let by_writer = teller(ours).map(|writer| before(case, model, || tested(case.ink, &model.harmless(), writer)));
     let by_words = case.sound.then(|| before(case, model, || 19 * u32::from(model.wrong_target())));
     if let (Some(writer), Some(words)) = (by_writer, by_words) {
         tally.check(writer == words, || format!("{}: by the writer {writer}, by words {words}", case.name), &[]);
@@ -142,6 +152,7 @@ fn asked(case: &Case, due: &Due, ours: &dyn Targets, random: &mut Random, tally:
     let mut work = vec![MARK; words + random.below(3)];
     let mut draft = case.draft.clone();
     let number = ours.resolve(case.ink, &mut draft, &case.paths, &mut work);
+    *tally.asked.entry(number).or_default() += 1;
     tally.check(number == due.number, || format!("{name}: due is {}, ours {number}", due.number), &[]);
     tally.check(draft.nodes == due.nodes, || format!("{name}: other nodes after {number}"), &[]);
     let zeros = if [3, 19].contains(&due.number) { 0 } else { words };
@@ -165,6 +176,33 @@ fn refused_before(case: &Case, due: &Due, ours: &dyn Targets, random: &mut Rando
         stays(case.ink, words - 1, due.number);
     }
     stays(*random.pick(&[0, 17, 22, u32::MAX]), words, 3);
+}
+
+/// That our list gives each path text of the draft, the nodes in their order, as the published Rust parses it.
+fn parsed(draft: &Draft, list: &PathList, tally: &mut Tally) {
+    let (listed, texts) = (list.entries.len(), drafts::path_texts(draft).count());
+    tally.check(listed == 4 * texts, || format!("{texts} path texts, {listed} words of entries"), &[]);
+    for (entry, (node, text)) in model::entries(list).zip(drafts::path_texts(draft)) {
+        let right = entry.node == node && path_of(list, entry) == Some(reference::steps_of(text));
+        tally.check(right, || format!("path text {text:?} of node {node} is not {:?}", path_of(list, entry)), &[]);
+        tally.parsed += 1;
+    }
+}
+
+/// What the words of an entry say: whether the path is relative, and its components.
+fn path_of(list: &PathList, entry: Entry) -> Option<(bool, Vec<Step>)> {
+    let step = |words: &[u32; 3]| match *words {
+        [PARENT, 0, 0] => Some(Step::Parent),
+        [INDEX, index, 0] => Some(Step::Index(index)),
+        [NAME, at, length] => {
+            let name = list.names.get(at as usize..)?.get(..length as usize)?;
+            Some(Step::Name(str::from_utf8(name).ok()?.to_owned()))
+        }
+        _ => None,
+    };
+    let components = list.components.as_chunks().0.get(entry.first as usize..)?.get(..entry.count as usize)?;
+    let steps = components.iter().map(step).collect::<Option<_>>()?;
+    (entry.flag <= 1).then_some((entry.flag == 1, steps))
 }
 
 /// The resolved draft written on both sides.
@@ -213,6 +251,10 @@ fn count_drafts(case: &Case, model: &Model, tally: &mut Tally) {
     note(before, "refused, a node before has a right path");
     let nodes: Vec<u32> = model::entries(&case.paths).map(|entry| entry.node).collect();
     note(!nodes.is_sorted(), "paths of nodes that do not rise");
+    let texts: Vec<bool> = drafts::path_texts(&case.draft).map(|(node, _)| nodes.contains(&node)).collect();
+    note(!texts.is_empty() && !texts.contains(&false), "path texts, each listed");
+    note(texts.contains(&false), "path texts, not each listed");
+    note(texts.is_empty(), "no path text");
     for (node, record) in (0..).zip(case.draft.nodes.chunks_exact(10)) {
         if record[2] == DIVERT && !model::follows(record) && drafts::text_of(&case.draft, record).is_some() {
             let kind = if record[9] & 2 != 0 { "external divert" } else { "divert by variable" };

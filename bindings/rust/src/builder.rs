@@ -256,7 +256,7 @@ impl<'a> DraftBuilder<'a> {
     }
 
     /// The same draft, to find targets from its path texts before it is written: each text is in the strings, and
-    /// [`OpenDraft::paths`] parses them.
+    /// [`OpenDraft::paths`] parses them; that is done by this wrapper and is not proved.
     ///
     /// ```
     /// use story_image::{DraftBuilder, Image, NONE, NodeKind, NodeKindView, Room, load_words};

@@ -11,7 +11,20 @@ pub enum Step<'a> {
     Name(&'a str),
 }
 
+/// Words of a component.
+pub(crate) const STEP_WORDS: usize = 3;
+
 impl<'a> Step<'a> {
+    /// The words that the library takes, of a name with the place of its first byte; nothing for a place or a length
+    /// that is no word.
+    pub(crate) fn words(self, at: usize) -> Option<[u32; STEP_WORDS]> {
+        Some(match self {
+            Step::Parent => [0, 0, 0],
+            Step::Index(index) => [1, index, 0],
+            Step::Name(name) => [2, u32::try_from(at).ok()?, u32::try_from(name.len()).ok()?],
+        })
+    }
+
     /// A part of a path text.
     pub(crate) fn from_part(part: &'a str) -> Step<'a> {
         match part.parse::<usize>() {
@@ -25,7 +38,8 @@ impl<'a> Step<'a> {
 /// A path as a text, read as the published Rust reads one. The empty text is absolute and has no components: the root.
 /// A leading dot makes a path relative. Between dots then stands `^` for the parent; what `usize` parses (`7`, `007`
 /// and `+7` alike) for an index; or a name, an empty one too. An index above 4294967294 becomes [`NONE`]: no container
-/// has as many children, so it stays an index at which nothing is found.
+/// has as many children, so it stays an index at which nothing is found. The library takes components: the text is
+/// parsed by this wrapper, which is not proved.
 ///
 /// ```
 /// use story_image::{PathText, Step};
@@ -67,7 +81,7 @@ const NAMES: usize = 256;
 /// The first components of a path, in the words that the library takes.
 struct Piece<'a> {
     steps: usize,
-    words: [u32; 3 * STEPS],
+    words: [u32; STEP_WORDS * STEPS],
     bytes: [u8; NAMES],
     used: usize,
     /// A name too long for the bytes here, which then is the one component.
@@ -77,19 +91,16 @@ struct Piece<'a> {
 impl<'a> Piece<'a> {
     /// Nothing for a name that is longer than a word can say, which no image has.
     fn new(path: &[Step<'a>]) -> Option<Self> {
-        let mut piece = Piece { steps: 0, words: [0; 3 * STEPS], bytes: [0; NAMES], used: 0, long: None };
+        let mut piece = Piece { steps: 0, words: [0; STEP_WORDS * STEPS], bytes: [0; NAMES], used: 0, long: None };
         for step in path.iter().take(STEPS) {
-            let words = match step {
-                Step::Parent => [0, 0, 0],
-                Step::Index(index) => [1, *index, 0],
-                Step::Name(name) if name.len() <= NAMES - piece.used => piece.name(name),
+            let at = piece.used;
+            match step {
+                Step::Name(name) if name.len() <= NAMES - at => piece.name(name),
                 Step::Name(_) if piece.steps > 0 => break,
-                Step::Name(name) => {
-                    piece.long = Some(name);
-                    [2, 0, u32::try_from(name.len()).ok()?]
-                }
-            };
-            piece.words[3 * piece.steps..][..3].copy_from_slice(&words);
+                Step::Name(name) => piece.long = Some(name),
+                _ => {}
+            }
+            piece.words[STEP_WORDS * piece.steps..][..STEP_WORDS].copy_from_slice(&step.words(at)?);
             piece.steps += 1;
             if piece.long.is_some() {
                 break;
@@ -98,11 +109,9 @@ impl<'a> Piece<'a> {
         Some(piece)
     }
 
-    fn name(&mut self, name: &str) -> [u32; 3] {
-        let start = self.used;
+    fn name(&mut self, name: &str) {
+        self.bytes[self.used..][..name.len()].copy_from_slice(name.as_bytes());
         self.used += name.len();
-        self.bytes[start..self.used].copy_from_slice(name.as_bytes());
-        [2, start as u32, name.len() as u32]
     }
 
     fn names(&self) -> &[u8] {
@@ -118,7 +127,7 @@ pub(crate) fn resolve(asked: &Queries<'_>, origin: u32, relative: bool, path: &[
     let (mut at, mut relative, mut rest) = (origin, relative, path);
     loop {
         let piece = Piece::new(rest)?;
-        at = asked.resolve_components(at, relative, &piece.words[..3 * piece.steps], piece.names())?;
+        at = asked.resolve_components(at, relative, &piece.words[..STEP_WORDS * piece.steps], piece.names())?;
         rest = &rest[piece.steps..];
         // the next call goes on here: from a node that is no container only a step to the parent leads on, and a
         // relative walk from such a node begins with that step

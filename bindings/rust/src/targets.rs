@@ -3,7 +3,7 @@
 use crate::builder::{BuildError, put};
 use crate::draft::Draft;
 use crate::ffi;
-use crate::path::{PathText, Step};
+use crate::path::{PathText, STEP_WORDS, Step};
 use crate::refusal::Refusal;
 use crate::{NODE_WORDS, NONE};
 
@@ -11,7 +11,8 @@ use crate::{NODE_WORDS, NONE};
 #[derive(Clone, Copy, Debug, Default, PartialEq, Eq)]
 pub struct Paths<'a> {
     /// Four words each: node, 0 for an absolute path or 1 for a relative one, first component, number of components.
-    /// Finding is quick if the nodes rise; in another order each node is looked for in the whole list.
+    /// Following takes time by the components, in any order of the nodes; the test of 19 takes nodes times paths if the
+    /// nodes do not rise.
     pub entries: &'a [u32],
     /// Three words each: 0, 0, 0 for the parent; 1, index, 0; 2, offset and length of a name in `names`.
     pub components: &'a [u32],
@@ -93,7 +94,7 @@ impl<'a> OpenDraft<'a> {
 
     /// How many words [`paths`](OpenDraft::paths) takes: 4 a path, 3 a component.
     pub fn path_words(&self) -> usize {
-        let words = |place| PATH_WORDS + 3 * self.path_at(place).parts().count();
+        let words = |place| PATH_WORDS + STEP_WORDS * self.path_at(place).parts().count();
         self.path_places().fold(0, |sum: usize, (_, place)| sum.saturating_add(words(place)))
     }
 
@@ -116,15 +117,12 @@ impl<'a> OpenDraft<'a> {
             // where a part begins
             let mut at = place[0] as usize + usize::from(path.relative);
             for part in path.parts() {
-                let component = match Step::from_part(part) {
-                    Step::Parent => [0, 0, 0],
-                    Step::Index(index) => [1, index, 0],
-                    Step::Name(name) => [2, word(at)?, word(name.len())?],
-                };
+                let component = Step::from_part(part).words(at).ok_or(BuildError::Full("paths"))?;
                 put(components, &mut used, &component, "paths")?;
                 at += part.len() + 1;
             }
-            *entry = [word(node)?, u32::from(path.relative), word(first / 3)?, word((used - first) / 3)?];
+            let (start, count) = (word(first / STEP_WORDS)?, word((used - first) / STEP_WORDS)?);
+            *entry = [word(node)?, u32::from(path.relative), start, count];
         }
         Ok(Paths { entries, components: &components[..used], names: self.strings })
     }

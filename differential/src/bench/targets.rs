@@ -7,6 +7,7 @@ use crate::library::{Library, PathList, Targets, write_words};
 use crate::parts::{NONE, Parts};
 use crate::random::Random;
 use crate::targets::drafts::{Listing, with_paths};
+use crate::targets::model::target_word;
 use reference::{Draft, Story, resolve_story};
 
 /// A draft and its list.
@@ -85,7 +86,7 @@ fn listed(name: &'static str, parts: Parts, falling: bool, random: &mut Random) 
     }
     for entry in listing.paths.entries.chunks_exact(4) {
         let record = &mut draft.nodes[10 * entry[0] as usize..][..10];
-        record[if record[2] == 17 { 7 } else { 5 }] = NONE;
+        record[target_word(record[2])] = NONE;
     }
     Input { name, draft, paths: listing.paths }
 }

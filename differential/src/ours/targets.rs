@@ -1,39 +1,33 @@
-//! Targets found from paths.
+//! Targets found from paths, and path texts parsed, both through the wrapper.
 
 use super::Ours;
 use crate::library::{PathList, Targets};
 use reference::Draft;
-use story_image::ffi;
+use story_image::{OpenDraft, Paths};
+
+fn open(draft: &mut Draft) -> OpenDraft<'_> {
+    let Draft { nodes, children, named, definitions, items, payload, strings } = draft;
+    OpenDraft { nodes, children, named, definitions, items, payload, strings }
+}
 
 impl Targets for Ours {
     fn resolve(&self, ink: u32, draft: &mut Draft, paths: &PathList, work: &mut [u32]) -> u32 {
-        // SAFETY: the slices are ours, nodes and work words are borrowed alone, and all live through the call.
-        unsafe {
-            ffi::story_image_resolve_static_targets(
-                ink,
-                draft.nodes.as_mut_ptr(),
-                draft.nodes.len(),
-                draft.children.as_ptr(),
-                draft.children.len(),
-                draft.named.as_ptr(),
-                draft.named.len(),
-                draft.definitions.as_ptr(),
-                draft.definitions.len(),
-                draft.items.as_ptr(),
-                draft.items.len(),
-                draft.payload.as_ptr(),
-                draft.payload.len(),
-                draft.strings.as_ptr(),
-                draft.strings.len(),
-                paths.entries.as_ptr(),
-                paths.entries.len(),
-                paths.components.as_ptr(),
-                paths.components.len(),
-                paths.names.as_ptr(),
-                paths.names.len(),
-                work.as_mut_ptr(),
-                work.len(),
-            )
+        let PathList { entries, components, names } = paths;
+        match open(draft).resolve_static_targets(ink, &Paths { entries, components, names }, work) {
+            Ok(_) => 0,
+            Err(refusal) => refusal.0,
         }
+    }
+
+    fn paths(&self, draft: &Draft) -> PathList {
+        let mut copy = draft.clone();
+        let open = open(&mut copy);
+        let mut words = vec![0; open.path_words()];
+        if !words.is_empty() {
+            assert!(open.paths(&mut words[1..]).is_err(), "a word too few");
+        }
+        let Paths { entries, components, names } = open.paths(&mut words).expect("as many words as it takes");
+        assert_eq!(entries.len() + components.len(), open.path_words());
+        PathList { entries: entries.to_vec(), components: components.to_vec(), names: names.to_vec() }
     }
 }

@@ -1,5 +1,5 @@
-//! Drafts whose choices, diverts, divert-target values and references carry path texts, and the list that gives each
-//! text as the published Rust parses it.
+//! Drafts whose choices, diverts, divert-target values and references carry path texts, and the list that gives the
+//! texts as the published Rust parses them.
 
 use super::model::{CHOICE, DIVERT, Model, REFERENCE, VALUE, follows, target_word, text_word};
 use crate::library::PathList;
@@ -22,8 +22,9 @@ pub struct Case {
     pub sound: bool,
 }
 
-/// The draft passes 19 to 21, and its list gives each path text and no other path.
-pub const LISTED: &str = "each path text listed";
+/// The draft passes 19 to 21, and its list gives each path text of nodes that follow one, some of nodes that are passed
+/// over, and no other path.
+pub const LISTED: &str = "path texts listed";
 
 pub fn listed(random: &mut Random) -> Case {
     let any = Shape::random(random);
@@ -50,6 +51,21 @@ pub fn with_paths(parts: Parts, wrong: Option<usize>, random: &mut Random) -> Pa
     let mut maker = Maker { parts, containers, wrong };
     maker.nodes(random);
     maker.parts
+}
+
+/// Lays a text behind the bytes, or finds it there: it is sought once in so many times, if at all.
+fn lay(text: &str, bytes: &mut Vec<u8>, sought: Option<usize>, random: &mut Random) -> [u32; 2] {
+    let found = match sought {
+        Some(times) if !text.is_empty() && random.once_in(times) => {
+            bytes.windows(text.len()).position(|part| part == text.as_bytes())
+        }
+        _ => None,
+    };
+    let at = found.unwrap_or(bytes.len());
+    if found.is_none() {
+        bytes.extend_from_slice(text.as_bytes());
+    }
+    [at as u32, text.len() as u32]
 }
 
 struct Maker {
@@ -107,16 +123,8 @@ impl Maker {
     /// Lays a text into the strings, or finds it there.
     fn put(&mut self, text: &str, random: &mut Random) -> [u32; 2] {
         let strings = &mut self.parts.strings;
-        let found = if !text.is_empty() && strings.len() < 1000 && random.once_in(4) {
-            strings.windows(text.len()).position(|part| part == text.as_bytes())
-        } else {
-            None
-        };
-        let at = found.unwrap_or(strings.len());
-        if found.is_none() {
-            strings.extend_from_slice(text.as_bytes());
-        }
-        [at as u32, text.len() as u32]
+        let sought = (strings.len() < 1000).then_some(4);
+        lay(text, strings, sought, random)
     }
 
     /// The text of a path for a node.
@@ -254,6 +262,12 @@ pub fn text_of<'a>(draft: &'a Draft, record: &[u32]) -> Option<&'a str> {
     core::str::from_utf8(draft.strings.get(at..at.checked_add(length)?)?).ok()
 }
 
+/// The path texts of a draft, each with its node.
+pub fn path_texts(draft: &Draft) -> impl Iterator<Item = (u32, &str)> {
+    let records = (0..).zip(draft.nodes.chunks_exact(10));
+    records.filter_map(|(node, record)| Some((node, text_of(draft, record)?)))
+}
+
 /// A list as it grows.
 #[derive(Default)]
 pub struct Listing {
@@ -270,7 +284,7 @@ impl Listing {
         Listing { paths, loose: true, ..Listing::default() }
     }
 
-    /// Lists each path text, the nodes in this order; of a node that is passed over the entry may lack.
+    /// Lists the path texts, the nodes in this order; of a node that is passed over the entry may lack.
     pub fn texts(&mut self, draft: &Draft, nodes: impl IntoIterator<Item = u32>, random: &mut Random) {
         for node in nodes {
             let record = &draft.nodes[10 * node as usize..][..10];
@@ -306,17 +320,8 @@ impl Listing {
     }
 
     fn name(&mut self, name: &str, random: &mut Random) -> [u32; 3] {
-        let names = &mut self.paths.names;
-        let shared = if self.loose && !name.is_empty() && random.once_in(2) {
-            names.windows(name.len()).position(|part| part == name.as_bytes())
-        } else {
-            None
-        };
-        let at = shared.unwrap_or(names.len());
-        if shared.is_none() {
-            names.extend_from_slice(name.as_bytes());
-        }
-        [2, at as u32, name.len() as u32]
+        let [at, length] = lay(name, &mut self.paths.names, self.loose.then_some(2), random);
+        [2, at, length]
     }
 }
 

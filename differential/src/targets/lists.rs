@@ -18,7 +18,7 @@ pub struct Change {
     /// The draft is still known to pass 19 to 21 but for targets.
     sound: bool,
     /// Numbers that it must lead to.
-    pub numbers: &'static [u32],
+    numbers: &'static [u32],
 }
 
 pub const CHANGES: [Change; 18] = [
@@ -47,6 +47,15 @@ pub const TWO: &str = "two of these";
 
 /// The numbers that such drafts get.
 pub const NUMBERS: [u32; 7] = [0, 3, 19, 20, 21, 25, 26];
+
+/// Each number that a change, or two, must lead to. Of drafts that may not pass 19 to 21 nothing is due if nobody can
+/// tell whether they do.
+pub fn numbers(told: bool) -> impl Iterator<Item = (&'static str, u32)> {
+    let asked = CHANGES.iter().filter(move |change| change.sound || told);
+    let each = asked.flat_map(|change| change.numbers.iter().map(|number| (change.name, *number)));
+    let two = NUMBERS.into_iter().filter(move |number| ![20, 21].contains(number) || told);
+    each.chain(two.map(|number| (TWO, number)))
+}
 
 /// A draft with one or two such changes, and mostly with paths.
 pub fn other(random: &mut Random) -> Case {
