@@ -31,10 +31,6 @@ use Rattle.draft.proofs.Row21.{tables-passed}
 
 -- ---- no entries
 
-pub no-path-fields : (s : Sections) (i : ℕ) → pathFieldsRule s [] i ≡ fieldsRule s i
-unfolding pathFieldsRule pathOf lastOf
-no-path-fields s i = refl
-
 pub no-paths : (s : Sections) → pathTablesRule s [] ≡ tablesRule s
 unfolding pathTablesRule pathNodeRule pathFieldsRule pathOf lastOf tablesRule draftNodeRule
 no-paths s = refl

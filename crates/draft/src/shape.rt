@@ -201,7 +201,7 @@ fn node_entries_right(
     )
 }
 
-// Whether the entries of every node are right.
+// Whether the entries of every node are right. Nothing is said of a draft for which the answer is false.
 pub fn entries_right(
     nodes: &[u32],
     children: &[u32],

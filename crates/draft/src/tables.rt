@@ -1,4 +1,5 @@
-// Row 19: a draft's tables. Every record rule holds, every text is good, and every number that should be a node's is one.
+// Row 19: a draft's tables. Every record rule holds, every text is good, and every number that should be a node's is one. The strings are tested as
+// a whole first: `whole` says that they are good, and the texts of nodes and named entries are then tested by their ends.
 ghost use mathlib.Core.Path.{_≡_};
 ghost use mathlib.Core.List.{List, []};
 ghost use mathlib.Core.Bool.{true};
@@ -220,7 +221,7 @@ fn nodes_rule(
     let mut i = 0;
     while i < counts.nodes {
         let node = source::node_at(nodes, i, source);
-        let free = path_list::follows(paths, i, hint, node);
+        let follow = path_list::follows(paths, i, hint, node);
         if node_rule(
             nodes,
             payload,
@@ -229,7 +230,7 @@ fn nodes_rule(
             sums,
             i,
             node,
-            free,
+            follow,
             source,
             whole,
         )

@@ -13,7 +13,7 @@ use draft::source::Source;
 use image::ImageView;
 
 // The mark of a node that is an entry.
-const LISTED: u32 = 1;
+pub const LISTED: u32 = 1;
 
 // Marks the ordered children.
 fn mark_children(children: &[u32], work: &mut [u32])

@@ -9,6 +9,7 @@ ghost use Rattle.image.specs.Sections.{nodeCount, isContainer};
 ghost use Rattle.draft.specs.Source.{draftOf};
 ghost use Rattle.draft_tree.specs.Standing.{Rooted, Climbable, Climbed};
 ghost use Rattle.draft_tree.specs.Climbing.{AllMarked};
+use crate::listed::LISTED;
 use draft::source;
 use draft::source::Source;
 use image::NONE;
@@ -28,7 +29,7 @@ fn climb(nodes: &[u32], work: &mut [u32], i: usize, source: Source) -> bool
     let mut left = work.len();
     while 0 < left {
         let mark = work[at];
-        if mark != 1 {
+        if mark != LISTED {
             return mark != own;
         }
         work[at] = own;
@@ -47,7 +48,7 @@ fn is_open(nodes: &[u32], work: &[u32], i: usize, source: Source) -> bool
     if source::node_word(nodes, i, NodeRecord::TAG, source) != CONTAINER {
         return false;
     }
-    work[i] == 1
+    work[i] == LISTED
 }
 
 // Whether parents lead from every container to the root, where all nodes but the root are marked 1.

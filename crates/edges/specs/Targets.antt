@@ -68,7 +68,7 @@ pub record ListLines : Type 0 where
   pub components : resolveRule 21 (guide 3) (one 1 0 4 2) 1000 ≡ 19
   pub broken-entry : resolveRule 21 (guide 3) (along (1 ∷ 0 ∷ 0 ∷ [])) 1000 ≡ 19
   -- the target of a node that follows a path is no matter of 19, even where the root is no container
-  pub root-glue : resolveRule 21 (draftOf 2 (nodeEntry NONE NONE 2 (NONE ∷ NONE ∷ NONE ∷ [])) [] [] [] [] [] []) (one 0 0 0 1) 1000 ≡ 21
+  pub root-choice : resolveRule 21 (draftOf 2 (nodeEntry NONE NONE 2 (NONE ∷ NONE ∷ NONE ∷ [])) [] [] [] [] [] []) (one 0 0 0 1) 1000 ≡ 21
 
 list-lines : ListLines
 unfolding pathExamples targets encodes texts
@@ -89,7 +89,7 @@ list-lines =
       flag = refl;
       components = refl;
       broken-entry = refl;
-      root-glue = refl;
+      root-choice = refl;
     }
 
 -- where paths lead, and who needs a container

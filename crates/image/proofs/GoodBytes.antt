@@ -1,5 +1,5 @@
 -- Laws of the bytes of a good text. No other file unfolds `goodBytes`.
-use mathlib.Core.Path.{_≡_, sym, _∙_}
+use mathlib.Core.Path.{_≡_, sym}
 use mathlib.Core.List.{List, [], _++_}
 use mathlib.Core.Bool.{true, false, true≢false}
 use Prim.Native.Nat.{ℕ, _+_}
@@ -7,7 +7,7 @@ use lib.ListN.{take, drop, getD}
 use Rattle.laws.specs.Lists.{Below}
 use Rattle.utf8.specs.Utf8.{utf8}
 use Rattle.utf8.specs.Places.{continues}
-use Rattle.utf8.proofs.Laws.{utf8-nil, utf8-after, utf8-append, utf8-rest, utf8-ascii, utf8-bytes}
+use Rattle.utf8.proofs.Laws.{utf8-nil, utf8-append, utf8-rest, utf8-ascii, utf8-bytes}
 use Rattle.utf8.proofs.Within.{utf8-within}
 use Rattle.image.specs.Sections.{goodBytes}
 

@@ -397,7 +397,8 @@ fn is_uncut(strings: &[u8], offset: u32, len: u32) -> bool
     !utf8::cuts(strings, end)
 }
 
-// The same as `good_text`. Where the strings are good as a whole, a text of theirs is good if it cuts no sequence, and its bytes are not read.
+// The same as `good_text`. `whole` says that the strings are known to be good as a whole: then a text is good if it cuts no sequence, which its
+// first byte and the one behind it tell.
 pub fn good_within(strings: &[u8], offset: u32, len: u32, whole: bool) -> bool
     requires { ⌜ (whole ≡ true → goodBytes (now strings) ≡ true) ⌝ }
     ensures { λ r. ⌜ r ≡ goodIn (now (strings .entry)) offset len ⌝ }

@@ -96,6 +96,8 @@ pub fn at_most(word: u32, most: u32) -> u32
     if word <= most { 0 } else { BAD_TAG }
 }
 
+// The rules by kind. `whole` says that the strings are known to be good as a whole, as `image::good_within` takes it.
+
 // A container: an optional name, then its ranges of ordered and of named children.
 pub fn container(
     node: NodeRecord,

@@ -1,6 +1,6 @@
 -- The steps with the work words: what each asks, and what its answer comes to.
 use Prim.Native.Nat.{ℕ, _+_, _*_, _-_, _/_, _≤_}
-use mathlib.Core.Path.{_≡_, refl, sym, _∙_}
+use mathlib.Core.Path.{_≡_, refl, sym, _∙_, subst}
 use mathlib.Core.List.{List}
 use mathlib.Core.Bool.{Bool, true, false, true≢false}
 use mathlib.Core.Option.{Option, none, some}
@@ -140,9 +140,10 @@ module _ (version : ℕ) (ns cs ms ds is ps ss entries lent names : List ℕ) (t
           pub set-asks : listRight (nodeCount s) (length lent / componentWords) entries ≡ true → Settable version entries ns w₂
           set-asks l = settable s p w₂ targets-at (length lent / componentWords) l
 
-          pub all-set : (ns′ : List ℕ) → AllSet version ns w₂ ns′ → Late s p ns′ 0
+          pub all-set : (ns′ : List ℕ) → AllSet version ns w₂ ns′ → Late s p ns′ k₂
           all-set ns′ a =
-              late-done s p reach shaped (sym z₂ ∙ found .answer) ns′ (all-resolved s p w₂ targets-at (path-whole s entries t .nodes) ns′ a)
+              subst (Late s p ns′) (sym z₂)
+              (late-done s p reach shaped (sym z₂ ∙ found .answer) ns′ (all-resolved s p w₂ targets-at (path-whole s entries t .nodes) ns′ a))
 
 -- the rule loop
 components-inside : (n : ℕ) (entries lent : List ℕ) → listRight n (length lent / componentWords) entries ≡ true → ComponentsInside entries lent

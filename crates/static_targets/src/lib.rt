@@ -137,7 +137,7 @@ fn resolve(
         return refused;
     }
     set_targets(nodes, work, paths, source);
-    0
+    refused
 }
 
 // Gives every node of a draft that follows a path of the list the target that the path leads to, or answers the number of the first rule that is

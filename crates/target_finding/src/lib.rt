@@ -146,8 +146,8 @@ fn fill_none(work: &mut [u32], n: usize)
     }
 }
 
-// The number of the first node whose path breaks a rule, else 0, and then the target of each node stands in the work word of its number. The
-// entries are gone through once, in their order, which may be any.
+// The number of the rule that the first failing node breaks, else 0, and then the target of each node stands in the work word of its number.
+// The entries are gone through once, in their order, which may be any.
 pub fn targets_rule(
     nodes: &[u32],
     children: &[u32],

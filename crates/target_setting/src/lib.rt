@@ -1,4 +1,4 @@
-// The draft is written: each node for which a target was found gets it, and loses its path text.
+// The draft is written: each node for which a target was found gets it, and loses its path text, but for a divert-target value.
 ghost use mathlib.Core.Path.{_≡_};
 ghost use mathlib.Core.Bool.{true};
 ghost use Prim.Native.Nat.{_+_, _≤_};

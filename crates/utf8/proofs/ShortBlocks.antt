@@ -2,7 +2,7 @@
 use Prim.Native.Nat.{ℕ, _+_, _/_, _≤_, _<_}
 use mathlib.Core.Path.{_≡_, refl, sym, ap, _∙_}
 use mathlib.Core.List.{List}
-use mathlib.Core.Bool.{Bool, true, false, not, _&&_, _||_, or-false, true≢false}
+use mathlib.Core.Bool.{Bool, true, false, not, _&&_, _||_}
 use native.Mathlib.Omega.{arith}
 use native.Mathlib.Decide.{decLt}
 use borrow.Author.Tests.{lt-leb, leb-false, not-true}
@@ -11,24 +11,21 @@ use lib.Bits.{bitOr}
 use lib.ListN.{getD}
 use Rattle.laws.specs.Counted.{allOf}
 use Rattle.laws.proofs.Flags.{both-true, all-of, or-zero}
+use Rattle.laws.proofs.Members.{or-false, or-nil}
 use Rattle.utf8.specs.Places.{flag, differ, due, continues, never, wrong, shortWrong, rightAt}
 use Rattle.utf8.proofs.Places.{low-none, high-none}
 use Rattle.utf8.proofs.Blocks.{flag-zero, no-fault}
 
-both-false : (a b : Bool) → (a || b) ≡ false → (a ≡ false) × (b ≡ false)
-both-false false b h = (refl, h)
-both-false true b h = absurd (true≢false h)
-
 short-due : (p3 p2 p1 : ℕ) → p3 < 0xe0 → p2 < 0xe0 → due p3 p2 p1 ≡ leb 0xc0 p1
 unfolding due
-short-due p3 p2 p1 h k = rw (lt-leb 0xe0 p2 k, lt-leb 0xf0 p3 (omega arith), or-false (leb 0xc0 p1), or-false (leb 0xc0 p1))
+short-due p3 p2 p1 h k = rw (lt-leb 0xe0 p2 k, lt-leb 0xf0 p3 (omega arith), or-nil (leb 0xc0 p1), or-nil (leb 0xc0 p1))
 
 -- what a byte is that the short test passes
 short-parts : (p1 b : ℕ) → shortWrong p1 b ≡ false → (differ (continues b) (leb 0xc0 p1) ≡ false) × (eqb (b / 2) 96 ≡ false) × (b < 0xe0)
 unfolding shortWrong
 short-parts p1 b e =
-    let p = both-false (differ (continues b) (leb 0xc0 p1) || eqb (b / 2) 96) (leb 0xe0 b) e in
-    let q = both-false (differ (continues b) (leb 0xc0 p1)) (eqb (b / 2) 96) (p .0) in
+    let p = or-false (differ (continues b) (leb 0xc0 p1) || eqb (b / 2) 96) (leb 0xe0 b) e in
+    let q = or-false (differ (continues b) (leb 0xc0 p1)) (eqb (b / 2) 96) (p .0) in
     (q .0, q .1, leb-false 0xe0 b (p .1))
 
 -- the law: a byte that the short test passes is right after bytes below 0xe0
