@@ -41,6 +41,13 @@ static void *room(size_t bytes) {
     return start;
 }
 
+static void *copy_of(const void *from, size_t bytes) {
+    void *copy = room(bytes);
+    if (bytes != 0)
+        memcpy(copy, from, bytes);
+    return copy;
+}
+
 static uint32_t *marked(size_t words) {
     uint32_t *start = (uint32_t *)room(4 * words);
     for (size_t i = 0; i < words; i++)
@@ -365,6 +372,13 @@ static bool text_inside(const struct image *image, uint32_t offset, uint32_t len
     return ask(TEXT, image, &asked, part) && (size_t)part[0] + part[1] <= image->length && part[1] == length;
 }
 
+/* Whether a text of the image is these bytes. */
+static bool text_is(const struct image *image, uint32_t offset, uint32_t length, const char *due, size_t due_length) {
+    uint32_t part[STORY_IMAGE_TEXT_WORDS];
+    return text_inside(image, offset, length, part) && length == due_length &&
+           memcmp(image->bytes + part[0], due, due_length) == 0;
+}
+
 /* A list value by its node, and from its payload and the strings: the same. */
 static void list_value(const struct image *image, uint32_t node, const uint32_t *words) {
     struct asked asked = {node, 0, 0, 0, image->bytes, 0};
@@ -616,20 +630,32 @@ static void names(void) {
 struct draft {
     const uint32_t *nodes, *children, *named, *definitions, *items;
     size_t node_words, child_words, named_words, definition_words, item_words;
+    const uint8_t *payload;
+    size_t payload_bytes;
     const char *strings;
 };
 
 static size_t write_words(const struct draft *draft) {
     static const uint32_t none[1] = {0};
-    size_t words = 16 * (draft->node_words / 10) + 4 * (draft->child_words + draft->named_words / 3 +
-                                                        draft->definition_words / 4 + draft->item_words / 3);
+    size_t words =
+        16 * (draft->node_words / 10) + 4 * (draft->child_words + draft->named_words / 3 + draft->definition_words / 4 +
+                                             draft->item_words / 3 + draft->payload_bytes);
     CHECK(story_image_write_words(draft->nodes, draft->node_words, draft->children ? draft->children : none,
                                   draft->child_words, draft->named ? draft->named : none, draft->named_words,
                                   draft->definitions ? draft->definitions : none, draft->definition_words,
-                                  draft->items ? draft->items : none, draft->item_words, (const uint8_t *)"",
-                                  0) == words,
+                                  draft->items ? draft->items : none, draft->item_words,
+                                  draft->payload ? draft->payload : (const uint8_t *)"", draft->payload_bytes) == words,
           "the words that writing needs");
     return words;
+}
+
+/* Whether work words that were marked are as writing, or finding targets, leaves them: 3, 19 and 7 leave all of them,
+ * else as many as are needed are 0, and those past them stay. */
+static bool work_is_left(const struct draft *draft, const uint32_t *work, size_t words, uint32_t number) {
+    if (number == STORY_IMAGE_BAD_INK_VERSION || number == STORY_IMAGE_BAD_DRAFT || number == STORY_IMAGE_TOO_FEW_WORDS)
+        return all_are(work, 0, words, MARK);
+    size_t needed = write_words(draft);
+    return needed <= words && all_are(work, 0, needed, 0) && all_are(work, needed, words, MARK);
 }
 
 /* Writes with so much room, and sees what the call leaves. */
@@ -637,24 +663,23 @@ static uint32_t put(const struct draft *draft, uint32_t ink, size_t words, uint8
                     uint32_t *long_as) {
     static const uint32_t none[1] = {0};
     uint32_t *work = marked(words), written[2] = {MARK, MARK};
-    uint8_t *before = (uint8_t *)room(length);
-    memcpy(before, output, length);
+    uint8_t *before = (uint8_t *)copy_of(output, length);
+    uint8_t *payload = (uint8_t *)copy_of(draft->payload, draft->payload_bytes);
+    uint8_t *strings = (uint8_t *)copy_of(draft->strings, strlen(draft->strings));
     uint32_t number = story_image_write(
         ink, draft->nodes, draft->node_words, draft->children ? draft->children : none, draft->child_words,
         draft->named ? draft->named : none, draft->named_words, draft->definitions ? draft->definitions : none,
-        draft->definition_words, draft->items ? draft->items : none, draft->item_words, (const uint8_t *)"", 0,
-        (const uint8_t *)draft->strings, strlen(draft->strings), work, words, output, length, written, 2);
-    bool early =
-        number == STORY_IMAGE_BAD_INK_VERSION || number == STORY_IMAGE_BAD_DRAFT || number == STORY_IMAGE_TOO_FEW_WORDS;
-    CHECK(early ? all_are(work, 0, words, MARK)
-                : all_are(work, 0, write_words(draft), 0) && all_are(work, write_words(draft), words, MARK),
-          "%u: the work words", (unsigned)number);
+        draft->definition_words, draft->items ? draft->items : none, draft->item_words, payload, draft->payload_bytes,
+        strings, strlen(draft->strings), work, words, output, length, written, 2);
+    CHECK(work_is_left(draft, work, words, number), "%u: the work words", (unsigned)number);
     CHECK(number == 0 || memcmp(before, output, length) == 0, "%u leaves the output", (unsigned)number);
     CHECK(number != 0 || memcmp(before + written[0], output + written[0], length - written[0]) == 0,
           "bytes past the image stay");
     CHECK(written[1] == MARK, "one word for the length");
     CHECK((written[0] == MARK) == (number != 0 && number != STORY_IMAGE_NO_ROOM), "%u: the length", (unsigned)number);
     *long_as = written[0];
+    free(strings);
+    free(payload);
     free(work);
     free(before);
     return number;
@@ -1534,12 +1559,8 @@ static struct draft story_draft(const uint32_t *nodes) {
     return draft;
 }
 
-static void *copy_of(const void *from, size_t bytes) {
-    void *copy = room(bytes);
-    if (bytes != 0)
-        memcpy(copy, from, bytes);
-    return copy;
-}
+/* The numbers that finding targets has given, one bit each. */
+static uint32_t target_numbers;
 
 /* Finds targets in the nodes, with so many work words, and sees what the call leaves. */
 static uint32_t find_targets(const struct draft *draft, uint32_t *nodes, const struct paths *paths, uint32_t ink,
@@ -1549,18 +1570,21 @@ static uint32_t find_targets(const struct draft *draft, uint32_t *nodes, const s
     uint32_t *entries = (uint32_t *)copy_of(paths->entries, 4 * paths->entry_words);
     uint32_t *components = (uint32_t *)copy_of(paths->components, 4 * paths->component_words);
     uint8_t *names = (uint8_t *)copy_of(paths->names, strlen(paths->names));
+    uint8_t *payload = (uint8_t *)copy_of(draft->payload, draft->payload_bytes);
+    uint8_t *strings = (uint8_t *)copy_of(draft->strings, strlen(draft->strings));
     uint32_t number = story_image_resolve_static_targets(
         ink, lent, draft->node_words, draft->children ? draft->children : none, draft->child_words,
-        draft->named ? draft->named : none, draft->named_words, none, 0, none, 0, (const uint8_t *)"", 0,
-        (const uint8_t *)draft->strings, strlen(draft->strings), entries, paths->entry_words, components,
-        paths->component_words, names, strlen(paths->names), work, words);
-    bool early =
-        number == STORY_IMAGE_BAD_INK_VERSION || number == STORY_IMAGE_BAD_DRAFT || number == STORY_IMAGE_TOO_FEW_WORDS;
-    CHECK(early ? all_are(work, 0, words, MARK)
-                : all_are(work, 0, write_words(draft), 0) && all_are(work, write_words(draft), words, MARK),
-          "targets, %u: the work words", (unsigned)number);
+        draft->named ? draft->named : none, draft->named_words, draft->definitions ? draft->definitions : none,
+        draft->definition_words, draft->items ? draft->items : none, draft->item_words, payload, draft->payload_bytes,
+        strings, strlen(draft->strings), entries, paths->entry_words, components, paths->component_words, names,
+        strlen(paths->names), work, words);
+    CHECK(number <= STORY_IMAGE_NO_CONTAINER, "targets: %u", (unsigned)number);
+    target_numbers |= UINT32_C(1) << (number & 31);
+    CHECK(work_is_left(draft, work, words, number), "targets, %u: the work words", (unsigned)number);
     CHECK(number == 0 || memcmp(lent, nodes, 4 * draft->node_words) == 0, "%u leaves the draft", (unsigned)number);
     memcpy(nodes, lent, 4 * draft->node_words);
+    free(strings);
+    free(payload);
     free(names);
     free(components);
     free(entries);
@@ -1569,8 +1593,9 @@ static uint32_t find_targets(const struct draft *draft, uint32_t *nodes, const s
     return number;
 }
 
-/* The same of the story with one path for each of four nodes: relative or not, components from `first` on. */
-static uint32_t find_four(uint32_t (*nodes)[10], uint32_t relative, uint32_t first, uint32_t count) {
+/* The same with one path for each of the story's four nodes: relative or not, components from `first` on. */
+static uint32_t find_four_in(const struct draft *draft, uint32_t *nodes, uint32_t relative, uint32_t first,
+                             uint32_t count, size_t words) {
     /* night; up, night, 1; night, 0; up, 4 */
     static const uint32_t components[] = {2, 0, 5, 0, 7, 7, 2, 0, 5, 1, 1, 7, 2, 0, 5, 1, 0, 7, 0, 7, 7, 1, 4, 7};
     uint32_t entries[16];
@@ -1581,18 +1606,37 @@ static uint32_t find_four(uint32_t (*nodes)[10], uint32_t relative, uint32_t fir
         entries[4 * i + STORY_IMAGE_PATH_COUNT] = count;
     }
     const struct paths paths = {entries, components, SIZE(entries), SIZE(components), "night"};
-    const struct draft draft = story_draft(nodes[0]);
-    return find_targets(&draft, nodes[0], &paths, 21, write_words(&draft) + 1);
+    return find_targets(draft, nodes, &paths, 21, words);
 }
 
-/* Whether the four nodes have the target and no path text, but the value its text, and no other word is another. */
-static bool have_target(uint32_t (*nodes)[10], uint32_t target) {
+static uint32_t find_four(uint32_t (*nodes)[10], uint32_t relative, uint32_t first, uint32_t count) {
+    const struct draft draft = story_draft(nodes[0]);
+    return find_four_in(&draft, nodes[0], relative, first, count, write_words(&draft) + 1);
+}
+
+/* Whether the four nodes have the target and no path text, but the value its text, and no other word is another than
+ * before. */
+static bool have_target(uint32_t (*nodes)[10], const uint32_t *before, uint32_t target) {
     uint32_t due[STORY_NODES][10];
-    memcpy(due, story_nodes, sizeof due);
+    memcpy(due, before, sizeof due);
     due[CHOICE_NODE][3] = due[CHOICE_NODE][4] = due[DIVERT_NODE][3] = due[DIVERT_NODE][4] = NONE;
     due[REFERENCE_NODE][5] = due[REFERENCE_NODE][6] = NONE;
     due[CHOICE_NODE][5] = due[DIVERT_NODE][5] = due[VALUE_NODE][5] = due[REFERENCE_NODE][7] = target;
     return memcmp(nodes, due, sizeof due) == 0;
+}
+
+/* The four nodes have the target in the image; a divert-target value shows none. */
+static void targets_in(const struct image *image, uint32_t target) {
+    struct asked asked = {0, 0, 0, 0, image->bytes, 0};
+    for (uint32_t node = CHOICE_NODE; node <= REFERENCE_NODE; node++) {
+        uint32_t view[STORY_IMAGE_NODE_WORDS];
+        asked.node = node;
+        uint32_t due = target;
+        if (node == VALUE_NODE)
+            due = NONE;
+        CHECK(ask(NODE_VIEW, image, &asked, view) && view[STORY_IMAGE_NODE_TARGET] == due,
+              "the target of node %u in the image", (unsigned)node);
+    }
 }
 
 static void targets(void) {
@@ -1610,22 +1654,14 @@ static void targets(void) {
         memcpy(nodes, story_nodes, sizeof nodes);
         uint32_t number = find_four(nodes, table[i].relative, table[i].first, table[i].count);
         CHECK(number == table[i].number, "targets, row %u: %u", (unsigned)i, (unsigned)number);
-        CHECK(number != 0 || have_target(nodes, table[i].target), "targets, row %u: the nodes", (unsigned)i);
+        CHECK(number != 0 || have_target(nodes, story_nodes[0], table[i].target), "targets, row %u: the nodes",
+              (unsigned)i);
     }
     memcpy(nodes, story_nodes, sizeof nodes);
     CHECK(find_four(nodes, 1, 1, 3) == 0, "targets before writing");
     const struct draft draft = story_draft(nodes[0]);
     struct image image = written(&draft, "the resolved draft");
-    struct asked asked = {0, 0, 0, 0, image.bytes, 0};
-    for (uint32_t node = CHOICE_NODE; node <= REFERENCE_NODE; node++) {
-        uint32_t view[STORY_IMAGE_NODE_WORDS];
-        asked.node = node;
-        uint32_t due = INNER;
-        if (node == VALUE_NODE)
-            due = NONE;
-        CHECK(ask(NODE_VIEW, &image, &asked, view) && view[STORY_IMAGE_NODE_TARGET] == due,
-              "the target of node %u in the image", (unsigned)node);
-    }
+    targets_in(&image, INNER);
     free(image.bytes);
 }
 
@@ -1721,6 +1757,300 @@ static void targets_as_written(void) {
     free(output);
 }
 
+/* The story with a node more, which is no child: 20, after 7 and before 21 and 25. As a child it is no hindrance. */
+static void unreached_targets(void) {
+    static const uint32_t glue[] = {0, 4, STORY_IMAGE_KIND_GLUE, 0, 0, 0, 0, 0, 0, 0};
+    static const uint32_t with_glue[] = {1, 2, 3, 4, STORY_NODES, 6, 7};
+    uint32_t nodes[STORY_NODES + 1][10];
+    memcpy(nodes, story_nodes, sizeof story_nodes);
+    memcpy(nodes[STORY_NODES], glue, sizeof glue);
+    struct draft draft = story_draft(nodes[0]);
+    draft.node_words = SIZE(nodes);
+    const size_t needed = write_words(&draft);
+    CHECK(find_four_in(&draft, nodes[0], 0, 0, 1, needed - 1) == STORY_IMAGE_TOO_FEW_WORDS, "7 before 20");
+    CHECK(find_four_in(&draft, nodes[0], 0, 0, 1, needed) == STORY_IMAGE_DRAFT_UNREACHED, "a glue that is not reached");
+    CHECK(find_four_in(&draft, nodes[0], 0, 0, 1, needed + 3) == STORY_IMAGE_DRAFT_UNREACHED,
+          "20, work words left over");
+    CHECK(find_four_in(&draft, nodes[0], 0, 1, 1, needed) == STORY_IMAGE_DRAFT_UNREACHED, "20 before 25");
+    CHECK(find_four_in(&draft, nodes[0], 0, 4, 2, needed) == STORY_IMAGE_DRAFT_UNREACHED, "20 before 26");
+    CHECK(find_four_in(&draft, nodes[0], 2, 0, 1, needed) == STORY_IMAGE_BAD_DRAFT, "19 before 20");
+    nodes[CHOICE_NODE][1] = 1;
+    CHECK(find_four_in(&draft, nodes[0], 0, 0, 1, needed) == STORY_IMAGE_DRAFT_UNREACHED, "20 before 21");
+    nodes[CHOICE_NODE][1] = 0;
+    CHECK(memcmp(nodes, story_nodes, sizeof story_nodes) == 0 && memcmp(nodes[STORY_NODES], glue, sizeof glue) == 0,
+          "no node word is another");
+    draft.children = with_glue;
+    draft.child_words = SIZE(with_glue);
+    nodes[0][7] = 5;
+    nodes[NIGHT][6] = 5;
+    nodes[INNER][6] = 7;
+    CHECK(find_four_in(&draft, nodes[0], 0, 0, 1, needed + 4) == 0 && nodes[CHOICE_NODE][5] == NIGHT, "a glue that is");
+}
+
+/* Words as the bytes of a payload. */
+static void payload_of(const uint32_t *words, size_t count, uint8_t *payload) {
+    for (size_t at = 0; at < 4 * count; at++)
+        payload[at] = (uint8_t)(words[at / 4] >> 8 * (at % 4));
+}
+
+/* A list value's payload: items night.seen 3 and seen -1, origin night. */
+static const uint32_t story_list[] = {2, 1, 0, 5, 5, 4, 3, NONE, NONE, 5, 4, UINT32_MAX, 0, 5};
+
+/* The story with all slices in use: definitions night and seen with items, a list value in place of the text. */
+static struct draft full_draft(uint32_t (*nodes)[10], const uint8_t *payload) {
+    static const uint32_t definitions[] = {0, 5, 0, 2, 5, 4, 2, 1}, items[] = {0, 5, 1, 5, 4, 3, 5, 4, UINT32_MAX};
+    static const uint32_t list[] = {NIGHT, 0, STORY_IMAGE_KIND_LIST, 0, sizeof story_list, 0, 0, 0, 0, 0};
+    memcpy(nodes, story_nodes, sizeof story_nodes);
+    memcpy(nodes[NIGHT_TEXT], list, sizeof list);
+    struct draft draft = story_draft(nodes[0]);
+    draft.definitions = definitions;
+    draft.definition_words = SIZE(definitions);
+    draft.items = items;
+    draft.item_words = SIZE(items);
+    draft.payload = payload;
+    draft.payload_bytes = sizeof story_list;
+    return draft;
+}
+
+/* What the image of the full draft shows: the list value, with texts where they are now, and the definitions. */
+static void full_image(const struct image *image) {
+    struct asked asked = {NIGHT_TEXT, 0, 0, 0, image->bytes, 0};
+    uint32_t view[STORY_IMAGE_NODE_WORDS], entry[STORY_IMAGE_LIST_ENTRY_WORDS], found[STORY_IMAGE_LIST_ITEM_WORDS];
+    targets_in(image, INNER);
+    CHECK(ask(NODE_VIEW, image, &asked, view) && view[STORY_IMAGE_NODE_KIND] == STORY_IMAGE_KIND_LIST, "a list value");
+    list_value(image, NIGHT_TEXT, view);
+    CHECK(ask(NODE_ENTRY, image, &asked, entry) && entry[STORY_IMAGE_LIST_ENTRY_VALUE] == 3, "its item 0");
+    CHECK(text_is(image, entry[STORY_IMAGE_LIST_ENTRY_NAME], entry[STORY_IMAGE_LIST_ENTRY_NAME_LENGTH], "seen", 4),
+          "the name of its item");
+    CHECK(text_is(image, entry[STORY_IMAGE_LIST_ENTRY_ORIGIN], entry[STORY_IMAGE_LIST_ENTRY_ORIGIN_LENGTH], "night", 5),
+          "the origin of its item");
+    asked.index = 1;
+    CHECK(ask(NODE_ENTRY, image, &asked, entry) && entry[STORY_IMAGE_LIST_ENTRY_VALUE] == UINT32_MAX &&
+              entry[STORY_IMAGE_LIST_ENTRY_ORIGIN] == NONE,
+          "its item 1");
+    definitions_of(image);
+    struct asked by = {0, 0, 0, 0, (const uint8_t *)"night.seen", 10};
+    CHECK(ask(LIST_ITEM, image, &by, found) && found[STORY_IMAGE_LIST_ITEM_ITEM] == 1 &&
+              found[STORY_IMAGE_LIST_ITEM_VALUE] == 3,
+          "an item of a definition");
+}
+
+/* Each slice of the full draft is tested, and no refusal changes a node. */
+static void full_refused(void) {
+    static const uint32_t outside[] = {0, 5, 0, 2, 5, 5, 2, 1}, turned[] = {5, 4, 0, 2, 0, 5, 2, 1};
+    static const uint32_t no_name[] = {0, 5, 1, 5, 5, 3, 5, 4, 1}, equal[] = {0, 5, 1, 0, 5, 3, 5, 4, 1};
+    uint32_t nodes[STORY_NODES][10];
+    uint8_t payload[sizeof story_list];
+    payload_of(story_list, SIZE(story_list), payload);
+    const struct draft draft = full_draft(nodes, payload);
+    struct draft other = draft;
+    const size_t needed = write_words(&draft);
+    other.definitions = outside;
+    CHECK(find_four_in(&other, nodes[0], 1, 1, 3, needed) == STORY_IMAGE_BAD_DRAFT, "a definition's name outside");
+    other.definitions = turned;
+    CHECK(find_four_in(&other, nodes[0], 1, 1, 3, needed) == STORY_IMAGE_DRAFT_SHAPE, "definitions out of order");
+    other = draft;
+    other.items = no_name;
+    CHECK(find_four_in(&other, nodes[0], 1, 1, 3, needed) == STORY_IMAGE_BAD_DRAFT, "an item's name outside");
+    other.items = equal;
+    CHECK(find_four_in(&other, nodes[0], 1, 1, 3, needed) == STORY_IMAGE_DRAFT_SHAPE, "two items of one name");
+    other = draft;
+    other.payload_bytes--;
+    CHECK(find_four_in(&other, nodes[0], 1, 1, 3, needed) == STORY_IMAGE_BAD_DRAFT, "a byte of payload too few");
+    CHECK(find_four_in(&draft, nodes[0], 1, 1, 3, needed - 1) == STORY_IMAGE_TOO_FEW_WORDS, "a work word too few");
+    CHECK(find_four_in(&draft, nodes[0], 0, 4, 2, needed) == STORY_IMAGE_NO_CONTAINER, "a path to the list value");
+    payload[20]++;
+    CHECK(find_four_in(&draft, nodes[0], 1, 1, 3, needed) == STORY_IMAGE_BAD_DRAFT, "a name in the list outside");
+}
+
+/* A draft with all slices in use is resolved and written. */
+static void full_targets(void) {
+    uint32_t nodes[STORY_NODES][10], before[STORY_NODES][10];
+    uint8_t payload[sizeof story_list];
+    payload_of(story_list, SIZE(story_list), payload);
+    const struct draft draft = full_draft(nodes, payload);
+    memcpy(before, nodes, sizeof before);
+    const size_t needed = write_words(&draft);
+    CHECK(find_four_in(&draft, nodes[0], 1, 1, 3, needed + 2) == 0, "all slices in use");
+    CHECK(have_target(nodes, before[0], INNER), "all slices in use: the nodes");
+    struct image image = written(&draft, "the full draft");
+    full_image(&image);
+    free(image.bytes);
+}
+
+/* ---- texts of drafts */
+
+/* The root with a value of a text and a container that bears it as a named child. */
+static struct draft text_draft(uint32_t (*nodes)[10], uint32_t *named, const char *strings) {
+    static const uint32_t all[3][10] = {
+        {NONE, NONE, STORY_IMAGE_KIND_CONTAINER, NONE, NONE, 0, 0, 2, 0, 1},
+        {0, 0, STORY_IMAGE_KIND_STRING, 0, 0, NONE, 0, 0, 0, 0},
+        {0, 1, STORY_IMAGE_KIND_CONTAINER, NONE, NONE, 0, 2, 0, 1, 0},
+    };
+    static const uint32_t children[] = {1, 2}, entry[] = {0, 0, 2};
+    memcpy(nodes, all, sizeof all);
+    memcpy(named, entry, sizeof entry);
+    struct draft draft;
+    memset(&draft, 0, sizeof draft);
+    draft.nodes = nodes[0];
+    draft.node_words = SIZE(all);
+    draft.children = children;
+    draft.child_words = SIZE(children);
+    draft.named = named;
+    draft.named_words = SIZE(entry);
+    draft.strings = strings;
+    return draft;
+}
+
+/* Whether the writer takes the text of a string value, which then stands in the image; 19 if not. */
+static bool text_of_value(const char *strings, uint32_t offset, uint32_t length) {
+    uint32_t nodes[3][10], named[3], view[STORY_IMAGE_NODE_WORDS], long_as;
+    uint8_t none[1] = {0};
+    const struct draft draft = text_draft(nodes, named, strings);
+    nodes[1][3] = offset;
+    nodes[1][4] = length;
+    uint32_t number = put(&draft, 21, write_words(&draft), none, 0, &long_as);
+    CHECK(number == STORY_IMAGE_NO_ROOM || number == STORY_IMAGE_BAD_DRAFT, "a value's text: %u", (unsigned)number);
+    if (number != STORY_IMAGE_NO_ROOM)
+        return false;
+    struct image image = written(&draft, "a value's text");
+    struct asked asked = {1, 0, 0, 0, image.bytes, 0};
+    CHECK(ask(NODE_VIEW, &image, &asked, view), "a value's view");
+    CHECK(text_is(&image, view[STORY_IMAGE_NODE_TEXT], view[STORY_IMAGE_NODE_TEXT_LENGTH], strings + offset, length),
+          "a value's text in the image");
+    free(image.bytes);
+    return true;
+}
+
+/* The same of a named entry. */
+static bool text_of_entry(const char *strings, uint32_t offset, uint32_t length) {
+    uint32_t nodes[3][10], named[3], found[STORY_IMAGE_FOUND_WORDS], long_as;
+    uint8_t none[1] = {0};
+    const struct draft draft = text_draft(nodes, named, strings);
+    named[0] = offset;
+    named[1] = length;
+    uint32_t number = put(&draft, 21, write_words(&draft), none, 0, &long_as);
+    CHECK(number == STORY_IMAGE_NO_ROOM || number == STORY_IMAGE_BAD_DRAFT, "an entry's text: %u", (unsigned)number);
+    if (number != STORY_IMAGE_NO_ROOM)
+        return false;
+    struct image image = written(&draft, "an entry's text");
+    struct asked asked = {0, 0, 0, 0, (const uint8_t *)strings + offset, length};
+    CHECK(ask(FIND, &image, &asked, found) && found[0] == 2, "a child by an entry's text");
+    free(image.bytes);
+    return true;
+}
+
+/* Whether targets are found where a divert-target value with a path has the text, which then stays; 19 if not. */
+static bool text_of_target(const char *strings, uint32_t offset, uint32_t length) {
+    static const uint32_t list[] = {1, 0, 0, 1}, components[] = {STORY_IMAGE_STEP_INDEX, 1, 7};
+    const struct paths paths = {list, components, SIZE(list), SIZE(components), ""};
+    uint32_t nodes[3][10], named[3], due[3][10];
+    const struct draft draft = text_draft(nodes, named, strings);
+    nodes[1][2] = STORY_IMAGE_KIND_DIVERT_TARGET;
+    nodes[1][3] = offset;
+    nodes[1][4] = length;
+    memcpy(due, nodes, sizeof due);
+    due[1][5] = 2;
+    uint32_t number = find_targets(&draft, nodes[0], &paths, 21, write_words(&draft));
+    CHECK(number == STORY_IMAGE_OK || number == STORY_IMAGE_BAD_DRAFT, "a target's text: %u", (unsigned)number);
+    if (number != STORY_IMAGE_OK)
+        return false;
+    CHECK(memcmp(nodes, due, sizeof due) == 0, "a target's text: the nodes");
+    struct image image = written(&draft, "a target's text");
+    free(image.bytes);
+    return true;
+}
+
+static void text_everywhere(const char *strings, uint32_t offset, uint32_t length, bool good) {
+    CHECK(text_of_value(strings, offset, length) == good, "text (%u, %u) of %u bytes, a value's", (unsigned)offset,
+          (unsigned)length, (unsigned)strlen(strings));
+    CHECK(text_of_entry(strings, offset, length) == good, "text (%u, %u) of %u bytes, an entry's", (unsigned)offset,
+          (unsigned)length, (unsigned)strlen(strings));
+    CHECK(text_of_target(strings, offset, length) == good, "text (%u, %u) of %u bytes, a target's", (unsigned)offset,
+          (unsigned)length, (unsigned)strlen(strings));
+}
+
+/* A text is bad if it is outside the strings or is not UTF-8, whatever stands beside it; the empty text is UTF-8 also
+ * between the bytes of a sequence. */
+static void cut_texts(void) {
+    static const struct {
+        uint32_t offset, length;
+        bool good;
+    } table[] = {
+        {0, 1, false}, {1, 1, false}, {0, 2, true},  {0, 0, true},     {1, 0, true},        {2, 0, true},
+        {0, 4, false}, {1, 3, false}, {4, 0, false}, {1, NONE, false}, {NONE, NONE, false}, {NONE, 0, false},
+    };
+    for (size_t i = 0; i < sizeof table / sizeof table[0]; i++) {
+        text_everywhere("\xc3\xa9", table[i].offset, table[i].length, table[i].good);
+        text_everywhere("\xc3\xa9\xff", table[i].offset, table[i].length, table[i].good);
+    }
+    /* the end of the strings, or the byte ff, which is no UTF-8 */
+    text_everywhere("\xc3\xa9", 3, 0, false);
+    text_everywhere("\xc3\xa9\xff", 3, 0, true);
+    text_everywhere("\xc3\xa9", 2, 1, false);
+    text_everywhere("\xc3\xa9\xff", 2, 1, false);
+    text_everywhere("\xc3\xa9\xff", 0, 3, false);
+    text_everywhere("\xc3\xa9\xff", 1, 2, false);
+}
+
+/* All texts of strings with sequences of one to four bytes, alone and with a byte ff before or behind them. A text is
+ * good if it is empty or begins and ends where a sequence does. */
+static void all_texts(void) {
+    static const char *const strings[] = {"z\xc3\xa9\xe2\x82\xac\xf0\x9f\x98\x80z",
+                                          "z\xc3\xa9\xe2\x82\xac\xf0\x9f\x98\x80z\xff",
+                                          "\xffz\xc3\xa9\xe2\x82\xac\xf0\x9f\x98\x80z"};
+    /* where a sequence begins, or the last one ends */
+    static const uint32_t ends[] = {0, 1, 3, 6, 10, 11};
+    for (uint32_t which = 0; which < 3; which++) {
+        const uint32_t first = which == 2, count = (uint32_t)strlen(strings[which]);
+        for (uint32_t from = 0; from <= count + 1; from++)
+            for (uint32_t to = from; to <= count + 1; to++) {
+                bool begins = false, stops = false;
+                for (size_t i = 0; i < SIZE(ends); i++) {
+                    begins = begins || from == first + ends[i];
+                    stops = stops || to == first + ends[i];
+                }
+                text_everywhere(strings[which], from, to - from, to <= count && (from == to || (begins && stops)));
+            }
+    }
+}
+
+/* Strings longer than the blocks by which they are tested, all of sequences of two bytes, the first of them at an even
+ * or an odd place; alone and with a byte ff behind them. Texts of up to three bytes, and to the end. */
+static void long_texts(void) {
+    enum { SEQUENCES = 150 };
+    char strings[2 * SEQUENCES + 3];
+    for (uint32_t which = 0; which < 4; which++) {
+        const uint32_t first = which % 2, end = first + 2 * SEQUENCES;
+        memset(strings, 0, sizeof strings);
+        strings[0] = 'z';
+        for (uint32_t at = first; at < end; at += 2)
+            memcpy(strings + at, "\xc3\xa9", 2);
+        if (which >= 2)
+            strings[end] = '\xff';
+        for (uint32_t from = first; from <= end; from++) {
+            const bool begins = (from - first) % 2 == 0;
+            for (uint32_t to = from; to <= from + 3 && to <= end; to++)
+                text_everywhere(strings, from, to - from, from == to || (begins && (to - from) % 2 == 0));
+            text_everywhere(strings, from, end - from, begins);
+            text_everywhere(strings, from, end + 1 - from, false);
+        }
+    }
+}
+
+/* Each number that finding targets may give has come up, and no other. */
+static void all_target_numbers(void) {
+    static const uint32_t due[] = {STORY_IMAGE_OK,        STORY_IMAGE_BAD_INK_VERSION, STORY_IMAGE_TOO_FEW_WORDS,
+                                   STORY_IMAGE_BAD_DRAFT, STORY_IMAGE_DRAFT_UNREACHED, STORY_IMAGE_DRAFT_SHAPE,
+                                   STORY_IMAGE_NO_TARGET, STORY_IMAGE_NO_CONTAINER};
+    uint32_t others = target_numbers;
+    for (size_t i = 0; i < SIZE(due); i++) {
+        CHECK(target_numbers >> due[i] & 1, "targets: %u has not come up", (unsigned)due[i]);
+        others &= ~(UINT32_C(1) << due[i]);
+    }
+    CHECK(others == 0, "targets: numbers that are none of theirs, %x", (unsigned)others);
+}
+
 int main(int count, char **arguments) {
     if (count != 2) {
         fprintf(stderr, "library SAMPLES\n");
@@ -1757,6 +2087,13 @@ int main(int count, char **arguments) {
     lists_of_paths();
     deeper_target();
     targets_as_written();
+    unreached_targets();
+    full_targets();
+    full_refused();
+    cut_texts();
+    all_texts();
+    long_texts();
+    all_target_numbers();
     printf("%lu passed, %lu failed\n", passed, failed);
     return failed != 0;
 }
