@@ -549,3 +549,89 @@ fn room_for_paths() {
     assert_eq!(any.path_words(), 8);
     assert_eq!(by_texts(&mut any), Err(Refusal::BAD_DRAFT));
 }
+
+/// Whether a text is taken: of a string value and of a named entry by the writer, then of a divert-target value whose
+/// target is found from a path.
+fn taken(strings: &[u8], offset: u32, length: u32) -> [bool; 3] {
+    let nodes = |tag, offset, length| {
+        let root = [NONE, NONE, 1, NONE, NONE, 0, 0, 2, 0, 1];
+        [root, [0, 0, tag, offset, length, NONE, 0, 0, 0, 0], [0, 1, 1, NONE, NONE, 0, 2, 0, 1, 0]].concat()
+    };
+    let is_taken = |given: Result<(), Refusal>| {
+        assert!(matches!(given, Ok(()) | Err(Refusal::BAD_DRAFT)), "{given:?}");
+        given.is_ok()
+    };
+    let children = &[1, 2];
+    let written = |nodes: &[u32], named: &[u32]| {
+        let draft = Draft { nodes, children, named, strings, ..Draft::default() };
+        let (mut work, mut output) = (vec![0; draft.work_words()], [0; 1000]);
+        let text = strings.get(offset as usize..).and_then(|rest| rest.get(..length as usize));
+        is_taken(draft.write(21, &mut work, &mut output).map_err(Refusal::from).map(|bytes| {
+            let image = Image::load(bytes, &mut vec![0; load_words(bytes)]).unwrap();
+            let text = str::from_utf8(text.unwrap()).unwrap();
+            let value = image.node_view(1).unwrap().kind == NodeKindView::Value(ValueView::String(text));
+            assert!(value || image.find_named_child(0, text) == Some(2), "{text} is in the image");
+        }))
+    };
+    let mut open = nodes(VALUE, offset, length);
+    let mut draft = OpenDraft { nodes: &mut open, children, named: &[0, 0, 2], strings, ..OpenDraft::default() };
+    let found = is_taken(resolved(&mut draft, &Paths { entries: &[1, 0, 0, 1], components: &[1, 1, 0], names: &[] }));
+    assert_eq!(node(&mut draft, 1)[3..6], [offset, length, if found { 2 } else { NONE }]);
+    let value = written(&nodes(11, offset, length), &[0, 0, 2]);
+    [value, written(&nodes(11, 0, 0), &[offset, length, 2]), found]
+}
+
+/// A text is bad if it is outside the strings or not UTF-8, whatever stands beside it. The empty text is UTF-8, also
+/// between the bytes of a sequence.
+#[test]
+fn cut_texts() {
+    let (alone, beside): (&[u8], &[u8]) = (b"\xc3\xa9", b"\xc3\xa9\xff");
+    for (offset, length, good) in [
+        (0, 1, false),
+        (1, 1, false),
+        (0, 2, true),
+        (0, 0, true),
+        (1, 0, true),
+        (2, 0, true),
+        // the end, or the byte ff
+        (2, 1, false),
+        (0, 3, false),
+        (1, 2, false),
+        (4, 0, false),
+        (1, NONE, false),
+        (NONE, 0, false),
+        (NONE, NONE, false),
+    ] {
+        assert_eq!(taken(alone, offset, length), [good; 3], "({offset}, {length})");
+        assert_eq!(taken(beside, offset, length), [good; 3], "({offset}, {length}) beside a byte ff");
+    }
+    assert_eq!((taken(alone, 3, 0), taken(beside, 3, 0)), ([false; 3], [true; 3]));
+}
+
+/// The same of all texts of some strings, against the test of the standard library.
+#[test]
+fn all_texts() {
+    let long = "é".repeat(40);
+    for strings in [
+        "zé€😀z".as_bytes(),
+        b"\xffz\xc3\xa9\xe2\x82\xac\xf0\x9f\x98\x80z",
+        b"z\xc3\xa9\xff\xe2\x82\xac\xff\xf0\x9f\x98\x80",
+        // cut at either end; overlong; a surrogate; past the last code point
+        b"\xa9z\xc3\xa9\xc3",
+        b"\x82\xac\xe2\x82\xac\xe2\x82",
+        b"z\xc0\x80z\xe0\x80\x80\xc3\xa9",
+        b"z\xed\xa0\x80\xed\x9f\xbf",
+        b"\xf4\x90\x80\x80\xf4\x8f\xbf\xbf",
+        long.as_bytes(),
+        &[b"z", long.as_bytes(), b"\xff"].concat(),
+    ] {
+        for offset in 0..strings.len() + 2 {
+            for length in 0..strings.len() + 2 - offset {
+                let text = strings.get(offset..offset + length);
+                let good = text.is_some_and(|text| str::from_utf8(text).is_ok());
+                let given = taken(strings, offset as u32, length as u32);
+                assert_eq!(given, [good; 3], "({offset}, {length}) of {strings:x?}");
+            }
+        }
+    }
+}
