@@ -770,6 +770,8 @@ static struct image written(const struct draft *draft, const char *name) {
     size_t words = write_words(draft);
     uint8_t none[1] = {0};
     CHECK(put(draft, 21, words, none, 0, &length) == STORY_IMAGE_NO_ROOM, "%s: its length", name);
+    if (length == MARK) /* it is refused: no bytes, which no load accepts */
+        length = 0;
     uint8_t *output = (uint8_t *)room(length);
     memset(output, 0x77, length);
     CHECK(put(draft, 21, words, output, length, &written) == STORY_IMAGE_OK && written == length, "%s is written",
@@ -1871,7 +1873,10 @@ static void full_targets(void) {
     const struct draft draft = full_draft(nodes, payload);
     memcpy(before, nodes, sizeof before);
     const size_t needed = write_words(&draft);
-    CHECK(find_four_in(&draft, nodes[0], 1, 1, 3, needed + 2) == 0, "all slices in use");
+    uint32_t number = find_four_in(&draft, nodes[0], 1, 1, 3, needed + 2);
+    CHECK(number == 0, "all slices in use: %u", (unsigned)number);
+    if (number != 0)
+        return;
     CHECK(have_target(nodes, before[0], INNER), "all slices in use: the nodes");
     struct image image = written(&draft, "the full draft");
     full_image(&image);
