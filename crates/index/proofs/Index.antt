@@ -8,12 +8,11 @@ use Rattle.laws.specs.Refusal.{firstOf, unless, _▸_}
 use Rattle.laws.proofs.First.{both, passed, first-all, first-of}
 use Rattle.words.specs.Words.{wordsOf}
 use Rattle.texts.specs.Text.{before, rising}
-use Rattle.texts.specs.Dots.{dot}
 use Rattle.image.specs.Sections.{Sections, textEntryWords, nodeWord, parentOf, indexWord, indexCount, nodeCount, goodText, insideContainer}
-use Rattle.index.specs.Paths.{nameless, piece, pathFrom, canonicalPath, topPlace, fits}
+use Rattle.index.specs.Paths.{nameless, piece, pathFrom, canonicalPath, hasPiece, hasPathFrom, hasPath, fits}
 use Rattle.index.specs.Index.{indexText, indexEntryRule, indexRule}
 use Rattle.index.specs.Parts.{indexParts, pathNodeOf}
-use Rattle.index.proofs.Paths.{fits-plain}
+use Rattle.index.proofs.Paths.{fits-one}
 use Rattle.image.proofs.RisingTexts.{rising-before, rising-once, rising-like}
 use Rattle.laws.proofs.RuleRuns.{first-like}
 
@@ -60,14 +59,17 @@ module _ (s : Sections) (p : indexRule s ≡ 0) where
   pub index-once : (j k : ℕ) → j < indexCount s → k < indexCount s → indexText s j ≡ indexText s k → j ≡ k
   index-once = rising-once (indexText s) (indexCount s) (λ j h. index-passed s p j h .order)
 
-  -- an entry whose text is not a dot before its target's path bears the path
-  pub index-path : (j : ℕ) → j < indexCount s → (indexText s j ≡ dot ∷ canonicalPath s (indexWord s j 2) → ⊥) → indexText s j ≡ canonicalPath s (indexWord s j 2)
-  index-path j h d = fits-plain s (indexWord s j 2) (indexText s j) (index-passed s p j h .fit) d
+  -- the text of an entry is its target's path
+  pub index-path : (j : ℕ) → j < indexCount s → indexText s j ≡ canonicalPath s (indexWord s j 2)
+  index-path j h = fits-one s (indexWord s j 2) (indexText s j) (index-passed s p j h .fit) .1
 
-  -- so two such entries of one target are one
-  pub index-target : (j k : ℕ) → j < indexCount s → k < indexCount s → indexWord s j 2 ≡ indexWord s k 2
-      → (indexText s j ≡ dot ∷ canonicalPath s (indexWord s j 2) → ⊥) → (indexText s k ≡ dot ∷ canonicalPath s (indexWord s k 2) → ⊥) → j ≡ k
-  index-target j k h g e d q = index-once j k h g (index-path j h d ∙ ap (canonicalPath s) e ∙ sym (index-path k g q))
+  -- which has all its pieces
+  pub index-has : (j : ℕ) → j < indexCount s → hasPath s (indexWord s j 2) ≡ true
+  index-has j h = fits-one s (indexWord s j 2) (indexText s j) (index-passed s p j h .fit) .0
+
+  -- so two entries of one target are one
+  pub index-target : (j k : ℕ) → j < indexCount s → k < indexCount s → indexWord s j 2 ≡ indexWord s k 2 → j ≡ k
+  index-target j k h g e = index-once j k h g (index-path j h ∙ ap (canonicalPath s) e ∙ sym (index-path k g))
 
 -- ---- sections with the same nodes, index and strings
 
@@ -102,14 +104,17 @@ module _ (s r : Sections) (versioned : s .version ≡ r .version) (nodes : s .no
   path-like zero i = refl
   path-like (suc n) i = rw (at-word i 0, path-like n (parentOf r i), piece-like i)
 
-  pub top-like : (n i : ℕ) → topPlace n s i ≡ topPlace n r i
-  unfolding topPlace
-  top-like zero i = refl
-  top-like (suc n) i = rw (at-word i 0, top-like n (parentOf r i), nameless-like i)
+  has-piece-like : (i : ℕ) → hasPiece s i ≡ hasPiece r i
+  has-piece-like i = rw (nameless-like i, at-word i 1)
+
+  pub has-like : (n i : ℕ) → hasPathFrom n s i ≡ hasPathFrom n r i
+  unfolding hasPathFrom
+  has-like zero i = refl
+  has-like (suc n) i = rw (at-word i 0, has-like n (parentOf r i), has-piece-like i)
 
   pub fits-like : (i : ℕ) (t : List ℕ) → fits s i t ≡ fits r i t
   unfolding fits
-  fits-like i t = rw (count-like s r versioned nodes, top-like (nodeCount r) i, path-like (nodeCount r) i)
+  fits-like i t = rw (count-like s r versioned nodes, has-like (nodeCount r) i, path-like (nodeCount r) i)
 
   module _ (index : s .index ≡ r .index) where
     entry-word-like : (j k : ℕ) → indexWord s j k ≡ indexWord r j k

@@ -1,18 +1,16 @@
 -- A text against the end of another: what is left before an end that both have, and the texts that fit a path piece by piece from its end on.
 use Prim.Native.Nat.{ℕ, _+_, _-_, _≤_, _<_}
 use mathlib.Core.Path.{_≡_, refl, sym, ap, _∙_}
-use mathlib.Core.Logic.{_⊎_, inl, inr}
 use mathlib.Core.List.{List, [], _∷_, _++_}
-use mathlib.Core.Bool.{Bool, true, false, _&&_, _||_, or-false, false≢true}
+use mathlib.Core.Bool.{Bool, true, false, _&&_}
 use native.Mathlib.Omega.{arith}
 use lib.Dec.{eqb}
-use lib.ListN.{length, getD, take, drop, length-append}
+use lib.ListN.{length, take, drop, length-append}
 use lib.Seq.{take-at, drop-at, take-add, length-take-le}
 use borrow.Author.Tests.{eqb-true, eqb-false}
+use Rattle.laws.proofs.Flags.{and-false}
 use Rattle.texts.specs.Text.{same}
-use Rattle.texts.specs.Dots.{dot}
-use Rattle.texts.proofs.Text.{same-self, same-equal, equal-same, unlike-same, same-iff, length-same}
-use Rattle.index.specs.Paths.{fitsPath}
+use Rattle.texts.proofs.Text.{same-self, unlike-same, same-iff, length-same}
 
 -- ---- two texts with ends of one length
 
@@ -44,67 +42,17 @@ empty-part t end h = by (eqb end 0) refl
     by true e = rw (eqb-true end 0 e) (same-self [])
     by false e = length-same (take end t) [] (λ q. eqb-false end 0 e (sym (length-take-le end t h) ∙ q))
 
--- ---- a text that fits a path
+-- ---- a text that fits a path: it is the path, and the path has all its pieces
 
-neither : (placed a b : Bool) → a ≡ false → b ≡ false → (a || (placed && b)) ≡ false
-neither true a b p q = rw (p, q)
-neither false a b p q = rw p
+abbrev pub fitsPath : Bool → List ℕ → List ℕ → Bool
+fitsPath whole t path = whole && same t path
 
-module _ (placed : Bool) where
-  pub fits-front : (x a b : List ℕ) → fitsPath placed (x ++ b) (a ++ b) ≡ fitsPath placed x a
-  unfolding fitsPath
-  fits-front x a b = rw (same-front x a b, same-front x (dot ∷ a) b)
+module _ (whole : Bool) where
+  pub fits-front : (x a b : List ℕ) → fitsPath whole (x ++ b) (a ++ b) ≡ fitsPath whole x a
+  fits-front x a b = rw (same-front x a b)
 
-  pub fits-other : (x y a b : List ℕ) → length y ≡ length b → (y ≡ b → ⊥) → fitsPath placed (x ++ y) (a ++ b) ≡ false
-  unfolding fitsPath
-  fits-other x y a b h d = neither placed _ _ (other-end x y a b h d) (other-end x y (dot ∷ a) b h d)
+  pub fits-other : (x y a b : List ℕ) → length y ≡ length b → (y ≡ b → ⊥) → fitsPath whole (x ++ y) (a ++ b) ≡ false
+  fits-other x y a b h d = rw (other-end x y a b h d) (and-false whole)
 
-  pub fits-short : (t a b : List ℕ) → length t < length b → fitsPath placed t (a ++ b) ≡ false
-  unfolding fitsPath
-  fits-short t a b h = neither placed _ _ (too-short t a b h) (too-short t (dot ∷ a) b h)
-
--- the empty path without a place
-pub fits-empty : (t : List ℕ) → fitsPath false t [] ≡ same t []
-unfolding fitsPath
-fits-empty t = or-false (same t [])
-
--- ---- what stands before the topmost piece
-
-pub lead-none : (placed : Bool) (t : List ℕ) → length t ≡ 0 → fitsPath placed t [] ≡ true
-unfolding fitsPath
-lead-none placed [] h = rw (same-self [])
-lead-none placed (b ∷ t) h = absurd (omega arith)
-
-pub lead-long : (placed : Bool) (t : List ℕ) → (length t ≡ 0 → ⊥) → (length t ≡ 1 → ⊥) → fitsPath placed t [] ≡ false
-unfolding fitsPath
-lead-long placed t h g = neither placed _ _ (length-same t [] h) (length-same t (dot ∷ []) g)
-
-pub lead-named : (t : List ℕ) → (length t ≡ 0 → ⊥) → fitsPath false t [] ≡ false
-lead-named t h = fits-empty t ∙ length-same t [] h
-
-pub lead-dot : (t : List ℕ) → length t ≡ 1 → fitsPath true t [] ≡ eqb (getD t 0 0) dot
-unfolding fitsPath
-lead-dot [] h = absurd (omega arith)
-lead-dot (b ∷ []) h = rw (length-same (b ∷ []) [] (λ e. omega arith)) (by (eqb b dot) refl)
-  where
-    by : (r : Bool) → eqb b dot ≡ r → same (b ∷ []) (dot ∷ []) ≡ r
-    by true p = equal-same (b ∷ []) (dot ∷ []) (ap (λ (x : ℕ). x ∷ []) (eqb-true b dot p))
-    by false p = unlike-same (b ∷ []) (dot ∷ []) (λ q. eqb-false b dot p (ap (λ (l : List ℕ). getD l 0 0) q))
-lead-dot (b ∷ c ∷ t) h = absurd (omega arith)
-
--- ---- the two texts that fit
-
-pub fits-either : (placed : Bool) (t path : List ℕ) → fitsPath placed t path ≡ true → (t ≡ path) ⊎ ((placed ≡ true) × (t ≡ dot ∷ path))
-unfolding fitsPath
-fits-either placed t path p = by (same t path) (same t (dot ∷ path)) placed refl refl refl p
-  where
-    by : (a b c : Bool) → same t path ≡ a → same t (dot ∷ path) ≡ b → placed ≡ c → (a || (c && b)) ≡ true → (t ≡ path) ⊎ ((placed ≡ true) × (t ≡ dot ∷ path))
-    by true b c e f g h = inl (same-equal t path e)
-    by false true true e f g h = inr (g, same-equal t (dot ∷ path) f)
-    by false true false e f g h = absurd (false≢true h)
-    by false false true e f g h = absurd (false≢true h)
-    by false false false e f g h = absurd (false≢true h)
-
-pub fits-path : (placed : Bool) (t path : List ℕ) → t ≡ path → fitsPath placed t path ≡ true
-unfolding fitsPath
-fits-path placed t path e = rw (equal-same t path e)
+  pub fits-short : (t a b : List ℕ) → length t < length b → fitsPath whole t (a ++ b) ≡ false
+  fits-short t a b h = rw (too-short t a b h) (and-false whole)

@@ -1,8 +1,9 @@
--- The canonical path of a container, and the texts that fit it.
+-- The canonical path of a container, and the text that fits it.
 use Prim.Native.Nat.{ℕ, zero, suc, _+_}
 use mathlib.Core.List.{List, [], _∷_, _++_}
 use mathlib.Core.Bool.{Bool, true, false, cond, _&&_, _||_, not}
 use lib.Dec.{eqb}
+use Rattle.words.specs.Words.{isNone}
 use Rattle.texts.specs.Text.{same, texts}
 use Rattle.texts.specs.Decimal.{decimal, decimals}
 use Rattle.texts.specs.Dots.{dot}
@@ -38,22 +39,29 @@ pathFrom (suc n) s i =
 abbrev pub canonicalPath : Sections → ℕ → List ℕ
 canonicalPath s i = pathFrom (nodeCount s) s i
 
--- the topmost piece is a place; the root has no piece
-unfoldable pub topPlace : ℕ → Sections → ℕ → Bool
-topPlace zero s i = false
-topPlace (suc n) s i =
-    let above = topPlace n s (parentOf s i) in
-    cond (eqb i 0) false (cond (eqb (parentOf s i) 0) (nameless s i) above)
+-- a container has a non-empty name, or a place that is not NONE: it is not a nameless container of place NONE
+abbrev pub hasPieceBy : ℕ → ℕ → ℕ → Bool
+hasPieceBy place at len = not (noName at len) || not (isNone place)
 
--- a text fits a path: it is the path, or a dot before it where the topmost piece is a place
-unfoldable pub fitsPath : Bool → List ℕ → List ℕ → Bool
-fitsPath placed t path = same t path || (placed && same t (dot ∷ path))
+abbrev pub hasPiece : Sections → ℕ → Bool
+hasPiece s i = not (nameless s i) || not (isNone (placeOf s i))
 
--- an index text fits its target
+-- node i and all on the way from it up to the root have one, the root excepted; the first argument bounds the steps
+unfoldable pub hasPathFrom : ℕ → Sections → ℕ → Bool
+hasPathFrom zero s i = true
+hasPathFrom (suc n) s i =
+    let above = hasPathFrom n s (parentOf s i) in
+    cond (eqb i 0) true (hasPiece s i && above)
+
+-- no nameless container of place NONE, the root excepted, is node i or on the way to it
+abbrev pub hasPath : Sections → ℕ → Bool
+hasPath s i = hasPathFrom (nodeCount s) s i
+
+-- an index text fits its target: it is the canonical path, and nothing fits where a nameless container of place NONE is the target or on the way
 unfoldable pub fits : Sections → ℕ → List ℕ → Bool
-fits s i t = fitsPath (topPlace (nodeCount s) s i) t (canonicalPath s i)
+fits s i t = hasPath s i && same t (canonicalPath s i)
 
 -- names on an `unfolding` line what a computation with this module needs
 unfoldable pub paths : Unit {0}
-unfolding nameless pieceOf piece pathFrom topPlace fitsPath fits sections texts decimals
+unfolding nameless pieceOf piece pathFrom hasPathFrom fits sections texts decimals
 paths = tt

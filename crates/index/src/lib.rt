@@ -6,7 +6,7 @@ ghost use lib.ListN.{length};
 ghost use Rattle.laws.specs.Refusal.{firstOf};
 ghost use Rattle.texts.specs.Text.{same};
 ghost use Rattle.image.specs.Sections.{textEntrySize, definitionSize};
-ghost use Rattle.index.specs.Paths.{noName, pieceOf, fitsPath, fits};
+ghost use Rattle.index.specs.Paths.{noName, pieceOf, hasPieceBy, fits};
 ghost use Rattle.index.specs.Index.{indexEntryRule, indexRule};
 ghost use Rattle.index.specs.Definitions.{itemsBefore, itemRuleFrom, definitionRule, definitionsRule};
 ghost use Rattle.index.specs.Parts.{indexParts, definitionParts, pathNodeOf};
@@ -69,20 +69,17 @@ fn is_piece(strings: &[u8], node: PathNode, text: &[u8]) -> bool
     texts::equal(text, image::text_bytes(strings, node.offset, node.len))
 }
 
-// Whether what is left before the topmost piece may stand there: nothing, or a dot before a place.
-fn may_lead(rest: &[u8], placed: bool) -> bool
-    ensures { λ r. ⌜ r ≡ fitsPath placed (now (rest .entry)) [] ⌝ }
+// Whether a node has a name or a place: it is not a nameless one of place NONE.
+fn has_piece(node: PathNode) -> bool
+    ensures { λ r. ⌜ r ≡ hasPieceBy (node .place) (node .offset) (node .len) ⌝ }
 {
-    if rest.len() == 0 {
+    if node.place != image::NONE {
         return true;
     }
-    if rest.len() != 1 {
-        return false;
-    }
-    if placed { rest[0] == b'.' } else { false }
+    !no_name(node.offset, node.len)
 }
 
-// Whether the text is the canonical path of a node, or a dot before it where the topmost piece is a place.
+// Whether the text is the canonical path of a node, and the node and all on the way to it, the root excepted, have a name or a place.
 // It is compared from its end on, up to the root, so no path is built.
 fn matches_canonical_path(nodes: &[u8], strings: &[u8], id: u32, text: &[u8], version: u32) -> bool
     ensures { λ r. ⌜ r ≡ fits (indexParts version (now (nodes .entry)) [] (now (strings .entry))) id (now (text .entry)) ⌝ }
@@ -96,6 +93,9 @@ fn matches_canonical_path(nodes: &[u8], strings: &[u8], id: u32, text: &[u8], ve
         }
         steps -= 1;
         let node = path_node(nodes, at, version);
+        if !has_piece(node) {
+            return false;
+        }
         let size = piece_len(strings, node);
         if end < size {
             return false;
@@ -105,7 +105,7 @@ fn matches_canonical_path(nodes: &[u8], strings: &[u8], id: u32, text: &[u8], ve
             return false;
         }
         if node.parent == 0 {
-            return may_lead(&text[..start], no_name(node.offset, node.len));
+            return start == 0;
         }
         if start == 0 {
             return false;

@@ -8,10 +8,10 @@ use lib.ListN.{length, take}
 use lib.Seq.{take-length, length-take-le}
 use borrow.Author.Tests.{not-true, not-false}
 use Rattle.image.specs.Sections.{Sections}
-use Rattle.index.specs.Paths.{fitsPath, fits}
+use Rattle.index.specs.Paths.{fits}
 use Rattle.index.specs.Parts.{indexParts}
 use Rattle.index.proofs.Suffix.{empty-part}
-use Rattle.index.proofs.Paths.{fitsFrom, whole-fits, pieceBy, PathReached, Matched, fits-bound, fits-root, step-short, step-other, step-top, step-none, step-no-dot, step-dot}
+use Rattle.index.proofs.Paths.{fitsFrom, whole-fits, pieceBy, PathReached, Matched, fits-bound, fits-root, has-read, step-lost, step-short, step-other, step-top, step-none, step-no-dot, step-dot}
 use Rattle.index.proofs.Index.{path-node-like}
 use borrow.Author.Needs.{needs}
 use Rattle.index.proofs.matches_canonical_path.Statement.{statement}
@@ -24,10 +24,10 @@ Inv-loop nodes strings id text version steps₀ at₀ end₀ steps at end =
 abbrev μ-loop : tie.MeasureT-loop
 μ-loop nodes strings id text version steps₀ at₀ end₀ steps at end = steps
 
--- a node has been read
-module _ (c : tie.After-path-node Inv-loop μ-loop) where
+-- a node has been read, and has a name or a place
+module _ (c : tie.Else2 Inv-loop μ-loop) where
   abbrev here : tie.At-loop Inv-loop μ-loop
-  here = c .before .before .before
+  here = c .before .before .before .before .before
 
   abbrev whole : Sections
   whole = indexParts (here .before .before .before .before .before .args .version) (here .before .before .before .before .before .args .nodes .now) [] (here .before .before .before .before .before .args .strings .now)
@@ -35,31 +35,32 @@ module _ (c : tie.After-path-node Inv-loop μ-loop) where
   abbrev text : List ℕ
   text = here .before .before .before .before .before .args .text .now
 
-  reached : PathReached whole text (here .loop .steps - 1) (here .loop .at) (here .loop .end) (c .path-node .result)
+  reached : PathReached whole text (here .loop .steps - 1) (here .loop .at) (here .loop .end) (c .before .before .path-node .result)
   reached =
       record {
-        away = c .before .before .loop-test .taken;
-        read = c .path-node .ensures ∙ path-node-like (indexParts (here .before .before .before .before .before .args .version) (here .before .before .before .before .before .args .nodes .now) [] []) whole refl refl (here .loop .at);
+        away = c .before .before .before .before .loop-test .taken;
+        read = c .before .before .path-node .ensures ∙ path-node-like (indexParts (here .before .before .before .before .before .args .version) (here .before .before .before .before .before .args .nodes .now) [] []) whole refl refl (here .loop .at);
         inside = here .loop .inv .0;
+        has = sym (c .before .has-piece .ensures) ∙ not-false (c .before .has-piece .result) (c .if2 .left);
       }
 
   left : fits whole (here .before .before .before .before .before .args .id) text ≡ fitsFrom (suc (here .loop .steps - 1)) whole (here .loop .at) (take (here .loop .end) text)
   left = here .loop .inv .1 ∙ ap (λ (n : ℕ). fitsFrom n whole (here .loop .at) (take (here .loop .end) text)) (omega arith)
 
 -- its piece is found
-module _ (c : tie.Else3 Inv-loop μ-loop) where
-  abbrev node : tie.After-path-node Inv-loop μ-loop
+module _ (c : tie.Else4 Inv-loop μ-loop) where
+  abbrev node : tie.Else2 Inv-loop μ-loop
   node = c .before .before .before .before .before
 
   abbrev start : ℕ
   start = here node .loop .end - c .before .before .before .before .piece-len .result
 
-  found : Matched (whole node) (text node) (here node .loop .end) start (node .path-node .result)
+  found : Matched (whole node) (text node) (here node .loop .end) start (node .before .before .path-node .result)
   found =
       record {
         size = omega arith;
         long = omega (arith, c .before .before .before .before .piece-len .ensures);
-        like = sym (c .before .is-piece .ensures) ∙ not-false (c .before .is-piece .result) (c .if3 .left);
+        like = sym (c .before .is-piece .ensures) ∙ not-false (c .before .is-piece .result) (c .if4 .left);
       }
 
 node-count-requires : tie.Need-node-count-requires Inv-loop μ-loop
@@ -87,13 +88,28 @@ sub-steps c = search needs
 path-node-requires : tie.Need-path-node-requires Inv-loop μ-loop
 path-node-requires c κs = search needs
 
-piece-len-requires : tie.Need-piece-len-requires Inv-loop μ-loop
-piece-len-requires c κs = search needs
+has-piece-requires : tie.Need-has-piece-requires Inv-loop μ-loop
+has-piece-requires c κs = search needs
 
 returns-2 : tie.Need-returns-2 Inv-loop μ-loop
 returns-2 c =
+    let read = c .before .before in
+    let loop = read .before .before .before in
+    let args = loop .before .before .before .before .before .args in
+    let s = indexParts (args .version) (args .nodes .now) [] (args .strings .now) in
+    let e = read .path-node .ensures ∙ path-node-like (indexParts (args .version) (args .nodes .now) [] []) s refl refl (loop .loop .at) in
+    sym (loop .loop .inv .1
+    ∙ ap (λ (n : ℕ). fitsFrom n s (loop .loop .at) (take (loop .loop .end) (args .text .now))) (omega arith)
+    ∙ step-lost s (loop .loop .steps - 1) (loop .loop .at) (take (loop .loop .end) (args .text .now)) (read .before .before .loop-test .taken)
+    (has-read s (loop .loop .at) (read .path-node .result) e ∙ sym (c .before .has-piece .ensures) ∙ not-true (c .before .has-piece .result) (c .if2 .taken)))
+
+piece-len-requires : tie.Need-piece-len-requires Inv-loop μ-loop
+piece-len-requires c κs = search needs
+
+returns-3 : tie.Need-returns-3 Inv-loop μ-loop
+returns-3 c =
     let at = c .before .before in
-    let short : here at .loop .end < length (pieceBy (whole at) (at .path-node .result)) = omega (arith, c .before .piece-len .ensures) in
+    let short : here at .loop .end < length (pieceBy (whole at) (at .before .before .path-node .result)) = omega (arith, c .before .piece-len .ensures) in
     sym (left at ∙ step-short (reached at) short)
 
 sub-is-piece : tie.Need-sub-is-piece Inv-loop μ-loop
@@ -108,45 +124,36 @@ part-is-piece-end c = search needs
 is-piece-requires : tie.Need-is-piece-requires Inv-loop μ-loop
 is-piece-requires c κs = search needs
 
-returns-3 : tie.Need-returns-3 Inv-loop μ-loop
-returns-3 c =
+returns-4 : tie.Need-returns-4 Inv-loop μ-loop
+returns-4 c =
     let at = c .before .before .before .before .before in
     let size = c .before .before .before .before .piece-len in
     sym (left at
     ∙ step-other (reached at) (here at .loop .end - size .result) (omega arith) (omega (arith, size .ensures))
-    (sym (c .before .is-piece .ensures) ∙ not-true (c .before .is-piece .result) (c .if3 .taken)))
-
-slice-aggregate-may-lead : tie.Need-slice-aggregate-may-lead Inv-loop μ-loop
-slice-aggregate-may-lead c = let at = c .before .before .before in sym (length-take-le (start at) (text (node at)) (omega arith))
-
-no-name-requires : tie.Need-no-name-requires Inv-loop μ-loop
-no-name-requires c κs = search needs
-
-may-lead-requires : tie.Need-may-lead-requires Inv-loop μ-loop
-may-lead-requires c κs = search needs
-
-returns-4 : tie.Need-returns-4 Inv-loop μ-loop
-returns-4 c =
-    let at = c .before .before .before .before .before in
-    c .may-lead .ensures
-    ∙ ap (λ (b : Bool). fitsPath b (take (start at) (text (node at))) []) (c .before .no-name .ensures)
-    ∙ sym (left (node at) ∙ step-top (reached (node at)) (found at) (c .before .before .before .if4 .taken))
+    (sym (c .before .is-piece .ensures) ∙ not-true (c .before .is-piece .result) (c .if4 .taken)))
 
 returns-5 : tie.Need-returns-5 Inv-loop μ-loop
 returns-5 c =
+    let at = c .before .before in
+    sym (left (node at)
+    ∙ step-top (reached (node at)) (found at) (c .if5 .taken)
+    ∙ empty-part (text (node at)) (start at) (omega arith))
+
+returns-6 : tie.Need-returns-6 Inv-loop μ-loop
+returns-6 c =
     let at = c .before .before .before in
-    sym (left (node at) ∙ step-none (reached (node at)) (found at) (c .before .if4 .left) (c .if5 .taken))
+    sym (left (node at) ∙ step-none (reached (node at)) (found at) (c .before .if5 .left) (c .if6 .taken))
 
 sub-end : tie.Need-sub-end Inv-loop μ-loop
 sub-end c = search needs
 
-shared-slice-read-if6 : tie.Need-shared-slice-read-if6 Inv-loop μ-loop
-shared-slice-read-if6 c = search needs
+shared-slice-read-if7 : tie.Need-shared-slice-read-if7 Inv-loop μ-loop
+shared-slice-read-if7 c = search needs
 
-returns-6 : tie.Need-returns-6 Inv-loop μ-loop
-returns-6 c =
+returns-7 : tie.Need-returns-7 Inv-loop μ-loop
+returns-7 c =
     let at = c .before .before .before .before .before in
-    sym (left (node at) ∙ step-no-dot (reached (node at)) (found at) (c .before .before .before .if4 .left) (start at - 1) (omega arith) (c .if6 .taken))
+    sym (left (node at) ∙ step-no-dot (reached (node at)) (found at) (c .before .before .before .if5 .left) (start at - 1) (omega arith) (c .if7 .taken))
 
 loop-less : tie.Need-loop-less Inv-loop μ-loop
 loop-less c = search needs
@@ -154,10 +161,10 @@ loop-less c = search needs
 loop-again : tie.Need-loop-again Inv-loop μ-loop
 loop-again c =
     let at = c .before .before .before .before .before in
-    (search needs, left (node at) ∙ step-dot (reached (node at)) (found at) (c .before .before .before .if4 .left) (start at - 1) (omega arith) (c .if6 .left))
+    (search needs, left (node at) ∙ step-dot (reached (node at)) (found at) (c .before .before .before .if5 .left) (start at - 1) (omega arith) (c .if7 .left))
 
-returns-7 : tie.Need-returns-7 Inv-loop μ-loop
-returns-7 c =
+returns-8 : tie.Need-returns-8 Inv-loop μ-loop
+returns-8 c =
     let at = c .before .before .before .before .before .before .args in
     let loop = c .before .loop in
     let s = indexParts (at .version) (at .nodes .now) [] (at .strings .now) in
@@ -176,21 +183,20 @@ matches-canonical-path-spec =
     returns
     sub-steps
     path-node-requires
-    piece-len-requires
+    has-piece-requires
     returns-2
+    piece-len-requires
+    returns-3
     sub-is-piece
     part-is-piece-start
     part-is-piece-end
     is-piece-requires
-    returns-3
-    slice-aggregate-may-lead
-    no-name-requires
-    may-lead-requires
     returns-4
     returns-5
-    sub-end
-    shared-slice-read-if6
     returns-6
+    sub-end
+    shared-slice-read-if7
+    returns-7
     loop-less
     loop-again
-    returns-7)
+    returns-8)
