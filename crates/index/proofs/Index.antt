@@ -74,15 +74,19 @@ module _ (s : Sections) (p : indexRule s ≡ 0) where
 -- ---- sections with the same nodes, index and strings
 
 module _ (s r : Sections) (versioned : s .version ≡ r .version) (nodes : s .nodes ≡ r .nodes) where
-  word-like : (i k : ℕ) → nodeWord s i k ≡ nodeWord r i k
+  pub word-like : (i k : ℕ) → nodeWord s i k ≡ nodeWord r i k
   unfolding nodeWord
   word-like i k = rw (versioned, nodes)
 
-  count-like : nodeCount s ≡ nodeCount r
+  pub count-like : nodeCount s ≡ nodeCount r
   count-like = rw (versioned, nodes)
 
   pub container-like : (i : ℕ) → insideContainer s i ≡ insideContainer r i
   container-like i = rw (count-like, word-like i 2)
+
+  pub has-piece-like : (i : ℕ) → hasPiece s i ≡ hasPiece r i
+  unfolding nameless
+  has-piece-like i = rw (word-like i 1, word-like i 3, word-like i 4)
 
   pub path-node-like : (i : ℕ) → pathNodeOf s i ≡ pathNodeOf r i
   path-node-like i = rw (word-like i 0, word-like i 1, word-like i 3, word-like i 4)
@@ -90,10 +94,6 @@ module _ (s r : Sections) (versioned : s .version ≡ r .version) (nodes : s .no
 module _ (s r : Sections) (versioned : s .version ≡ r .version) (nodes : s .nodes ≡ r .nodes) (strings : s .strings ≡ r .strings) where
   at-word : (i k : ℕ) → nodeWord s i k ≡ nodeWord r i k
   at-word = word-like s r versioned nodes
-
-  nameless-like : (i : ℕ) → nameless s i ≡ nameless r i
-  unfolding nameless
-  nameless-like i = rw (at-word i 3, at-word i 4)
 
   pub piece-like : (i : ℕ) → piece s i ≡ piece r i
   unfolding piece
@@ -104,13 +104,10 @@ module _ (s r : Sections) (versioned : s .version ≡ r .version) (nodes : s .no
   path-like zero i = refl
   path-like (suc n) i = rw (at-word i 0, path-like n (parentOf r i), piece-like i)
 
-  has-piece-like : (i : ℕ) → hasPiece s i ≡ hasPiece r i
-  has-piece-like i = rw (nameless-like i, at-word i 1)
-
   pub has-like : (n i : ℕ) → hasPathFrom n s i ≡ hasPathFrom n r i
   unfolding hasPathFrom
   has-like zero i = refl
-  has-like (suc n) i = rw (at-word i 0, has-like n (parentOf r i), has-piece-like i)
+  has-like (suc n) i = rw (at-word i 0, has-like n (parentOf r i), has-piece-like s r versioned nodes i)
 
   pub fits-like : (i : ℕ) (t : List ℕ) → fits s i t ≡ fits r i t
   unfolding fits

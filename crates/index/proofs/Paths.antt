@@ -17,13 +17,13 @@ use Rattle.texts.proofs.Text.{same-equal, equal-same, same-unlike}
 use Rattle.image.specs.Sections.{Sections, nodeCount, parentOf}
 use Rattle.tree.specs.Reach.{climb, Climbs}
 use Rattle.index.specs.declared.PathNode.{PathNode}
-use Rattle.index.specs.Paths.{nameless, pieceOf, piece, joinedByDot, pathFrom, canonicalPath, hasPieceBy, hasPiece, hasPathFrom, hasPath, fits}
+use Rattle.index.specs.Paths.{pieceOf, piece, joinedByDot, pathFrom, canonicalPath, hasPiece, hasPathFrom, hasPath, fits}
 use Rattle.index.specs.Parts.{pathNodeOf}
 use Rattle.index.proofs.Suffix.{cut, fitsPath, fits-front, fits-other, fits-short}
 
 -- ---- one step
 
-joined-below : (parent : ℕ) (front last : List ℕ) → (parent ≡ 0 → ⊥) → joinedByDot parent front last ≡ front ++ dot ∷ last
+pub joined-below : (parent : ℕ) (front last : List ℕ) → (parent ≡ 0 → ⊥) → joinedByDot parent front last ≡ front ++ dot ∷ last
 joined-below zero front last h = absurd (h refl)
 joined-below (suc parent) front last h = refl
 
@@ -70,11 +70,6 @@ has-root s (suc n) = refl
 pub step-lost : (s : Sections) (n i : ℕ) (t : List ℕ) → (i ≡ 0 → ⊥) → hasPiece s i ≡ false → fitsFrom (suc n) s i t ≡ false
 step-lost s n i t away h = rw (has-step s n i away, h)
 
--- whether it is one, by the words that were read of it
-pub has-read : (s : Sections) (at : ℕ) (node : PathNode) → node ≡ pathNodeOf s at → hasPiece s at ≡ hasPieceBy (node .place) (node .offset) (node .len)
-unfolding nameless
-has-read s at node e = λ j. hasPieceBy (sym e j .place) (sym e j .offset) (sym e j .len)
-
 -- the piece of a node by the words that were read of it
 abbrev pub pieceBy : Sections → PathNode → List ℕ
 pieceBy s node = pieceOf (s .strings) (node .place) (node .offset) (node .len)
@@ -84,7 +79,7 @@ pub record PathReached (s : Sections) (t : List ℕ) (n at end : ℕ) (node : Pa
   pub away : at ≡ 0 → ⊥
   pub read : node ≡ pathNodeOf s at
   pub inside : end ≤ length t
-  pub has : hasPieceBy (node .place) (node .offset) (node .len) ≡ true
+  pub has : hasPiece s at ≡ true
 
 -- its piece is what stands before `end`, from a start on
 pub record Matched (s : Sections) (t : List ℕ) (end start : ℕ) (node : PathNode) : Type 0 where
@@ -102,7 +97,7 @@ module _ {s : Sections} {t : List ℕ} {n at end : ℕ} {node : PathNode} (here 
 
   -- it has a piece, so what is left to ask is the way above it
   way : hasPathFrom (suc n) s at ≡ hasPathFrom n s (parentOf s at)
-  way = has-step s n at (here .away) ∙ ap (λ (b : Bool). b && hasPathFrom n s (parentOf s at)) (has-read s at node (here .read) ∙ here .has)
+  way = has-step s n at (here .away) ∙ ap (λ (b : Bool). b && hasPathFrom n s (parentOf s at)) (here .has)
 
   -- the path ends with the piece
   path-ends : (lead : List ℕ) × (pathFrom (suc n) s at ≡ lead ++ pieceBy s node)

@@ -1,19 +1,27 @@
 // Canonical paths, the path index, list definitions and their items.
 ghost use mathlib.Core.Path.{_≡_};
 ghost use mathlib.Core.List.{[]};
-ghost use Prim.Native.Nat.{_+_, _*_, _≤_};
-ghost use lib.ListN.{length};
+ghost use mathlib.Core.Bool.{true};
+ghost use Prim.Native.Nat.{_+_, _*_, _≤_, _<_};
+ghost use lib.ListN.{length, drop};
 ghost use Rattle.laws.specs.Refusal.{firstOf};
 ghost use Rattle.texts.specs.Text.{same};
-ghost use Rattle.image.specs.Sections.{textEntrySize, definitionSize};
-ghost use Rattle.index.specs.Paths.{noName, pieceOf, hasPieceBy, fits};
+ghost use Rattle.words.specs.Words.{wordsOf};
+ghost use Rattle.image.specs.Sections.{textEntrySize, definitionSize, nodeCount};
+ghost use Rattle.image.specs.Entries.{textEntryOf};
+ghost use Rattle.index.specs.Paths.{noName, pieceOf, hasPiece, fits};
 ghost use Rattle.index.specs.Index.{indexEntryRule, indexRule};
 ghost use Rattle.index.specs.Definitions.{itemsBefore, itemRuleFrom, definitionRule, definitionsRule};
 ghost use Rattle.index.specs.Parts.{indexParts, definitionParts, pathNodeOf};
+ghost use Rattle.index.specs.Follow.{AllClimb, Tested, Extends, Followed};
 use image::ImageView;
 use image::NodeRecord;
+use image::TextEntry;
 use image::order;
 use image::refusal;
+
+// So many values a word has.
+const WORD_VALUES: usize = 4294967296;
 
 // What a path needs of a node: its parent, its place and its name.
 struct PathNode {
@@ -69,10 +77,11 @@ fn is_piece(strings: &[u8], node: PathNode, text: &[u8]) -> bool
     texts::equal(text, image::text_bytes(strings, node.offset, node.len))
 }
 
-// Whether a node has a name or a place: it is not a nameless one of place NONE.
-fn has_piece(node: PathNode) -> bool
-    ensures { λ r. ⌜ r ≡ hasPieceBy (node .place) (node .offset) (node .len) ⌝ }
+// Whether node `at` has a name or a place: it is not a nameless one of place NONE.
+fn has_piece(nodes: &[u8], at: u32, version: u32) -> bool
+    ensures { λ r. ⌜ r ≡ hasPiece (indexParts version (now (nodes .entry)) [] []) at ⌝ }
 {
+    let node = path_node(nodes, at, version);
     if node.place != image::NONE {
         return true;
     }
@@ -92,10 +101,10 @@ fn matches_canonical_path(nodes: &[u8], strings: &[u8], id: u32, text: &[u8], ve
             return end == 0;
         }
         steps -= 1;
-        let node = path_node(nodes, at, version);
-        if !has_piece(node) {
+        if !has_piece(nodes, at, version) {
             return false;
         }
+        let node = path_node(nodes, at, version);
         let size = piece_len(strings, node);
         if end < size {
             return false;
@@ -147,17 +156,137 @@ fn index_entry_rule(nodes: &[u8], index: &[u8], strings: &[u8], j: usize, versio
     }
 }
 
-// The first refusal of an entry of the index, or 0.
-pub fn index_rule(nodes: &[u8], index: &[u8], strings: &[u8], version: u32) -> u32
-    ensures { λ r. ⌜ r ≡ indexRule (indexParts version (now (nodes .entry)) (now (index .entry)) (now (strings .entry))) ⌝ }
+// An entry before `j` whose target is `parent`, if the parent's work word tells one, else `j`. The words may hold anything.
+fn parent_entry(index: &[u8], work: &[u32], parent: u32, j: usize) -> usize
+    requires { ⌜ textEntrySize * j ≤ length (now index) ⌝ }
+    ensures { λ r. ⌜ (r ≤ j) × (r < j → textEntryOf (wordsOf (now (index .entry))) r .value ≡ parent) ⌝ }
+{
+    let at = parent as usize;
+    if work.len() <= at {
+        return j;
+    }
+    let k = work[at] as usize;
+    if j <= k {
+        return j;
+    }
+    let above = image::text_entry(index, k);
+    if above.value == parent { k } else { j }
+}
+
+// Whether the text of an entry is that of the entry `above`, a dot and the piece of a node, and good if that one is.
+fn extends(strings: &[u8], above: TextEntry, entry: TextEntry, node: PathNode) -> bool
+    ensures { λ r. ⌜ (r ≡ true → Extends (now (strings .entry)) above entry node) ⌝ }
+{
+    if entry.offset == image::NONE {
+        return false;
+    }
+    if entry.len == image::NONE {
+        return false;
+    }
+    let text = image::text_part(strings, entry.offset, entry.len);
+    let size = above.len as usize;
+    if text.len() <= size {
+        return false;
+    }
+    if text[size] != b'.' {
+        return false;
+    }
+    if !is_piece(strings, node, &text[size + 1..]) {
+        return false;
+    }
+    if !image::good_bytes(&text[size + 1..]) {
+        return false;
+    }
+    if above.offset == entry.offset {
+        return true;
+    }
+    texts::equal(
+        &text[..size],
+        image::text_bytes(strings, above.offset, above.len),
+    )
+}
+
+// An entry before `j` that tells that entry `j` has a good text and fits: that of the parent of its target. `j` where none does.
+fn followed_entry(
+    nodes: &[u8],
+    index: &[u8],
+    strings: &[u8],
+    work: &[u32],
+    j: usize,
+    version: u32,
+) -> usize
+    requires { ⌜ textEntrySize * j + textEntrySize ≤ length (now index) ⌝ }
+    requires { ⌜ Tested (indexParts version (now nodes) (now index) (now strings)) j ⌝ }
+    ensures { λ r. ⌜ (r ≤ j) × (r < j → Followed (indexParts version (now (nodes .entry)) (now (index .entry)) (now (strings .entry))) j r) ⌝ }
+{
+    let entry = image::text_entry(index, j);
+    if entry.value == 0 {
+        return j;
+    }
+    if !tree::is_container(nodes, entry.value, version) {
+        return j;
+    }
+    if !has_piece(nodes, entry.value, version) {
+        return j;
+    }
+    let node = path_node(nodes, entry.value, version);
+    if node.parent == 0 {
+        return j;
+    }
+    let k = parent_entry(index, work, node.parent, j);
+    if j <= k {
+        return j;
+    }
+    if extends(strings, image::text_entry(index, k), entry, node) {
+        k
+    } else {
+        j
+    }
+}
+
+// The same refusal where no entry before `j` has one. A text is compared with that of its target's parent if the work words tell it.
+fn next_entry_rule(
+    nodes: &[u8],
+    index: &[u8],
+    strings: &[u8],
+    work: &[u32],
+    j: usize,
+    version: u32,
+) -> u32
+    requires { ⌜ textEntrySize * j + textEntrySize ≤ length (now index) ⌝ }
+    requires { ⌜ Tested (indexParts version (now nodes) (now index) (now strings)) j ⌝ }
+    ensures { λ r. ⌜ r ≡ indexEntryRule (indexParts version (now (nodes .entry)) (now (index .entry)) (now (strings .entry))) j ⌝ }
+{
+    let k = followed_entry(nodes, index, strings, work, j, version);
+    if j <= k {
+        return index_entry_rule(nodes, index, strings, j, version);
+    }
+    if k + 1 == j {
+        return 0;
+    }
+    if order::entry_rises(index, strings, 0, j) {
+        0
+    } else {
+        refusal::BAD_INDEX
+    }
+}
+
+// The first refusal of an entry of the index, or 0. The work word of each node that an entry names gets the entry's number.
+pub fn index_rule(nodes: &[u8], index: &[u8], strings: &[u8], work: &mut [u32], version: u32) -> u32
+    requires { ⌜ AllClimb (indexParts version (now nodes) [] []) ⌝ }
+    requires { ⌜ nodeCount (indexParts version (now nodes) [] []) ≤ length (now work) ⌝ }
+    ensures answer { λ r. ⌜ r ≡ indexRule (indexParts version (now (nodes .entry)) (now (index .entry)) (now (strings .entry))) ⌝ }
+    ensures rest { λ r. ⌜ (let n = nodeCount (indexParts version (now (nodes .entry)) [] []) in drop n (now (work .exit)) ≡ drop n (now (work .entry))) ⌝ }
 {
     let count = index.len() / ImageView::TEXT_ENTRY_BYTES;
     let mut j = 0;
     while j < count {
-        let refused = index_entry_rule(nodes, index, strings, j, version);
+        let refused = next_entry_rule(nodes, index, strings, work, j, version);
         if refused != 0 {
             return refused;
         }
+        let entry = image::text_entry(index, j);
+        work[entry.value as usize] = (j % WORD_VALUES) as u32;
         j += 1;
     }
     0

@@ -8,11 +8,11 @@ use lib.ListN.{length, take}
 use lib.Seq.{take-length, length-take-le}
 use borrow.Author.Tests.{not-true, not-false}
 use Rattle.image.specs.Sections.{Sections}
-use Rattle.index.specs.Paths.{fits}
+use Rattle.index.specs.Paths.{hasPiece, fits}
 use Rattle.index.specs.Parts.{indexParts}
 use Rattle.index.proofs.Suffix.{empty-part}
-use Rattle.index.proofs.Paths.{fitsFrom, whole-fits, pieceBy, PathReached, Matched, fits-bound, fits-root, has-read, step-lost, step-short, step-other, step-top, step-none, step-no-dot, step-dot}
-use Rattle.index.proofs.Index.{path-node-like}
+use Rattle.index.proofs.Paths.{fitsFrom, whole-fits, pieceBy, PathReached, Matched, fits-bound, fits-root, step-lost, step-short, step-other, step-top, step-none, step-no-dot, step-dot}
+use Rattle.index.proofs.Index.{has-piece-like, path-node-like}
 use borrow.Author.Needs.{needs}
 use Rattle.index.proofs.matches_canonical_path.Statement.{statement}
 use Rattle.index.proofs.matches_canonical_path.Tie as tie
@@ -24,38 +24,49 @@ Inv-loop nodes strings id text version steps₀ at₀ end₀ steps at end =
 abbrev μ-loop : tie.MeasureT-loop
 μ-loop nodes strings id text version steps₀ at₀ end₀ steps at end = steps
 
--- a node has been read, and has a name or a place
-module _ (c : tie.Else2 Inv-loop μ-loop) where
+-- it has been told whether the node reached has a name or a place
+module _ (c : tie.After-has-piece Inv-loop μ-loop) where
   abbrev here : tie.At-loop Inv-loop μ-loop
-  here = c .before .before .before .before .before
+  here = c .before .before .before
 
   abbrev whole : Sections
   whole = indexParts (here .before .before .before .before .before .args .version) (here .before .before .before .before .before .args .nodes .now) [] (here .before .before .before .before .before .args .strings .now)
 
+  abbrev bare : Sections
+  bare = indexParts (here .before .before .before .before .before .args .version) (here .before .before .before .before .before .args .nodes .now) [] []
+
   abbrev text : List ℕ
   text = here .before .before .before .before .before .args .text .now
 
-  reached : PathReached whole text (here .loop .steps - 1) (here .loop .at) (here .loop .end) (c .before .before .path-node .result)
-  reached =
-      record {
-        away = c .before .before .before .before .loop-test .taken;
-        read = c .before .before .path-node .ensures ∙ path-node-like (indexParts (here .before .before .before .before .before .args .version) (here .before .before .before .before .before .args .nodes .now) [] []) whole refl refl (here .loop .at);
-        inside = here .loop .inv .0;
-        has = sym (c .before .has-piece .ensures) ∙ not-false (c .before .has-piece .result) (c .if2 .left);
-      }
+  has : hasPiece whole (here .loop .at) ≡ c .has-piece .result
+  has = sym (c .has-piece .ensures ∙ has-piece-like bare whole refl refl (here .loop .at))
 
   left : fits whole (here .before .before .before .before .before .args .id) text ≡ fitsFrom (suc (here .loop .steps - 1)) whole (here .loop .at) (take (here .loop .end) text)
   left = here .loop .inv .1 ∙ ap (λ (n : ℕ). fitsFrom n whole (here .loop .at) (take (here .loop .end) text)) (omega arith)
 
+-- it has, and was read
+module _ (c : tie.After-path-node Inv-loop μ-loop) where
+  abbrev told : tie.After-has-piece Inv-loop μ-loop
+  told = c .before .before
+
+  reached : PathReached (whole told) (text told) (here told .loop .steps - 1) (here told .loop .at) (here told .loop .end) (c .path-node .result)
+  reached =
+      record {
+        away = told .before .before .loop-test .taken;
+        read = c .path-node .ensures ∙ path-node-like (bare told) (whole told) refl refl (here told .loop .at);
+        inside = here told .loop .inv .0;
+        has = has told ∙ not-false (told .has-piece .result) (c .before .if2 .left);
+      }
+
 -- its piece is found
 module _ (c : tie.Else4 Inv-loop μ-loop) where
-  abbrev node : tie.Else2 Inv-loop μ-loop
+  abbrev node : tie.After-path-node Inv-loop μ-loop
   node = c .before .before .before .before .before
 
   abbrev start : ℕ
-  start = here node .loop .end - c .before .before .before .before .piece-len .result
+  start = here (told node) .loop .end - c .before .before .before .before .piece-len .result
 
-  found : Matched (whole node) (text node) (here node .loop .end) start (node .before .before .path-node .result)
+  found : Matched (whole (told node)) (text (told node)) (here (told node) .loop .end) start (node .path-node .result)
   found =
       record {
         size = omega arith;
@@ -85,23 +96,18 @@ returns c =
 sub-steps : tie.Need-sub-steps Inv-loop μ-loop
 sub-steps c = search needs
 
-path-node-requires : tie.Need-path-node-requires Inv-loop μ-loop
-path-node-requires c κs = search needs
-
 has-piece-requires : tie.Need-has-piece-requires Inv-loop μ-loop
 has-piece-requires c κs = search needs
 
 returns-2 : tie.Need-returns-2 Inv-loop μ-loop
 returns-2 c =
-    let read = c .before .before in
-    let loop = read .before .before .before in
-    let args = loop .before .before .before .before .before .args in
-    let s = indexParts (args .version) (args .nodes .now) [] (args .strings .now) in
-    let e = read .path-node .ensures ∙ path-node-like (indexParts (args .version) (args .nodes .now) [] []) s refl refl (loop .loop .at) in
-    sym (loop .loop .inv .1
-    ∙ ap (λ (n : ℕ). fitsFrom n s (loop .loop .at) (take (loop .loop .end) (args .text .now))) (omega arith)
-    ∙ step-lost s (loop .loop .steps - 1) (loop .loop .at) (take (loop .loop .end) (args .text .now)) (read .before .before .loop-test .taken)
-    (has-read s (loop .loop .at) (read .path-node .result) e ∙ sym (c .before .has-piece .ensures) ∙ not-true (c .before .has-piece .result) (c .if2 .taken)))
+    let at = c .before in
+    sym (left at
+    ∙ step-lost (whole at) (here at .loop .steps - 1) (here at .loop .at) (take (here at .loop .end) (text at)) (at .before .before .loop-test .taken)
+    (has at ∙ not-true (at .has-piece .result) (c .if2 .taken)))
+
+path-node-requires : tie.Need-path-node-requires Inv-loop μ-loop
+path-node-requires c κs = search needs
 
 piece-len-requires : tie.Need-piece-len-requires Inv-loop μ-loop
 piece-len-requires c κs = search needs
@@ -109,8 +115,8 @@ piece-len-requires c κs = search needs
 returns-3 : tie.Need-returns-3 Inv-loop μ-loop
 returns-3 c =
     let at = c .before .before in
-    let short : here at .loop .end < length (pieceBy (whole at) (at .before .before .path-node .result)) = omega (arith, c .before .piece-len .ensures) in
-    sym (left at ∙ step-short (reached at) short)
+    let short : here (told at) .loop .end < length (pieceBy (whole (told at)) (at .path-node .result)) = omega (arith, c .before .piece-len .ensures) in
+    sym (left (told at) ∙ step-short (reached at) short)
 
 sub-is-piece : tie.Need-sub-is-piece Inv-loop μ-loop
 sub-is-piece c = search needs
@@ -128,21 +134,21 @@ returns-4 : tie.Need-returns-4 Inv-loop μ-loop
 returns-4 c =
     let at = c .before .before .before .before .before in
     let size = c .before .before .before .before .piece-len in
-    sym (left at
-    ∙ step-other (reached at) (here at .loop .end - size .result) (omega arith) (omega (arith, size .ensures))
+    sym (left (told at)
+    ∙ step-other (reached at) (here (told at) .loop .end - size .result) (omega arith) (omega (arith, size .ensures))
     (sym (c .before .is-piece .ensures) ∙ not-true (c .before .is-piece .result) (c .if4 .taken)))
 
 returns-5 : tie.Need-returns-5 Inv-loop μ-loop
 returns-5 c =
     let at = c .before .before in
-    sym (left (node at)
+    sym (left (told (node at))
     ∙ step-top (reached (node at)) (found at) (c .if5 .taken)
-    ∙ empty-part (text (node at)) (start at) (omega arith))
+    ∙ empty-part (text (told (node at))) (start at) (omega arith))
 
 returns-6 : tie.Need-returns-6 Inv-loop μ-loop
 returns-6 c =
     let at = c .before .before .before in
-    sym (left (node at) ∙ step-none (reached (node at)) (found at) (c .before .if5 .left) (c .if6 .taken))
+    sym (left (told (node at)) ∙ step-none (reached (node at)) (found at) (c .before .if5 .left) (c .if6 .taken))
 
 sub-end : tie.Need-sub-end Inv-loop μ-loop
 sub-end c = search needs
@@ -153,7 +159,7 @@ shared-slice-read-if7 c = search needs
 returns-7 : tie.Need-returns-7 Inv-loop μ-loop
 returns-7 c =
     let at = c .before .before .before .before .before in
-    sym (left (node at) ∙ step-no-dot (reached (node at)) (found at) (c .before .before .before .if5 .left) (start at - 1) (omega arith) (c .if7 .taken))
+    sym (left (told (node at)) ∙ step-no-dot (reached (node at)) (found at) (c .before .before .before .if5 .left) (start at - 1) (omega arith) (c .if7 .taken))
 
 loop-less : tie.Need-loop-less Inv-loop μ-loop
 loop-less c = search needs
@@ -161,7 +167,7 @@ loop-less c = search needs
 loop-again : tie.Need-loop-again Inv-loop μ-loop
 loop-again c =
     let at = c .before .before .before .before .before in
-    (search needs, left (node at) ∙ step-dot (reached (node at)) (found at) (c .before .before .before .if5 .left) (start at - 1) (omega arith) (c .if7 .left))
+    (search needs, left (told (node at)) ∙ step-dot (reached (node at)) (found at) (c .before .before .before .if5 .left) (start at - 1) (omega arith) (c .if7 .left))
 
 returns-8 : tie.Need-returns-8 Inv-loop μ-loop
 returns-8 c =
@@ -182,9 +188,9 @@ matches-canonical-path-spec =
     loop-holds
     returns
     sub-steps
-    path-node-requires
     has-piece-requires
     returns-2
+    path-node-requires
     piece-len-requires
     returns-3
     sub-is-piece

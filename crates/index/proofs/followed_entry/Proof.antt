@@ -1,0 +1,86 @@
+-- `index::followed_entry` meets its contract.
+use mathlib.Core.Path.{_∙_, sym}
+use native.Mathlib.Omega.{arith}
+use borrow.Author.Tests.{not-false}
+use Rattle.index.proofs.Follow.{followed-by}
+use borrow.Author.Needs.{needs}
+use Rattle.index.proofs.followed_entry.Statement.{statement}
+use Rattle.index.proofs.followed_entry.Tie as tie
+
+text-entry-requires : tie.Need-text-entry-requires
+text-entry-requires c κs = search needs
+
+returns : tie.Need-returns
+returns c = (omega arith, λ h. absurd (omega arith))
+
+is-container-requires : tie.Need-is-container-requires
+is-container-requires c κs = search needs
+
+returns-2 : tie.Need-returns-2
+returns-2 c = (omega arith, λ h. absurd (omega arith))
+
+has-piece-requires : tie.Need-has-piece-requires
+has-piece-requires c κs = search needs
+
+returns-3 : tie.Need-returns-3
+returns-3 c = (omega arith, λ h. absurd (omega arith))
+
+path-node-requires : tie.Need-path-node-requires
+path-node-requires c κs = search needs
+
+returns-4 : tie.Need-returns-4
+returns-4 c = (omega arith, λ h. absurd (omega arith))
+
+parent-entry-requires : tie.Need-parent-entry-requires
+parent-entry-requires c κs = search needs
+
+returns-5 : tie.Need-returns-5
+returns-5 c = (omega arith, λ h. absurd (omega arith))
+
+text-entry-requires-2 : tie.Need-text-entry-requires-2
+text-entry-requires-2 c κs = search needs
+
+extends-requires : tie.Need-extends-requires
+extends-requires c κs = search needs
+
+returns-6 : tie.Need-returns-6
+returns-6 c =
+    let x = c .before in
+    let low = x .before .before .if5 .left in
+    let at = x .before .before .before .before .before .before .before .before .before .before .before .before .before .before .before .before .before .before .args in
+    let known = x .before .before .before .parent-entry in
+    let read = x .before .before .before .before .before .before .path-node in
+    let has = x .before .before .before .before .before .before .before .before .has-piece in
+    let there = x .before .before .before .before .before .before .before .before .before .before .is-container in
+    let entry = x .before .before .before .before .before .before .before .before .before .before .before .before .before .text-entry in
+    let pre = x .before .before .before .before .before .before .before .before .before .before .before .before .before .before .before .before .before .before .pre in (
+      omega arith,
+      λ h.
+          followed-by (at .version) (at .nodes .now) (at .index .now) (at .strings .now) (at .j) (pre .1) (known .result) (entry .result) (x .before .text-entry2 .result) (read .result) (entry .ensures)
+          (x .before .before .before .before .before .before .before .before .before .before .before .if1 .left)
+          (sym (there .ensures) ∙ not-false (there .result) (x .before .before .before .before .before .before .before .before .before .if2 .left))
+          (sym (has .ensures) ∙ not-false (has .result) (x .before .before .before .before .before .before .before .if3 .left))
+          (read .ensures) (x .before .before .before .before .if4 .left) h (known .ensures .1 h) (x .before .text-entry2 .ensures) (x .extends .ensures (c .if6 .taken)),
+    )
+
+returns-7 : tie.Need-returns-7
+returns-7 c = (omega arith, λ h. absurd (omega arith))
+
+pub followed-entry-spec : {M : Type 1} → statement M
+followed-entry-spec =
+    tie.close
+    (tie.spec
+    text-entry-requires
+    returns
+    is-container-requires
+    returns-2
+    has-piece-requires
+    returns-3
+    path-node-requires
+    returns-4
+    parent-entry-requires
+    returns-5
+    text-entry-requires-2
+    extends-requires
+    returns-6
+    returns-7)
