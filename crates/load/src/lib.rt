@@ -35,14 +35,18 @@ fn tree_of(bytes: &[u8], view: ImageView, work: &mut [u32]) -> u32
     tree::tree_rule(nodes, children, named, strings, work, view.version)
 }
 
-// Rows 16 and 17.
-fn index_of(bytes: &[u8], view: ImageView) -> u32
-    ensures { λ r. ⌜ (let s = sectionsBy (now (bytes .entry)) view in r ≡ (indexRule s ▸ definitionsRule s)) ⌝ }
+// Rows 16 and 17, of sections whose records and tree pass.
+fn index_of(bytes: &[u8], view: ImageView, work: &mut [u32]) -> u32
+    requires { ⌜ recordsRule (sectionsBy (now bytes) view) ≡ 0 ⌝ }
+    requires { ⌜ treeRule (sectionsBy (now bytes) view) ≡ 0 ⌝ }
+    requires { ⌜ loadWords (sectionsBy (now bytes) view) ≤ length (now work) ⌝ }
+    ensures answer { λ r. ⌜ (let s = sectionsBy (now (bytes .entry)) view in r ≡ (indexRule s ▸ definitionsRule s)) ⌝ }
+    ensures rest { λ r. ⌜ (let n = loadWords (sectionsBy (now (bytes .entry)) view) in drop n (now (work .exit)) ≡ drop n (now (work .entry))) ⌝ }
 {
     let nodes = image::nodes_part(bytes, view);
     let paths = image::section_part(bytes, view.index, ImageView::INDEX_SIZE);
     let strings = image::section_part(bytes, view.strings, ImageView::STRINGS_SIZE);
-    let wrong = index::index_rule(nodes, paths, strings, view.version);
+    let wrong = index::index_rule(nodes, paths, strings, work, view.version);
     if wrong != 0 {
         return wrong;
     }
@@ -65,7 +69,7 @@ fn sections_rule(bytes: &[u8], view: ImageView, work: &mut [u32]) -> u32
     if second != 0 {
         return second;
     }
-    index_of(bytes, view)
+    index_of(bytes, view, work)
 }
 
 // The rows after the header's.
