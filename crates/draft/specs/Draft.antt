@@ -6,13 +6,12 @@ use lib.ListN.{length}
 use lib.Dec.{eqb}
 use Rattle.laws.specs.Refusal.{unless, countsAs, _▸_, firstOf, refusals}
 use Rattle.laws.specs.Counted.{allOf, counted}
-use Rattle.words.specs.Words.{isNone}
 use Rattle.texts.specs.Text.{same, rising, before, texts}
-use Rattle.image.specs.Sections.{Sections, nodeWords, textEntryWords, definitionWords, nodeCount, childCount, namedCount, definitionCount, itemCount, nodeWord, parentOf, placeOf, tagOf, childWord, namedWord, goodText, inside, isContainer}
+use Rattle.image.specs.Sections.{Sections, nodeWords, textEntryWords, definitionWords, nodeCount, childCount, namedCount, definitionCount, itemCount, nodeWord, parentOf, tagOf, childWord, namedWord, goodText, inside, isContainer}
 use Rattle.image.specs.Refusals.{badDraft, draftUnreached, draftShape, draftPaths}
 use Rattle.records.specs.Records.{fieldsRule, parentRule, rootRight, usedUp, records}
 use Rattle.tree.specs.Tree.{entriesRule, readWalk, allSeen, Walked, trees}
-use Rattle.index.specs.Paths.{nameless, canonicalPath, hasPiece, paths}
+use Rattle.index.specs.Paths.{canonicalPath, hasPiece, paths}
 use Rattle.index.specs.Definitions.{goodDefinition, goodItem, itemsRight, numberOfItems, itemsUsedUp, definitionText, itemTextOf, definitions}
 use Rattle.draft.specs.Needs.{draftCounts, wordsFor}
 

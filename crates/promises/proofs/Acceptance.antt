@@ -11,21 +11,25 @@ use Rattle.laws.proofs.First.{both, then, passed, pass, first-all, first-of}
 use Rattle.laws.proofs.Flags.{both-true}
 use Rattle.words.specs.Words.{wordAt}
 use Rattle.texts.proofs.Text.{same-equal, equal-same}
-use Rattle.image.specs.Sections.{Sections, nodeCount, indexCount, tagOf, inside}
+use Rattle.image.specs.Sections.{Sections, nodeCount, indexCount, indexWord, tagOf, inside}
 use Rattle.image.specs.Header.{headerRule, sectionsOf, firstInkVersion, inkVersionAt, lastInkVersion}
 use Rattle.image.proofs.OpenedHeader.{Opens, opens, opens-of, view-counts, view-node}
 use Rattle.records.specs.Records.{containersBefore, nodeRule, parentRule, fieldsRule, rootRight, usedUp}
 use Rattle.records.proofs.PassedRules.{root, used-up, used-up-of}
 use Rattle.tree.specs.Tree.{childAt, namedAt, childRule, namedRule, treeRule}
+use Rattle.tree.specs.Reach.{Climbs}
 use Rattle.tree.proofs.Entries.{children-pass, named-pass, entries-pass}
 use Rattle.tree.proofs.PlainTree.{tree-right, right-tree}
-use Rattle.index.specs.Index.{indexRule}
+use Rattle.tree.proofs.ParentSteps.{tree-climbs}
+use Rattle.index.specs.Index.{indexText, indexRule}
 use Rattle.index.specs.Definitions.{definitionsRule}
+use Rattle.index.proofs.Paths.{fits-one, path-fits}
 use Rattle.index.proofs.Index.{index-passed, index-passes}
 use Rattle.index.proofs.Definitions.{definitions-passed, definitions-pass}
 use Rattle.load.specs.Load.{checksumRule, leftoverRule, recordsRule, sectionsRule, loadWords, loadRule, Accepted}
 use Rattle.promises.specs.Rules.{ChildRight, NamedRight, SectionsRight, HeaderRight, BreaksNone, DivertFlags, AcceptedExactly, LoadsExactly, LoadsEnough}
 use Rattle.promises.proofs.Fields.{text-right, right-text, node-right, right-node, container-right, right-container, fields-right, right-fields, parent-right, right-parent}
+use Rattle.promises.proofs.Way.{path-right, right-path}
 
 -- ---- a container's entries
 
@@ -84,6 +88,10 @@ module _ (s : Sections) where
   unfolding nodeRule
   node-parts p i h = both _ _ (first-all (nodeCount s) (nodeRule s) (p .nodes) i h)
 
+  -- parent steps lead to the root
+  inside-climbs : RowsPassed s → (i : ℕ) → i < nodeCount s → Climbs s (nodeCount s) i
+  inside-climbs p i h = tree-climbs s (omega arith) (p .tree) i h
+
   sections-right : RowsPassed s → SectionsRight s
   sections-right p =
       let r = root s (p .root-right) in
@@ -113,7 +121,15 @@ module _ (s : Sections) where
             };
         index = λ j h.
             let q = index-passed s (p .index) j h in
-            record { text = text-right s _ _ (q .text); container = container-right s _ (q .target); order = q .order; fit = q .fit };
+            let c = container-right s _ (q .target) in
+            let fit = fits-one s (indexWord s j 2) (indexText s j) (q .fit) in
+            record {
+              text = text-right s _ _ (q .text);
+              container = c;
+              order = q .order;
+              path = fit .1;
+              way = path-right s (indexWord s j 2) (inside-climbs p (indexWord s j 2) (c .node .below)) (fit .0);
+            };
         definitions = λ d h.
             let q = defined .each d h in
             record {
@@ -137,7 +153,12 @@ module _ (s : Sections) where
             (λ i h. entries-pass s i (λ j k. right-child s i j (r .child i h j k)) (λ j k. right-named s i j (r .entry i h j k))) (r .reached);
         index = index-passes s (λ j h.
             let q = r .index j h in
-            record { text = right-text s _ _ (q .text); target = right-container s _ (q .container); order = q .order; fit = q .fit });
+            record {
+              text = right-text s _ _ (q .text);
+              target = right-container s _ (q .container);
+              order = q .order;
+              fit = path-fits s (indexWord s j 2) (indexText s j) (right-path s (indexWord s j 2) (q .way)) (q .path);
+            });
         definitions = definitions-pass s (record {
           each = λ d h.
               let q = r .definitions d h in

@@ -1,5 +1,6 @@
 pub mod Answers
 pub mod Fields
+pub mod Way
 pub mod Acceptance
 pub mod Premises
 pub mod FirstSections
@@ -8,6 +9,7 @@ pub mod Counts
 pub mod Nodes
 pub mod Entries
 pub mod Index
+pub mod OneSpelling
 pub mod Sound
 pub mod ViewParts
 pub mod Whole

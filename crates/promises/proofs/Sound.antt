@@ -22,7 +22,7 @@ module _ (s : Sections) (g : Kept s) where
       }
 
   pub sound : Sound s
-  sound = record { nodes = stands; entries = entries-inside s g; index = named-once s g }
+  sound = record { nodes = stands; entries = entries-inside s g; index = named-once s (g .some) (g .rules) }
 
 pub accepted-sound : AcceptedSound
 accepted-sound bs work b p = sound (sectionsOf bs) (load-kept bs work b p)

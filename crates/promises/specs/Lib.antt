@@ -1,6 +1,6 @@
 pub mod Answers
-pub mod Promises
 pub mod Rules
+pub mod Promises
 pub mod Readers
 pub mod Lookups
 pub mod PartsInside

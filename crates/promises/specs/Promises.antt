@@ -2,7 +2,7 @@
 use Prim.Native.Nat.{ℕ, suc, _+_, _≤_, _<_}
 use mathlib.Core.Path.{_≡_}
 use mathlib.Core.Logic.{_≢_}
-use mathlib.Core.List.{List, _∷_, List·Memᴰ}
+use mathlib.Core.List.{List, List·Memᴰ}
 use mathlib.Core.Bool.{true}
 use lib.ListN.{length}
 use Rattle.laws.specs.Lists.{Below}
@@ -13,12 +13,12 @@ use Rattle.records.specs.Fields.{kindOf, Field, text, optional, command, operat
 use Rattle.records.specs.Records.{targetOf, fieldsAt, listItems, listOrigins, listItemWord, listOriginWord}
 use Rattle.tree.specs.Tree.{childAt, namedAt}
 use Rattle.tree.specs.Reach.{climb}
-use Rattle.texts.specs.Dots.{dot}
 use Rattle.index.specs.Paths.{canonicalPath}
 use Rattle.index.specs.Index.{indexText}
 use Rattle.load.specs.Load.{loadRule}
 use Rattle.views.specs.View.{nodeView}
 use Rattle.promises.specs.Answers.{ofNode}
+use Rattle.promises.specs.Rules.{NameOrPlace}
 
 -- ---- parent steps
 
@@ -101,10 +101,6 @@ pub record EntriesInside (s : Sections) : Type 0 where
 
 -- ---- the index
 
--- no index text is a dot before its target's canonical path
-abbrev pub NoDot : Sections → Type 0
-NoDot s = (j : ℕ) → j < indexCount s → indexText s j ≡ dot ∷ canonicalPath s (indexWord s j 2) → ⊥
-
 -- the index names container i exactly once: one entry holds its number and no other does
 pub record NamedOnce (s : Sections) (i : ℕ) : Type 0 where
   pub entry : ℕ
@@ -117,8 +113,22 @@ pub record NamedOnce (s : Sections) (i : ℕ) : Type 0 where
 pub record Sound (s : Sections) : Type 0 where
   pub nodes : (i : ℕ) → i < nodeCount s → NodeSound s i
   pub entries : EntriesInside s
-  pub index : NoDot s → (i : ℕ) → i < nodeCount s → isContainer s i ≡ true → NamedOnce s i
+  pub index : (i : ℕ) → i < nodeCount s → isContainer s i ≡ true → NamedOnce s i
 
 -- of whatever bytes a load accepts
 abbrev pub AcceptedSound : Type 0
 AcceptedSound = (bs : List ℕ) (work : ℕ) → Below 256 bs → loadRule bs work ≡ 0 → Sound (sectionsOf bs)
+
+-- ---- one spelling in the index
+
+pub record OneSpelling (s : Sections) : Type 0 where
+  -- each index text is its target's canonical path
+  pub texts : (j : ℕ) → j < indexCount s → indexText s j ≡ canonicalPath s (indexWord s j 2)
+  -- no two containers have one canonical path
+  pub apart : (i k : ℕ) → i < nodeCount s → k < nodeCount s → isContainer s i ≡ true → isContainer s k ≡ true → canonicalPath s i ≡ canonicalPath s k → i ≡ k
+  -- each container, the root excepted, has a name or a place
+  pub pieces : (i : ℕ) → i < nodeCount s → isContainer s i ≡ true → i ≢ 0 → NameOrPlace s i
+
+-- of whatever a load accepts
+abbrev pub AcceptedOneSpelling : Type 0
+AcceptedOneSpelling = (bs : List ℕ) (work : ℕ) → loadRule bs work ≡ 0 → OneSpelling (sectionsOf bs)

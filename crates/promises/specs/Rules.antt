@@ -15,8 +15,8 @@ use Rattle.image.specs.Tags.{containerTag}
 use Rattle.records.specs.Fields.{Field, text, optional, command, operator, node, optionalNode, container, optionalContainer, plain, atMost, children, named, payload, wrong}
 use Rattle.records.specs.Records.{fieldsAt, numberOfChildren, numberOfNamed, childrenBefore, namedBefore, payloadBefore, containersBefore, listItems, listOrigins, listItemWord, listOriginWord}
 use Rattle.tree.specs.Tree.{childAt, namedAt, namedText}
-use Rattle.tree.specs.Reach.{Reached}
-use Rattle.index.specs.Paths.{fits}
+use Rattle.tree.specs.Reach.{Reached, climb}
+use Rattle.index.specs.Paths.{nameless, canonicalPath}
 use Rattle.index.specs.Index.{indexText}
 use Rattle.index.specs.Definitions.{definitionText, firstItem, numberOfItems, itemTextOf, itemsBefore}
 use Rattle.load.specs.Load.{loadWords, loadRule, Accepted}
@@ -88,11 +88,24 @@ pub record NamedRight (s : Sections) (i j : ℕ) : Type 0 where
 
 -- ---- the index and the definitions
 
+-- node x is node i or on the way from it up to the root, the root excepted
+pub record OnWay (s : Sections) (i x : ℕ) : Type 0 where
+  pub steps : ℕ
+  pub arrives : climb s steps i ≡ x
+  pub below-root : (m : ℕ) → m ≤ steps → climb s m i ≢ 0
+
+-- not a nameless container of place NONE
+abbrev pub NameOrPlace : Sections → ℕ → Type 0
+NameOrPlace s i = nameless s i ≡ true → placeOf s i ≢ NONE
+
 pub record IndexRight (s : Sections) (j : ℕ) : Type 0 where
   pub text : TextRight s (indexWord s j 0) (indexWord s j 1)
   pub container : ContainerRight s (indexWord s j 2)
   pub order : rising (indexText s) j ≡ true
-  pub fit : fits s (indexWord s j 2) (indexText s j) ≡ true
+  -- only the canonical path fits
+  pub path : indexText s j ≡ canonicalPath s (indexWord s j 2)
+  -- and nothing where a nameless container of place NONE is the target or on the way
+  pub way : (x : ℕ) → OnWay s (indexWord s j 2) x → NameOrPlace s x
 
 pub record ItemRight (s : Sections) (d j : ℕ) : Type 0 where
   pub text : TextRight s (itemWord s (firstItem s d + j) 0) (itemWord s (firstItem s d + j) 1)

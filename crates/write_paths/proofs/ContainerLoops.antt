@@ -10,9 +10,9 @@ use lib.Seq.{sets}
 use lib.Dec.{eqb}
 use borrow.Author.Tests.{eq-eqb, ne-eqb}
 use Rattle.words.specs.Words.{isNone}
-use Rattle.draft.specs.Source.{wordOf}
 use Rattle.image.specs.Sections.{Sections, nodeWord}
 use Rattle.image.specs.declared.NodeRecord.{NodeRecord}
+use Rattle.image.specs.Tags.{containerTag}
 use Rattle.image.specs.Entries.{recordOf}
 use Rattle.index.specs.Paths.{nameless}
 use Rattle.draft.specs.Draft.{placed}
@@ -25,26 +25,35 @@ or-true : (b : Bool) → true ≡ (b || true)
 or-true true = refl
 or-true false = refl
 
-placed-tests : (container root placeless empty long at : Bool)
-    → cond container (cond root true (cond placeless (cond empty false (cond long (cond at false true) true)) true)) true
-    ≡ (not container || root || not ((at && long) || empty) || not placeless)
-placed-tests false root placeless empty long at = refl
-placed-tests true true placeless empty long at = refl
-placed-tests true false false true long at = or-true (not ((at && long) || true))
-placed-tests true false false false long at = or-true (not ((at && long) || false))
-placed-tests true false true true long true = rw (← or-true long) refl
-placed-tests true false true true long false = refl
-placed-tests true false true false true true = refl
-placed-tests true false true false true false = refl
-placed-tests true false true false false true = refl
-placed-tests true false true false false false = refl
+-- the tests in the code's order
+abbrev pub placedTests : NodeRecord → ℕ → Bool
+placedTests r i =
+    cond (eqb (r .tag) containerTag)
+    (cond (eqb i 0) true (cond (isNone (r .place)) (cond (eqb (r .f1) 0) false (cond (isNone (r .f1)) (cond (isNone (r .f0)) false true) true)) true))
+    true
 
-pub placed-record : (s : Sections) (v : ℕ) (nodes : List ℕ) (i : ℕ) → s .nodes ≡ nodes → s .version ≡ v → placedIn (recordOf v nodes i) i ≡ placed s i
+tests-are : (container root placeless empty long at : Bool)
+    → cond container (cond root true (cond placeless (cond empty false (cond long (cond at false true) true)) true)) true
+    ≡ (not container || root || (not ((at && long) || empty) || not placeless))
+tests-are false true placeless empty long at = refl
+tests-are false false placeless empty long at = refl
+tests-are true true placeless empty long at = refl
+tests-are true false false true long at = or-true (not ((at && long) || true))
+tests-are true false false false long at = or-true (not ((at && long) || false))
+tests-are true false true true long true = rw (← or-true long) refl
+tests-are true false true true long false = refl
+tests-are true false true false true true = refl
+tests-are true false true false true false = refl
+tests-are true false true false false true = refl
+tests-are true false true false false false = refl
+
+pub by-tests : (r : NodeRecord) (i : ℕ) (b : Bool) → b ≡ placedTests r i → b ≡ placedIn r i
+unfolding placedIn
+by-tests r i b e = e ∙ tests-are (eqb (r .tag) containerTag) (eqb i 0) (isNone (r .place)) (eqb (r .f1) 0) (isNone (r .f1)) (isNone (r .f0))
+
+placed-record : (s : Sections) (v : ℕ) (nodes : List ℕ) (i : ℕ) → s .nodes ≡ nodes → s .version ≡ v → placedIn (recordOf v nodes i) i ≡ placed s i
 unfolding placedIn recordOf placed nameless nodeWord
-placed-record s v nodes i e z =
-    rw (e, z)
-    (placed-tests (eqb (wordOf v nodes i 2) 1) (eqb i 0) (isNone (wordOf v nodes i 1)) (eqb (wordOf v nodes i 4) 0) (isNone (wordOf v nodes i 4))
-    (isNone (wordOf v nodes i 3)))
+placed-record s v nodes i e z = rw (e, z)
 
 pub placed-here : (s : Sections) (v : ℕ) (nodes : List ℕ) (i : ℕ) (r : NodeRecord) (b : Bool) → s .nodes ≡ nodes → s .version ≡ v
     → r ≡ recordOf v nodes i → b ≡ placedIn r i → placed s i ≡ b

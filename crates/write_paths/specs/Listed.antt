@@ -2,24 +2,21 @@
 use Prim.Native.Nat.{ℕ, zero, suc, _+_, _*_, _<_}
 use mathlib.Core.Path.{_≡_}
 use mathlib.Core.List.{List, [], _∷_, _++_}
-use mathlib.Core.Bool.{Bool, true, false, cond}
+use mathlib.Core.Bool.{Bool, cond, _||_, not}
 use lib.ListN.{length, getD}
 use lib.Dec.{eqb}
 use Rattle.laws.specs.Counted.{those}
 use Rattle.laws.specs.Lists.{placeIn}
-use Rattle.words.specs.Words.{isNone}
 use Rattle.image.specs.declared.NodeRecord.{NodeRecord}
 use Rattle.image.specs.Sections.{Sections, nodeCount, isContainer}
 use Rattle.image.specs.Tags.{containerTag}
+use Rattle.index.specs.Paths.{hasPieceBy}
 use Rattle.draft.specs.Source.{wordOf}
 use Rattle.draft.specs.Numbering.{oldOf}
 
 -- node i is the root, no container, or a container that has a name or a place, by its record
 unfoldable pub placedIn : NodeRecord → ℕ → Bool
-placedIn r i =
-    cond (eqb (r .tag) containerTag)
-    (cond (eqb i 0) true (cond (isNone (r .place)) (cond (eqb (r .f1) 0) false (cond (isNone (r .f1)) (cond (isNone (r .f0)) false true) true)) true))
-    true
+placedIn r i = not (eqb (r .tag) containerTag) || eqb i 0 || hasPieceBy (r .place) (r .f0) (r .f1)
 
 -- the tag of a node, in the nodes' words
 abbrev pub tagAt : ℕ → List ℕ → ℕ → ℕ

@@ -13,7 +13,7 @@ use Rattle.image.specs.Sections.{Sections, nodeCount}
 use Rattle.image.specs.Header.{inkRight}
 use Rattle.tree.specs.Tree.{readWalk}
 use Rattle.tree.proofs.Numbers.{EachOnce}
-use Rattle.draft.specs.Draft.{newPath, pathRule, pathsRule, tablesRule, reachRule, shapeRule}
+use Rattle.draft.specs.Draft.{placed, newPath, pathRule, pathsRule, tablesRule, reachRule, shapeRule}
 use Rattle.draft.specs.Numbering.{numbering}
 use Rattle.draft.proofs.Rules.{Tables, Shape, tables, shape}
 use Rattle.draft.proofs.ReachedNodes.{reached, numbered as draft-numbered}
@@ -24,6 +24,7 @@ pub record Taken (s : Sections) : Type 0 where
   pub tables : Tables s
   pub shape : Shape s
   pub reached : (i : ℕ) → i < nodeCount s → has i (readWalk s .seen) ≡ true
+  pub places : (i : ℕ) → i < nodeCount s → placed s i ≡ true
   pub paths : (i : ℕ) → i < nodeCount s → newPath s i ≡ true
 
 module _ (ink : ℕ) (s : Sections) (work room : ℕ) (p : encodeRule ink s work room ≡ 0) where
@@ -50,6 +51,7 @@ module _ (ink : ℕ) (s : Sections) (work room : ℕ) (p : encodeRule ink s work
         tables = tables s (drafted .0);
         shape = shape s (drafted .2);
         reached = reached s (drafted .1);
+        places = λ i h. passed _ 21 (both _ _ (first-all _ _ (drafted .3) i h) .0);
         paths = λ i h. passed _ 21 (both _ _ (first-all _ _ (drafted .3) i h) .1);
       }
 

@@ -12,10 +12,10 @@ use Rattle.laws.specs.Refusal.{unless, _▸_, firstOf}
 use Rattle.laws.proofs.First.{both, then, passed, pass, zero-as, first-all, first-of}
 use Rattle.laws.proofs.Flags.{both-true, all-at, all-of}
 use Rattle.laws.proofs.Members.{all-has}
-use Rattle.words.specs.Words.{NONE, isNone}
+use Rattle.words.specs.Words.{NONE}
 use Rattle.texts.specs.Text.{same}
 use Rattle.texts.proofs.Text.{same-equal, equal-same}
-use Rattle.image.specs.Sections.{Sections, nodeWords, textEntryWords, definitionWords, nodeCount, childCount, namedCount, definitionCount, itemCount, parentOf, placeOf, tagOf, childWord, namedWord, inside, isContainer}
+use Rattle.image.specs.Sections.{Sections, nodeWords, textEntryWords, definitionWords, nodeCount, childCount, namedCount, definitionCount, itemCount, parentOf, tagOf, childWord, namedWord, inside, isContainer}
 use Rattle.image.specs.Header.{inkRight, firstInkVersion, lastInkVersion}
 use Rattle.records.specs.Records.{parentRule, fieldsRule, rootRight, usedUp}
 use Rattle.records.proofs.PassedRules.{root, used-up, used-up-of}
@@ -23,7 +23,7 @@ use Rattle.tree.specs.Tree.{childAt, namedAt, entriesRule, allSeen, readWalk}
 use Rattle.tree.specs.Reach.{Reached}
 use Rattle.tree.proofs.Numbers.{read-reached, reached-read}
 use Rattle.tree.proofs.Entries.{children-pass, named-pass, entries-pass}
-use Rattle.index.specs.Paths.{nameless, canonicalPath}
+use Rattle.index.specs.Paths.{canonicalPath, hasPiece}
 use Rattle.index.specs.Definitions.{goodDefinition, firstItem, numberOfItems, itemsBefore, itemsRight, itemsUsedUp}
 use Rattle.draft.specs.Draft.{wholeEntries, draftNodeRule, draftChildRule, draftNamedRule, draftDefinitionRule, draftItemRule, tablesRule, writeWords, reachRule, relationRule, orderRule, shapeRule, placed, newPath, pathRule, pathsRule}
 use Rattle.draft.proofs.Rules.{Tables, tables, Checked, checked, entries-counts, entries-below, Shape, shape}
@@ -31,6 +31,7 @@ use Rattle.draft.proofs.ReachedNodes.{reached}
 use Rattle.draft_image.specs.Encode.{imageFor, draftRule, encodeRule}
 use Rattle.promises.specs.Rules.{TextRight, NodeRight, FieldRight, ParentRight, ChildRight, NamedRight, Iff}
 use Rattle.promises.proofs.Fields.{text-right, right-text, node-right, right-node, fields-right, right-fields, parent-right, right-parent}
+use Rattle.promises.proofs.Way.{piece-right, right-piece}
 use Rattle.promises.proofs.Acceptance.{right-child, right-named}
 use Rattle.written.specs.DraftRules.{DraftDefinitionRight, TablesRight, ShapeRight, PathsRight, DraftRight, EncodeRight, EncodesExactly, DraftsExactly}
 
@@ -157,23 +158,16 @@ module _ (s : Sections) where
 
   -- ---- 22
 
-  one-of : (a b c d : Bool) → (not a || b || not c || not d) ≡ true → a ≡ true → b ≡ false → c ≡ true → d ≡ false
-  one-of true false true false e p q r = refl
-  one-of true false true true e p q r = absurd (true≢false (sym e))
-  one-of false b c d e p q r = absurd (true≢false (sym p))
-  one-of true true c d e p q r = absurd (true≢false q)
-  one-of true false false d e p q r = absurd (true≢false (sym r))
+  one-of : (a b c : Bool) → (not a || b || c) ≡ true → a ≡ true → b ≡ false → c ≡ true
+  one-of true false c e p q = e
+  one-of false b c e p q = absurd (true≢false (sym p))
+  one-of true true c e p q = absurd (true≢false q)
 
-  of-one : (a b c d : Bool) → (a ≡ true → b ≡ false → c ≡ true → d ≡ false) → (not a || b || not c || not d) ≡ true
-  of-one true false true false h = refl
-  of-one true false true true h = absurd (true≢false (h refl refl refl))
-  of-one true true true d h = refl
-  of-one true true false d h = refl
-  of-one true false false d h = refl
-  of-one false true true d h = refl
-  of-one false true false d h = refl
-  of-one false false true d h = refl
-  of-one false false false d h = refl
+  of-one : (a b c : Bool) → (a ≡ true → b ≡ false → c ≡ true) → (not a || b || c) ≡ true
+  of-one true false c h = h refl refl
+  of-one true true c h = refl
+  of-one false true c h = refl
+  of-one false false c h = refl
 
   two-apart : (a b c : Bool) → (not a || (not b || not c)) ≡ true → a ≡ true → b ≡ true → c ≡ true → ⊥
   two-apart true true true e p q r = true≢false (sym e)
@@ -191,9 +185,9 @@ module _ (s : Sections) where
   unfolding pathsRule pathRule placed newPath
   paths-right p =
       record {
-        placed = λ i h c d n e.
+        placed = λ i h c d.
             let q = both _ _ (first-all _ _ p i h) in
-            true≢false (sym (eq-eqb (placeOf s i) NONE e) ∙ one-of (isContainer s i) (eqb i 0) (nameless s i) (isNone (placeOf s i)) (passed _ 21 (q .0)) c (ne-eqb i 0 d) n);
+            piece-right s i (one-of (isContainer s i) (eqb i 0) (hasPiece s i) (passed _ 21 (q .0)) c (ne-eqb i 0 d));
         differ = λ i j h k a b e.
             let q = both _ _ (first-all _ _ p i h) in
             new-differs i (passed _ 21 (q .1)) j k a b e;
@@ -209,9 +203,7 @@ module _ (s : Sections) where
   right-paths r = first-of (nodeCount s) _ (λ i h. then _ _ (pass _ 22 (is-placed i h)) (pass _ 22 (is-new i h)))
     where
       is-placed : (i : ℕ) → i < nodeCount s → placed s i ≡ true
-      is-placed i h =
-          of-one (isContainer s i) (eqb i 0) (nameless s i) (isNone (placeOf s i))
-          (λ c d n. ne-eqb (placeOf s i) NONE (r .placed i h c (eqb-false i 0 d) n))
+      is-placed i h = of-one (isContainer s i) (eqb i 0) (hasPiece s i) (λ c d. right-piece s i (r .placed i h c (eqb-false i 0 d)))
 
       is-new : (i : ℕ) → i < nodeCount s → newPath s i ≡ true
       is-new i h = by (isContainer s i) refl

@@ -14,14 +14,15 @@ use Rattle.laws.specs.Lists.{placeIn}
 use Rattle.laws.specs.Sorted.{insert, isort}
 use Rattle.laws.proofs.First.{pass, then, first-of}
 use Rattle.laws.proofs.Flags.{all-at}
-use Rattle.laws.proofs.Members.{and-true, or-left, All, all-map, all-append, sum-ext, those-length}
+use Rattle.laws.proofs.Members.{and-true, All, all-map, all-append, sum-ext, those-length}
 use Rattle.laws.proofs.Sorted.{all-isort, length-isort}
 use Rattle.texts.specs.Text.{before, same, byKey, rising}
-use Rattle.texts.proofs.Text.{same-self, same-turned, same-unlike, unlike-before}
+use Rattle.texts.proofs.Text.{same-turned, same-unlike, unlike-before}
 use Rattle.image.specs.Sections.{Sections, nodeCount, indexCount, indexWord, isContainer}
 use Rattle.records.specs.Records.{containerOf, containersBefore}
-use Rattle.index.specs.Paths.{canonicalPath, fitsPath, fits}
+use Rattle.index.specs.Paths.{canonicalPath, hasPath}
 use Rattle.index.specs.Index.{indexText, indexEntryRule, indexRule}
+use Rattle.index.proofs.Paths.{path-fits}
 use Rattle.draft.specs.Draft.{newPath}
 use Rattle.draft.specs.Numbering.{oldOf}
 use Rattle.draft_image.specs.Strings.{byPath, pathOf, offsetOf}
@@ -33,6 +34,7 @@ use Rattle.written.proofs.Fields.{Given, counted, old-in, new-old, insi
 use Rattle.written.proofs.Rules.{good-at, text-at}
 use Rattle.written.proofs.Tree.{rising-same}
 use Rattle.written.proofs.Paths.{path-good, path-same}
+use Rattle.written.proofs.HasPath.{has-path}
 
 -- ---- sorting
 
@@ -163,7 +165,7 @@ module _ {s : Sections} {order : List ℕ} {kept : List (List ℕ)} (g : Given s
     index-path = index-text ∙ sym (ap (canonicalPath v) index-target ∙ path-same g (target k) (index-node .0) (index-node .1))
 
   index-kept : (k : ℕ) → k < length boxes → indexEntryRule v k ≡ 0
-  unfolding indexEntryRule fits fitsPath
+  unfolding indexEntryRule
   index-kept k h =
       let b = index-node k h in
       then _ _
@@ -173,7 +175,7 @@ module _ {s : Sections} {order : List ℕ} {kept : List (List ℕ)} (g : Given s
       (pass _ 9 (rw (index-target k h) (and-true _ _ (inside-written g (target k) (b .0)) (container-same g (target k) (b .0) ∙ b .1))))
       (then _ _
       (pass _ 16 (rising-same k (indexText v) (λ m. pathOf s order (target m)) (λ m q. index-text m (omega arith)) (rising-at (pathOf s order) boxes k h boxes-rise)))
-      (pass _ 16 (or-left _ _ (ap (same (indexText v k)) (sym (index-path k h)) ∙ same-self (indexText v k))))))
+      (pass _ 16 (path-fits v (indexWord v k 2) (indexText v k) (ap (hasPath v) (index-target k h) ∙ has-path g (target k) (b .0) (b .1)) (index-path k h)))))
 
   pub index-passes : indexRule v ≡ 0
   unfolding indexRule

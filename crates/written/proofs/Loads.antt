@@ -1,7 +1,7 @@
 -- Every draft that the writer takes is written as an image that a load accepts, and what that image holds.
 use Prim.Native.Nat.{ℕ, _^_, _≤_, _<_}
 use mathlib.Core.Path.{_≡_, refl, sym, ap, _∙_, subst}
-use mathlib.Core.List.{List, _∷_}
+use mathlib.Core.List.{List}
 use mathlib.Core.Bool.{true}
 use native.Mathlib.Omega.{arith}
 use lib.ListN.{length}
@@ -11,7 +11,6 @@ use Rattle.laws.proofs.First.{pass, then, first-of}
 use Rattle.laws.proofs.Flags.{both-true}
 use Rattle.laws.proofs.Members.{and-true}
 use Rattle.words.specs.Words.{NONE}
-use Rattle.texts.specs.Dots.{dot}
 use Rattle.image.specs.Sections.{Sections, nodeCount}
 use Rattle.image.specs.Header.{version, inkRight, headerRule, sectionsOf, firstInkVersion, lastInkVersion}
 use Rattle.image.specs.Encoding.{imageOf}
@@ -22,7 +21,7 @@ use Rattle.draft.specs.Numbering.{numbering}
 use Rattle.draft_image.specs.Strings.{storedTexts}
 use Rattle.draft_image.specs.Written.{written}
 use Rattle.draft_image.specs.Encode.{imageFor, encodeRule}
-use Rattle.written.specs.Written.{DraftWords, WrittenLoads, WrittenAccepted, HeaderPasses, RoundTrip, SamePaths, IndexPaths, IndexHasNoDot}
+use Rattle.written.specs.Written.{DraftWords, WrittenLoads, WrittenAccepted, HeaderPasses, RoundTrip, SamePaths, IndexPaths}
 use Rattle.draft_image.proofs.Lengths.{image-length}
 use Rattle.written.proofs.Header.{WholeSections, round-trip, header-passes, checksum-passes}
 use Rattle.written.proofs.Draft.{taken, numbered, ink-taken, image-fits}
@@ -126,9 +125,3 @@ same-paths ink s work room two words p j h c =
 pub index-paths : IndexPaths
 index-paths ink s work room two words p =
     rw (back ink s work room two words p) (λ k h. index-path (given ink s work room two words p) k (omega (arith, index-count s (numbering s) (storedTexts s (numbering s)))))
-
-pub no-dot : IndexHasNoDot
-no-dot ink s work room two words p k h e = longer (sym (index-paths ink s work room two words p k h) ∙ e)
-  where
-    longer : {t : List ℕ} → t ≡ dot ∷ t → ⊥
-    longer {t} q = omega (arith, ap length q)

@@ -20,7 +20,7 @@ use Rattle.image.proofs.GoodBytes.{good-empty, good-append, good-ascii}
 use Rattle.image.specs.Sections.{Sections, nodeCount, parentOf, placeOf, tagOf, f, textAt, goodText, absent, inside, isContainer, goodBytes}
 use Rattle.records.specs.Fields.{kinds, kindOf, fields}
 use Rattle.records.specs.Records.{fieldRule, firstField}
-use Rattle.index.specs.Paths.{nameless, pieceOf, piece, joinedByDot, pathFrom, canonicalPath}
+use Rattle.index.specs.Paths.{noName, nameless, pieceOf, piece, joinedByDot, pathFrom, canonicalPath, hasPiece}
 use Rattle.draft.specs.Numbering.{oldOf}
 use Rattle.draft_image.specs.Strings.{textIf, fieldTexts, offsetOf}
 use Rattle.draft_image.specs.Written.{fieldWords}
@@ -102,6 +102,26 @@ module _ {s : Sections} {order : List ℕ} {kept : List (List ℕ)} (g : Given s
             (cond-same (f v j 1) (f s i 1) (decimal (placeOf v j)) (decimal (placeOf s i)) (textAt v (f v j 0) (f v j 1)) name
             (q ∙ good-length s (f s i 0) (f s i 1) (name-good i (old-in g j h) c e)) (ap decimal (place-word g j h))
             (text-at g name (f v j 0) (f v j 1) held p q))
+
+    -- a name is absent or empty where the draft's is
+    nameless-same : nameless v j ≡ nameless s i
+    unfolding nameless fields fieldWords
+    nameless-same =
+        let r = container-reads g j h c .0 in
+        go (absent (f s i 0) (f s i 1)) refl (r .0) (r .1 .0)
+      where
+        go : (a : Bool) → absent (f s i 0) (f s i 1) ≡ a → f v j 0 ≡ cond a NONE (offsetOf kept name) → f v j 1 ≡ cond a NONE (length name)
+            → noName (f v j 0) (f v j 1) ≡ (a || eqb (f s i 1) 0)
+        go true e p q = rw (eq-eqb (f v j 0) NONE p, eq-eqb (f v j 1) NONE q) refl
+        go false e p q =
+            let held = name-stored e in
+            let inner = offset-inside kept name held in
+            let small = strings-small g in
+            rw (ne-eqb (f v j 0) NONE (λ z. omega arith))
+            (ap (λ (m : ℕ). eqb m 0) (q ∙ good-length s (f s i 0) (f s i 1) (name-good i (old-in g j h) c e)))
+
+    pub has-piece-same : hasPiece v j ≡ hasPiece s i
+    has-piece-same = rw (nameless-same, place-word g j h)
 
   -- ---- paths
 

@@ -5,8 +5,9 @@ use Rattle.image.specs.Header.{sectionsOf}
 use Rattle.load.specs.Load.{loadWords}
 use Rattle.draft_image.specs.Encode.{imageFor}
 use Rattle.promises.proofs.Sound.{accepted-sound}
-use Rattle.written.specs.Written.{WrittenSound, WrittenIndexOnce}
-use Rattle.written.proofs.Loads.{written-loads, no-dot}
+use Rattle.promises.proofs.OneSpelling.{accepted-one-spelling}
+use Rattle.written.specs.Written.{WrittenSound, WrittenIndexOnce, WrittenOneSpelling}
+use Rattle.written.proofs.Loads.{written-loads}
 use Rattle.written.proofs.Bytes.{image-bytes}
 
 pub written-sound : WrittenSound
@@ -16,4 +17,9 @@ written-sound ink s work room two words p =
     accepted-sound (imageFor ink s) needed (image-bytes ink s words) (written-loads ink s work room two words p needed enough)
 
 pub written-index-once : WrittenIndexOnce
-written-index-once ink s work room two words p = written-sound ink s work room two words p .index (no-dot ink s work room two words p)
+written-index-once ink s work room two words p = written-sound ink s work room two words p .index
+
+pub written-one-spelling : WrittenOneSpelling
+written-one-spelling ink s work room two words p =
+    let needed = loadWords (sectionsOf (imageFor ink s)) in
+    accepted-one-spelling (imageFor ink s) needed (written-loads ink s work room two words p needed (omega arith))

@@ -13,11 +13,11 @@ use Rattle.image.specs.Header.{firstInkVersion, lastInkVersion}
 use Rattle.records.specs.Fields.{Field}
 use Rattle.records.specs.Records.{fieldsAt, numberOfChildren, numberOfNamed, childrenBefore, namedBefore, payloadBefore}
 use Rattle.tree.specs.Reach.{Reached}
-use Rattle.index.specs.Paths.{nameless, canonicalPath}
+use Rattle.index.specs.Paths.{canonicalPath}
 use Rattle.index.specs.Definitions.{definitionText, firstItem, numberOfItems, itemTextOf, itemsBefore}
 use Rattle.draft.specs.Draft.{tablesRule, writeWords, reachRule, shapeRule, pathsRule}
 use Rattle.draft_image.specs.Encode.{imageFor, encodeRule}
-use Rattle.promises.specs.Rules.{TextRight, NodeRight, FieldRight, ParentRight, ChildRight, NamedRight, Iff}
+use Rattle.promises.specs.Rules.{TextRight, NodeRight, FieldRight, ParentRight, ChildRight, NamedRight, NameOrPlace, Iff}
 
 -- ---- 19: the tables
 
@@ -63,7 +63,7 @@ pub record ShapeRight (s : Sections) : Type 0 where
 -- ---- 22: every container, the root excepted, has a name or a place, and no two have one path
 
 pub record PathsRight (s : Sections) : Type 0 where
-  pub placed : (i : ℕ) → i < nodeCount s → isContainer s i ≡ true → i ≢ 0 → nameless s i ≡ true → placeOf s i ≢ NONE
+  pub placed : (i : ℕ) → i < nodeCount s → isContainer s i ≡ true → i ≢ 0 → NameOrPlace s i
   pub differ : (i j : ℕ) → i < nodeCount s → j < i → isContainer s j ≡ true → isContainer s i ≡ true → canonicalPath s j ≢ canonicalPath s i
 
 -- ---- 19 to 22

@@ -1,10 +1,8 @@
 -- What holds of the image of every draft that the writer takes: the statements.
 use Prim.Native.Nat.{ℕ, _^_, _≤_, _<_}
 use mathlib.Core.Path.{_≡_}
-use mathlib.Core.List.{_∷_}
 use mathlib.Core.Bool.{true}
 use Rattle.laws.specs.Lists.{Below}
-use Rattle.texts.specs.Dots.{dot}
 use Rattle.image.specs.Sections.{Sections, nodeCount, indexCount, indexWord, isContainer}
 use Rattle.image.specs.Header.{version, headerRule, sectionsOf}
 use Rattle.index.specs.Paths.{canonicalPath}
@@ -13,7 +11,7 @@ use Rattle.load.specs.Load.{loadRule, loadWords, Accepted}
 use Rattle.draft.specs.Numbering.{numbering, oldOf}
 use Rattle.draft_image.specs.Written.{written}
 use Rattle.draft_image.specs.Encode.{imageFor, encodeRule}
-use Rattle.promises.specs.Promises.{Sound, NamedOnce}
+use Rattle.promises.specs.Promises.{Sound, NamedOnce, OneSpelling}
 
 -- the words of a draft are words, its bytes are bytes: what slices of u32 and u8 hold
 pub record DraftWords (s : Sections) : Type 0 where
@@ -66,20 +64,18 @@ IndexPaths =
     Written (λ ink s. (k : ℕ) → k < indexCount (sectionsOf (imageFor ink s))
     → indexText (sectionsOf (imageFor ink s)) k ≡ canonicalPath (sectionsOf (imageFor ink s)) (indexWord (sectionsOf (imageFor ink s)) k 2))
 
--- so that none is a dot before it
-abbrev pub IndexHasNoDot : Type 0
-IndexHasNoDot =
-    Written (λ ink s. (k : ℕ) → k < indexCount (sectionsOf (imageFor ink s))
-    → indexText (sectionsOf (imageFor ink s)) k ≡ dot ∷ canonicalPath (sectionsOf (imageFor ink s)) (indexWord (sectionsOf (imageFor ink s)) k 2) → ⊥)
-
 -- ---- nothing sticks
 
 -- demand 3, all of it, holds of the image
 abbrev pub WrittenSound : Type 0
 WrittenSound = Written (λ ink s. Sound (sectionsOf (imageFor ink s)))
 
--- and its index names each container exactly once, with no condition left
+-- its index names each container exactly once
 abbrev pub WrittenIndexOnce : Type 0
 WrittenIndexOnce =
     Written (λ ink s. (i : ℕ) → i < nodeCount (sectionsOf (imageFor ink s)) → isContainer (sectionsOf (imageFor ink s)) i ≡ true
     → NamedOnce (sectionsOf (imageFor ink s)) i)
+
+-- by one spelling, and no two containers have one path
+abbrev pub WrittenOneSpelling : Type 0
+WrittenOneSpelling = Written (λ ink s. OneSpelling (sectionsOf (imageFor ink s)))
