@@ -1,4 +1,4 @@
--- The index names each container exactly once, by one spelling.
+-- The index names each container exactly once.
 use Prim.Native.Nat.{ℕ, _<_}
 use mathlib.Core.Path.{_≡_, sym, _∙_}
 use mathlib.Core.Bool.{true}

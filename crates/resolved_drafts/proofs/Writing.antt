@@ -13,14 +13,14 @@ use Rattle.laws.specs.Refusal.{unless, _▸_, firstOf}
 use Rattle.laws.specs.Counted.{allOf, lastOf}
 use Rattle.laws.proofs.First.{second, pass, first-of}
 use Rattle.laws.proofs.Members.{all-ext}
-use Rattle.words.specs.Words.{NONE, isNone}
+use Rattle.words.specs.Words.{NONE}
 use Rattle.texts.specs.Text.{same}
 use Rattle.image.specs.Header.{inkRight}
 use Rattle.image.specs.Refusals.{badInkVersion, tooFewWords, draftPaths, noRoom}
 use Rattle.image.specs.Sections.{Sections, nodeCount, parentOf, tagOf, f, isContainer}
 use Rattle.image.specs.Tags.{containerTag}
 use Rattle.records.proofs.PassedRules.{parent}
-use Rattle.index.specs.Paths.{noName, nameless, pieceOf, piece, joinedByDot, pathFrom, canonicalPath}
+use Rattle.index.specs.Paths.{nameless, pieceOf, piece, joinedByDot, pathFrom, canonicalPath, hasPieceBy}
 use Rattle.draft.specs.Draft.{tablesRule, writeWords, reachRule, shapeRule, placed, newPath, pathRule, pathsRule}
 use Rattle.draft.specs.PathList.{pathOf, listRight, follows, pathTablesRule}
 use Rattle.draft.proofs.Rules.{shape}
@@ -87,7 +87,7 @@ module _ (s : Sections) (ws : List ℕ) (a : SameTree s ws) (up : (i : ℕ) → 
       by : (b : Bool) → isContainer s i ≡ b → placed r i ≡ placed s i
       by true e =
           let q = eqb-true (tagOf s i) containerTag e in
-          λ t. not (eqb (a .tags i t) containerTag) || eqb i 0 || not (noName (name-at i q t) (name-len i q t)) || not (isNone (a .places i t))
+          λ t. not (eqb (a .tags i t) containerTag) || eqb i 0 || hasPieceBy (a .places i t) (name-at i q t) (name-len i q t)
       by false e = rw (e, same-box s ws a i ∙ e)
 
   pub same-paths : pathsRule r ≡ pathsRule s
