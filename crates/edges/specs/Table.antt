@@ -145,6 +145,9 @@ pub record NoPlaceLines : Type 0 where
   pub nameless-image : loadRule (imageOf 21 (aloneWithoutPlace NONE NONE (ascii "4294967295"))) 4 ≡ 16
   pub empty-name : fits (aloneWithoutPlace 0 0 (ascii "4294967295")) 1 (ascii "4294967295") ≡ false
   pub empty-name-image : loadRule (imageOf 21 (aloneWithoutPlace 0 0 (ascii "4294967295"))) 4 ≡ 16
+  -- a name that begins with a dot is a piece like any other
+  pub dot-name : fits (aloneWithoutPlace 1 2 (ascii ".3")) 1 (ascii ".3") ≡ true
+  pub dot-name-image : loadRule (imageOf 21 (aloneWithoutPlace 1 2 (ascii ".3"))) 4 ≡ 0
   pub below-named : fits (belowWithoutPlace 0 1 1 (ascii "a.0")) 2 (ascii "a.0") ≡ true
   pub below-named-image : loadRule (imageOf 21 (belowWithoutPlace 0 1 1 (ascii "a.0"))) 6 ≡ 0
   pub below : fits (belowWithoutPlace NONE NONE 10 (ascii "4294967295.0")) 2 (ascii "4294967295.0") ≡ false
@@ -160,6 +163,8 @@ no-place-lines =
       nameless-image = refl;
       empty-name = refl;
       empty-name-image = refl;
+      dot-name = refl;
+      dot-name-image = refl;
       below-named = refl;
       below-named-image = refl;
       below = refl;
