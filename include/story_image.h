@@ -75,7 +75,8 @@ enum {
     STORY_IMAGE_BAD_CHILD = 14,      /* a child does not name its parent and place, or a named entry's text, order or
                                         parent is wrong */
     STORY_IMAGE_UNREACHED = 15,      /* a node is not reached from node 0 */
-    STORY_IMAGE_BAD_INDEX = 16,      /* the path index is out of order, or a text does not fit its container */
+    STORY_IMAGE_BAD_INDEX = 16,      /* the path index is out of order, a text is not its container's path (`.3` for
+                                        place 3), or a container below the root has neither name nor place */
     STORY_IMAGE_BAD_DEFINITION = 17, /* definitions or items are out of order, an item's text is bad, or items are left over */
     /* of a query */
     STORY_IMAGE_NOT_FOUND = 18,      /* no such node, child, name, step or item */
@@ -379,9 +380,9 @@ uint32_t story_image_load(const uint8_t *bytes, size_t length, uint32_t *work, s
  * words, gives 18, as 'no such node' does: story_image_view_whole tells the first apart, and how many words an answer
  * has is fixed for each query. Any bytes and any view may be asked: a section outside the bytes counts as empty, and an
  * answer's parts lie inside the bytes. On accepted bytes a node below the node count has a view, texts are there and
- * UTF-8, targets are below the node count. A text is an offset and a length in the strings; story_image_text gives its
- * place in the bytes. A signed value is handed over as its 32 bits: (int32_t)word. A float's bits are copied into one
- * with memcpy. */
+ * UTF-8, targets are below the node count, and the path index, section 5, has one entry for each container, its path.
+ * A text is an offset and a length in the strings; story_image_text gives its place in the bytes. A signed value is
+ * handed over as its 32 bits: (int32_t)word. A float's bits are copied into one with memcpy. */
 
 /* Whether a view has at least STORY_IMAGE_VIEW_WORDS words. Under such a view, and with an answer that holds the
  * query's words, a query returns 18 only if there is nothing to answer. */

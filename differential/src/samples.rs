@@ -79,6 +79,31 @@ fn circle() -> Vec<u8> {
     parts.bytes()
 }
 
+/// Three glues and, in place 3, a nameless container that is filed as `.3`.
+fn dotted() -> Vec<u8> {
+    let mut parts = small::smallest();
+    parts.nodes[0][7] = 4;
+    parts.children = vec![1, 2, 3, 4];
+    for place in 0..3 {
+        parts.nodes.push([0, place, 5, NONE, NONE, NONE, NONE, NONE, NONE, NONE]);
+    }
+    parts.nodes.push([0, 3, 1, NONE, NONE, 0, 4, 0, 0, 0]);
+    parts.index.push([0, 2, 4]);
+    parts.strings = b".3".to_vec();
+    parts.bytes()
+}
+
+/// A named child without a name of its own and without a place, filed as `4294967295`.
+fn placeless() -> Vec<u8> {
+    let mut parts = small::smallest();
+    parts.nodes[0][9] = 1;
+    parts.nodes.push([0, NONE, 1, NONE, NONE, 0, 0, 0, 1, 0]);
+    parts.named = vec![[10, 1, 1]];
+    parts.index.push([0, 10, 1]);
+    parts.strings = b"4294967295a".to_vec();
+    parts.bytes()
+}
+
 /// Name, bytes, the row and what is wrong.
 fn damaged(image: &[u8]) -> Vec<(&'static str, Vec<u8>, u32, &'static str)> {
     let smallest = small::smallest();
@@ -106,6 +131,8 @@ fn damaged(image: &[u8]) -> Vec<(&'static str, Vec<u8>, u32, &'static str)> {
         ("place", with_word(image, field(image, 3, 1), 7), 14, "the first command says place 7"),
         ("circle", circle(), 15, "nodes 1 and 2 are each other's parent and child"),
         ("index-order", swapped(image, index + 20, index + 32), 16, "two index entries have each other's target"),
+        ("dotted", dotted(), 16, "a container in place 3 is filed as `.3`"),
+        ("placeless", placeless(), 16, "a container with neither name nor place is filed as `4294967295`"),
         ("item-order", swapped(image, items, items + 12), 17, "two items have each other's text start"),
     ]
 }

@@ -92,6 +92,7 @@ impl<'a> Parts for Image<'a> {
 
 impl<'a> Image<'a> {
     /// Tests the whole image. On return the work words that were needed are 0, or all are as they were (numbers 1 to 7).
+    /// The path index of an accepted image has exactly one entry for each container, its canonical path.
     pub fn load(bytes: &'a [u8], work: &mut [u32]) -> Result<Self, Refusal> {
         let mut words = [0; View::WORDS];
         // SAFETY: the slices are ours, the mutable ones do not overlap, and all live through the call.

@@ -42,7 +42,7 @@ refusals! {
     13 LEFT_OVER "children, named entries or payload are left over, or the path index has not as many entries as there are containers"
     14 BAD_CHILD "a child does not name its parent and place, or a named entry's text, order or parent is wrong"
     15 UNREACHED "a node is not reached from node 0"
-    16 BAD_INDEX "the path index is out of order, or a text does not fit its container"
+    16 BAD_INDEX "the path index is out of order, a text is not its container's path, or a container below the root has neither name nor place"
     17 BAD_DEFINITION "definitions or items are out of order, an item's text is bad, or items are left over"
     18 NOT_FOUND "a query finds nothing: no such node, child, name, step or item"
     19 BAD_DRAFT "a draft's tables are broken, or the list of paths beside it"

@@ -1,7 +1,7 @@
 -- Small images and drafts that the tables speak of.
 use Prim.Native.Nat.{ℕ, zero, suc, _+_, _*_}
 use mathlib.Core.List.{List, [], _∷_, _++_}
-use lib.ListN.{take, replicate}
+use lib.ListN.{length, take, replicate}
 use Rattle.words.specs.Words.{NONE}
 use Rattle.texts.specs.Text.{ascii}
 use Rattle.image.specs.Sections.{Sections}
@@ -72,6 +72,39 @@ unfoldable pub withA : List ℕ → ℕ → ℕ → Sections
 withA strings at len =
     plainSections (containerWords NONE NONE NONE NONE 0 1 ++ containerWords 0 0 0 1 1 0) (1 ∷ []) (0 ∷ 0 ∷ 0 ∷ at ∷ len ∷ 1 ∷ []) strings
 
+-- a container of place 0 and another below it, node 2, neither with a name; the index and its texts are given
+unfoldable pub withTwoPlaces : List ℕ → List ℕ → Sections
+withTwoPlaces index strings =
+    plainSections (containerWords NONE NONE NONE NONE 0 1 ++ containerWords 0 0 NONE NONE 1 1 ++ containerWords 1 0 NONE NONE 2 0) (1 ∷ 2 ∷ []) index
+    strings
+
+-- a root with one named child, a container of place NONE, node 1, by the words of its name; that one has so many children, and nodes, children
+-- and index go on as given. The strings begin with the text of the named entry, a
+unfoldable pub withoutPlace : ℕ → ℕ → ℕ → List ℕ → List ℕ → List ℕ → List ℕ → Sections
+withoutPlace nameAt nameLength count nodes children index strings =
+    record {
+      version = 2;
+      nodes =
+          (NONE ∷ NONE ∷ 1 ∷ NONE ∷ NONE ∷ 0 ∷ 0 ∷ 0 ∷ 0 ∷ 1 ∷ []) ++ (0 ∷ NONE ∷ 1 ∷ nameAt ∷ nameLength ∷ 0 ∷ 0 ∷ count ∷ 1 ∷ 0 ∷ []) ++ nodes;
+      children = children;
+      named = 0 ∷ 1 ∷ 1 ∷ [];
+      definitions = [];
+      items = [];
+      index = 0 ∷ 0 ∷ 0 ∷ index;
+      payload = [];
+      strings = ascii "a" ++ strings;
+    }
+
+-- that container alone, filed under the text
+abbrev pub aloneWithoutPlace : ℕ → ℕ → List ℕ → Sections
+aloneWithoutPlace nameAt nameLength text = withoutPlace nameAt nameLength 0 [] [] (1 ∷ length text ∷ 1 ∷ []) text
+
+-- with a nameless container of place 0 in it, node 2; both filed under the beginning of the text
+abbrev pub belowWithoutPlace : ℕ → ℕ → ℕ → List ℕ → Sections
+belowWithoutPlace nameAt nameLength len text =
+    withoutPlace nameAt nameLength 1 (1 ∷ 0 ∷ 1 ∷ NONE ∷ NONE ∷ 0 ∷ 1 ∷ 0 ∷ 1 ∷ 0 ∷ []) (2 ∷ [])
+    (1 ∷ len ∷ 1 ∷ 1 ∷ length text ∷ 2 ∷ []) text
+
 -- a root, and definitions and items by their words
 abbrev pub listSections : List ℕ → List ℕ → List ℕ → Sections
 listSections definitions items strings =
@@ -100,5 +133,5 @@ unfoldable pub itemsOutside : Sections
 itemsOutside = listSections (0 ∷ 3 ∷ 0 ∷ 1 ∷ 6 ∷ 4 ∷ 1 ∷ 2 ∷ []) (3 ∷ 3 ∷ 1 ∷ 3 ∷ 3 ∷ 2 ∷ []) (ascii "redlowsize")
 
 unfoldable pub examples : Unit {0}
-unfolding smallestImage headerAlone containerWords nodeEntry plainSections rootNamed rootDraft withChild withPlace3 withA withLists twoReds itemsOutside
+unfolding smallestImage headerAlone containerWords nodeEntry plainSections rootNamed rootDraft withChild withPlace3 withA withTwoPlaces withoutPlace withLists twoReds itemsOutside
 examples = tt

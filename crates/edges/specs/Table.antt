@@ -25,7 +25,7 @@ use Rattle.views.specs.declared.OptionalWord.the-variants as word
 use Rattle.views.specs.declared.NodeKindView.the-variants as kind
 use Rattle.views.specs.declared.NodeAnswer.{NodeAnswer}
 use Rattle.views.specs.declared.NodeAnswer.the-variants as node
-use Rattle.edges.specs.Examples.{smallestImage, headerAlone, rootNamed, rootDraft, withChild, withDivert, withPlace3, withA, withLists, twoReds, itemsOutside, examples}
+use Rattle.edges.specs.Examples.{smallestImage, headerAlone, containerWords, plainSections, rootNamed, rootDraft, withChild, withDivert, withPlace3, withA, withTwoPlaces, aloneWithoutPlace, belowWithoutPlace, withLists, twoReds, itemsOutside, examples}
 
 -- the view of a root: no parent, no place, flags 0, and the name
 abbrev rootView : OptionalText → NodeAnswer
@@ -89,11 +89,11 @@ name-lines =
 -- index texts of a container in place 3 and of one that is named a
 pub record PlaceLines : Type 0 where
   pub place-3 : fits (withPlace3 [] 0) 4 (ascii "3") ≡ true
-  pub place-dot-3 : fits (withPlace3 [] 0) 4 (ascii ".3") ≡ true
+  pub place-dot-3 : fits (withPlace3 [] 0) 4 (ascii ".3") ≡ false
   pub place-03 : fits (withPlace3 [] 0) 4 (ascii "03") ≡ false
   pub place-dot-dot-3 : fits (withPlace3 [] 0) 4 (ascii "..3") ≡ false
   pub place-3-image : loadRule (imageOf 21 (withPlace3 (ascii "3") 1)) 10 ≡ 0
-  pub place-dot-3-image : loadRule (imageOf 21 (withPlace3 (ascii ".3") 2)) 10 ≡ 0
+  pub place-dot-3-image : loadRule (imageOf 21 (withPlace3 (ascii ".3") 2)) 10 ≡ 16
   pub place-03-image : loadRule (imageOf 21 (withPlace3 (ascii "03") 2)) 10 ≡ 16
   pub named-a : fits (withA (ascii "a") 0 1) 1 (ascii ".a") ≡ false
   pub named-a-image : loadRule (imageOf 21 (withA (ascii "a.a") 1 2)) 4 ≡ 16
@@ -111,6 +111,64 @@ place-lines =
       place-03-image = refl;
       named-a = refl;
       named-a-image = refl;
+    }
+
+-- a dot before a path of two places, and before the root's
+pub record DotLines : Type 0 where
+  pub places : fits (withTwoPlaces [] []) 2 (ascii "0.0") ≡ true
+  pub dot-places : fits (withTwoPlaces [] []) 2 (ascii ".0.0") ≡ false
+  pub places-image : loadRule (imageOf 21 (withTwoPlaces (0 ∷ 0 ∷ 0 ∷ 0 ∷ 1 ∷ 1 ∷ 0 ∷ 3 ∷ 2 ∷ []) (ascii "0.0"))) 6 ≡ 0
+  pub dot-places-image : loadRule (imageOf 21 (withTwoPlaces (0 ∷ 0 ∷ 0 ∷ 0 ∷ 4 ∷ 2 ∷ 1 ∷ 1 ∷ 1 ∷ []) (ascii ".0.0"))) 6 ≡ 16
+  -- two entries for one container, none for the other
+  pub twice-image : loadRule (imageOf 21 (withTwoPlaces (0 ∷ 0 ∷ 0 ∷ 0 ∷ 2 ∷ 1 ∷ 1 ∷ 1 ∷ 1 ∷ []) (ascii ".0"))) 6 ≡ 16
+  pub root-dot : fits (rootNamed NONE NONE) 0 (ascii ".") ≡ false
+  pub root-dot-image : loadRule (imageOf 21 (plainSections (containerWords NONE NONE NONE NONE 0 0) [] (0 ∷ 1 ∷ 0 ∷ []) (ascii "."))) 2 ≡ 16
+
+dot-lines : DotLines
+unfolding examples encodes encodings walks lookups views loads
+dot-lines =
+    record {
+      places = refl;
+      dot-places = refl;
+      places-image = refl;
+      dot-places-image = refl;
+      twice-image = refl;
+      root-dot = refl;
+      root-dot-image = refl;
+    }
+
+-- containers of place NONE, which only a named child has: with a name, without one, with the empty one; and a container in place 0 of such a one
+pub record NoPlaceLines : Type 0 where
+  pub named : fits (aloneWithoutPlace 0 1 (ascii "a")) 1 (ascii "a") ≡ true
+  pub named-image : loadRule (imageOf 21 (aloneWithoutPlace 0 1 (ascii "a"))) 4 ≡ 0
+  pub nameless : fits (aloneWithoutPlace NONE NONE (ascii "4294967295")) 1 (ascii "4294967295") ≡ false
+  pub nameless-image : loadRule (imageOf 21 (aloneWithoutPlace NONE NONE (ascii "4294967295"))) 4 ≡ 16
+  pub empty-name : fits (aloneWithoutPlace 0 0 (ascii "4294967295")) 1 (ascii "4294967295") ≡ false
+  pub empty-name-image : loadRule (imageOf 21 (aloneWithoutPlace 0 0 (ascii "4294967295"))) 4 ≡ 16
+  -- a name that begins with a dot is a piece like any other
+  pub dot-name : fits (aloneWithoutPlace 1 2 (ascii ".3")) 1 (ascii ".3") ≡ true
+  pub dot-name-image : loadRule (imageOf 21 (aloneWithoutPlace 1 2 (ascii ".3"))) 4 ≡ 0
+  pub below-named : fits (belowWithoutPlace 0 1 1 (ascii "a.0")) 2 (ascii "a.0") ≡ true
+  pub below-named-image : loadRule (imageOf 21 (belowWithoutPlace 0 1 1 (ascii "a.0"))) 6 ≡ 0
+  pub below : fits (belowWithoutPlace NONE NONE 10 (ascii "4294967295.0")) 2 (ascii "4294967295.0") ≡ false
+  pub below-image : loadRule (imageOf 21 (belowWithoutPlace NONE NONE 10 (ascii "4294967295.0"))) 6 ≡ 16
+
+no-place-lines : NoPlaceLines
+unfolding examples encodes encodings walks lookups views loads
+no-place-lines =
+    record {
+      named = refl;
+      named-image = refl;
+      nameless = refl;
+      nameless-image = refl;
+      empty-name = refl;
+      empty-name-image = refl;
+      dot-name = refl;
+      dot-name-image = refl;
+      below-named = refl;
+      below-named-image = refl;
+      below = refl;
+      below-image = refl;
     }
 
 -- an item in two definitions; a relative walk of no components
@@ -179,6 +237,8 @@ pub record Edges : Type 0 where
   pub fields : FieldLines
   pub names : NameLines
   pub places : PlaceLines
+  pub dots : DotLines
+  pub no-places : NoPlaceLines
   pub queries : QueryLines
   pub searches : SearchLines
 
@@ -189,6 +249,8 @@ edges =
       fields = field-lines;
       names = name-lines;
       places = place-lines;
+      dots = dot-lines;
+      no-places = no-place-lines;
       queries = query-lines;
       searches = search-lines;
     }
