@@ -16,6 +16,7 @@ mod lists;
 mod ours;
 mod pages;
 mod parts;
+mod path_index;
 mod progress;
 mod published;
 mod queries;

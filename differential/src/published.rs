@@ -5,7 +5,8 @@ use crate::library::{Entry, Found, Library, Looked, PathList, Place, Queries, Ta
 use crate::library::{components, header_view, load_words, section, write_words};
 use crate::pages::{Nodes, SLOT, slot_of};
 use crate::parts::{ENTRY_SIZES, NONE, word_at};
-use crate::rows::{row_of, writer_row};
+use crate::path_index;
+use crate::rows::writer_row;
 use crate::searched::{Lists, is_blank, split};
 use crate::targets::drafts::path_texts;
 use crate::targets::model::Model;
@@ -17,6 +18,11 @@ pub enum Mistake {
     Number,
     WorkLeft,
     NoSeven,
+    IndexDot,
+    IndexDotBelow,
+    IndexNone,
+    IndexTarget,
+    IndexNamed,
     ViewParent,
     PageLastWords,
     PageNone,
@@ -62,10 +68,15 @@ pub enum Mistake {
     TargetEmpty,
 }
 
-pub const MISTAKES: [Mistake; 46] = [
+pub const MISTAKES: [Mistake; 51] = [
     Mistake::Number,
     Mistake::WorkLeft,
     Mistake::NoSeven,
+    Mistake::IndexDot,
+    Mistake::IndexDotBelow,
+    Mistake::IndexNone,
+    Mistake::IndexTarget,
+    Mistake::IndexNamed,
     Mistake::ViewParent,
     Mistake::PageLastWords,
     Mistake::PageNone,
@@ -116,6 +127,20 @@ pub struct Published(pub Mistake);
 impl Published {
     fn has(&self, mistake: Mistake) -> bool {
         self.0 == mistake
+    }
+
+    /// Whether an index entry is refused. Another rule: a dot fits, or fits further down; place NONE fits, or does above the
+    /// target; a named container of place NONE fits nothing.
+    fn breaks(&self, entry: &path_index::Entry) -> bool {
+        let none = entry.none_target || entry.none_on_way;
+        match self.0 {
+            Mistake::IndexDot => none,
+            Mistake::IndexDotBelow => entry.dotted && entry.depth == 1 || none,
+            Mistake::IndexNone => entry.dotted,
+            Mistake::IndexTarget => entry.dotted || entry.none_target,
+            Mistake::IndexNamed => entry.breaks_rule() || entry.named_target || entry.named_on_way,
+            _ => entry.breaks_rule(),
+        }
     }
 
     /// Another item: of definition 0, or of the first definition that bears the origin's name.
@@ -172,7 +197,7 @@ impl Library for Published {
     }
 
     fn load(&self, bytes: &[u8], work: &mut [u32]) -> (u32, View) {
-        let row = reference::load(bytes).err().map_or(0, |reason| row_of(&reason).unwrap());
+        let row = path_index::row_by(bytes, |entry| self.breaks(entry));
         if (1..=6).contains(&row) {
             return (row, [0; 17]);
         }
@@ -363,7 +388,7 @@ impl Writer for Published {
         }
         work[..words].fill(0);
         let number = match written {
-            Written::Image(image) if reference::load(&image).is_err() => 21,
+            Written::Image(image) if path_index::row(&image) != 0 => 21,
             Written::Image(image) if image.len() > output.len() => {
                 let needed = if self.has(Mistake::Needed) { output.len() } else { image.len() };
                 return (23 * u32::from(!self.has(Mistake::NoTwentyThree)), needed);

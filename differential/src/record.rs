@@ -1,4 +1,5 @@
-//! A sample of the published Rust's answers, as a file that needs no Rust to read.
+//! A sample of the published Rust's answers, as a file that needs no Rust to read. A row is the published one with the
+//! rule of the path index added (path_index.rs).
 //!
 //! The file is little-endian words. First the word 1380272467 (`SIER`), 1, and the number of records. Each record is
 //! its kind, the number of words that follow, and these; bytes are stored in words, the last filled up with zeros.
@@ -27,9 +28,10 @@ use crate::damage;
 use crate::drafts;
 use crate::library::components;
 use crate::parts::{NONE, Parts, word_at};
+use crate::path_index;
 use crate::random::Random;
 use crate::recorded::Counts;
-use crate::rows::{row_of, writer_row};
+use crate::rows::writer_row;
 use crate::small::{self, FAMILIES};
 use crate::stories::{Shape, Story};
 use crate::texts;
@@ -55,6 +57,8 @@ struct Recorder {
     records: u32,
     rows: [u64; 24],
     reasons: HashMap<String, u64>,
+    /// What is met in the indexes of images that the published Rust accepts.
+    index: [u64; path_index::CASES.len()],
 }
 
 pub fn run(file: &str) -> bool {
@@ -71,6 +75,7 @@ pub fn run(file: &str) -> bool {
     let (right, reasons) = (recorder.records, recorder.reasons.len());
     println!("{right} right records, {wrong} wrong ones, {reasons} reasons, {} bytes in {file}", bytes.len());
     let mut failures = counts.missing();
+    failures.extend(recorder.missing_of_index());
     failures.extend(std::fs::write(file, bytes).err().map(|error| format!("{file}: {error}")));
     for failure in &failures {
         println!("failed: {failure}");
@@ -177,22 +182,23 @@ impl Recorder {
         self.put(kind, words);
     }
 
+    /// The row of the published Rust with the rule of the path index added.
     fn row(&mut self, bytes: &[u8]) -> u32 {
-        let row = match reference::load(bytes) {
-            Ok(_) => 0,
-            Err(reason) => {
-                let row = row_of(&reason).expect("a row");
-                *self.reasons.entry(reason).or_default() += 1;
-                row
+        let row = path_index::row(bytes);
+        match reference::load(bytes) {
+            Ok(_) => {
+                self.index.iter_mut().zip(path_index::met(bytes)).for_each(|(count, met)| *count += u64::from(met))
             }
-        };
+            Err(reason) => *self.reasons.entry(reason).or_default() += 1,
+        }
         self.rows[row as usize] += 1;
         row
     }
 
-    fn image(&mut self, bytes: &[u8]) {
+    fn image(&mut self, bytes: &[u8]) -> u32 {
         let row = self.row(bytes);
         self.put(1, [row, bytes.len() as u32].into_iter().chain(packed(bytes)));
+        row
     }
 
     /// Whole stories with their queries, and single faults in them.
@@ -202,8 +208,8 @@ impl Recorder {
             let shape = Shape { nodes, containers, ..Shape::random(random) };
             let parts = if turn == 0 { small::smallest() } else { Story::random(shape, random).parts(random) };
             let bytes = parts.bytes();
-            self.image(&bytes);
-            if let Ok(image) = reference::load(&bytes) {
+            if self.image(&bytes) == 0 {
+                let image = reference::load(&bytes).expect("an accepted image");
                 self.queries(&image, &bytes, random);
             }
             self.faults(&parts, &bytes, random);
@@ -360,7 +366,7 @@ impl Recorder {
                 damage::random(&parts, random).1
             };
             let enough = match reference::load(&bytes) {
-                Ok(_) => self.rows[0] >= accepted,
+                Ok(_) => self.enough_of_index(&bytes) && (self.rows[0] >= accepted || path_index::row(&bytes) != 0),
                 Err(reason) => self.reasons.get(&reason).is_some_and(|count| *count >= OF_REASON),
             };
             if !enough && bytes.len() <= 600 {
@@ -369,13 +375,25 @@ impl Recorder {
         }
     }
 
+    /// Whether all that is met in the index of an image has come up often enough.
+    fn enough_of_index(&self, bytes: &[u8]) -> bool {
+        let counts = self.index.iter().zip(path_index::met(bytes));
+        counts.filter(|(_, met)| *met).all(|(count, _)| *count >= OF_REASON)
+    }
+
+    /// What the sample lacks of path indexes.
+    fn missing_of_index(&self) -> impl Iterator<Item = String> {
+        let cases = path_index::CASES.iter().zip(self.index);
+        cases.filter(|((_, [accepted, _]), count)| *accepted && *count == 0).map(|((what, _), _)| what.to_string())
+    }
+
     /// Drafts inside the comparison.
     fn drafts(&mut self, random: &mut Random) {
         let mut counts = [0; 24];
         for _ in 0..20_000 {
             let case = drafts::random(random);
             let (number, image) = match reference::write(case.ink, &case.draft) {
-                Written::Image(image) if case.known == drafts::Known::Sound && reference::load(&image).is_ok() => {
+                Written::Image(image) if case.known == drafts::Known::Sound && path_index::row(&image) == 0 => {
                     (0, image)
                 }
                 Written::Refused(message) if case.known == drafts::Known::Number(writer_row(&message).unwrap()) => {

@@ -6,6 +6,7 @@ use crate::drafts::Case;
 use crate::images::image;
 use crate::library::Library;
 use crate::pages;
+use crate::path_index;
 use crate::published::{MISTAKES, Mistake, Published};
 use crate::queries::KINDS;
 use crate::random::Random;
@@ -81,6 +82,10 @@ fn coverage(ours: Option<&dyn Library>, tally: &mut Tally) {
         need(reference::REASONS.contains(&reason), format!("not in the published source: {reason}"));
         need(tally.reasons.contains_key(reason) == reachable, format!("reason {reason}, reachable: {reachable}"));
     }
+    for ((what, expected), counts) in path_index::CASES.iter().zip(tally.index) {
+        need(counts.map(|count| count > 0) == *expected, format!("path index, {what}: {counts:?}"));
+    }
+    need(tally.turned.keys().eq(&path_index::TURNED), format!("16 in the place of rows {:?}", tally.turned));
     for kind in KINDS {
         need(tally.kinds.contains_key(kind), format!("kind {kind}"));
     }

@@ -2,7 +2,7 @@
 
 use crate::guide::guide;
 use crate::parts::{NONE, Parts, repair, set_word, word_at};
-use crate::rows::row_of;
+use crate::path_index;
 use crate::small;
 use reference::Written;
 use std::path::Path;
@@ -138,7 +138,7 @@ fn damaged(image: &[u8]) -> Vec<(&'static str, Vec<u8>, u32, &'static str)> {
 }
 
 fn put(folder: &Path, name: &str, bytes: &[u8], answer: &str, what: &str, failed: &mut u32) {
-    let row = reference::load(bytes).err().map_or(0, |reason| row_of(&reason).expect("a row"));
+    let row = path_index::row(bytes);
     let expected =
         if row == 0 { format!("ok {} {}", word_at(bytes, 12), word_at(bytes, 24)) } else { format!("no {row}") };
     let right = expected == answer && std::fs::write(folder.join(format!("{name}.image")), bytes).is_ok();

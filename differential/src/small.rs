@@ -9,11 +9,12 @@ pub struct Family {
     pub member: fn(u64) -> Vec<u8>,
 }
 
-pub const FAMILIES: [Family; 10] = [
+pub const FAMILIES: [Family; 11] = [
     Family { name: "trees", size: TREES, member: |number| tree(number).bytes() },
     Family { name: "named entries", size: 3 * 2 * 45 * 45, member: named },
     Family { name: "stack orders", size: 6 * 6 * 4 * 2 * 2, member: stack },
     Family { name: "path indexes", size: 4 * 3 * 60 * 60, member: index },
+    Family { name: "paths of two pieces", size: 2 * 60 * 60 * 3, member: two_pieces },
     Family { name: "definitions", size: 64 * 64 * 9 * 3, member: definitions },
     Family { name: "records", size: 17 * 45 * 16 * 16, member: record },
     Family { name: "headers", size: 20 * 20 * 15 * 15, member: header },
@@ -223,6 +224,55 @@ fn index(number: u64) -> Vec<u8> {
         parts.index.push([at, length, digits.of(&[0, 1, 2, NONE])]);
     }
     parts.bytes()
+}
+
+/// A container below the root and one below that, of all names and places, filed in text order under their paths and
+/// texts close to these. Of some the upper one's entry stands last and is broken: what is refused before it is then the
+/// lower one's.
+fn two_pieces(number: u64) -> Vec<u8> {
+    let mut digits = Digits(number);
+    let mut parts = Parts { index: vec![], ..with_root("a") };
+    let (mut path, mut filed) = (String::new(), vec![(digits.of(&["", "."]).to_owned(), 0)]);
+    for node in 1..3 {
+        let name = digits.of(&[None, Some(""), Some("a"), Some("3")]);
+        let place = digits.of(&[3, 0, NONE]);
+        hang(&mut parts, name, place);
+        let piece = name.filter(|name| !name.is_empty()).map_or(place.to_string(), str::to_owned);
+        path = if node == 1 { piece } else { format!("{path}.{piece}") };
+        let (before, behind) = digits.of(&[("", ""), (".", ""), ("..", ""), ("", "."), (".", ".")]);
+        filed.push((format!("{before}{path}{behind}"), node));
+    }
+    filed.sort();
+    for (text, node) in &filed {
+        let (at, length) = put(&mut parts.strings, text);
+        parts.index.push([at, length, *node]);
+    }
+    if let Some(broken) = digits.of(&[None, Some([NONE, NONE, 1]), Some([0, 1, NONE])]) {
+        parts.index.retain(|entry| entry[2] != 1);
+        parts.index.push(broken);
+    }
+    parts.bytes()
+}
+
+/// A container below the last node: its ordered child where the place is 0, else a named one.
+fn hang(parts: &mut Parts, name: Option<&str>, place: u32) {
+    let node = parts.nodes.len() as u32;
+    let above = &mut parts.nodes[node as usize - 1];
+    if place == 0 {
+        above[7] = 1;
+        parts.children.push(node);
+    } else {
+        above[9] = 1;
+        parts.named.push([0, 1, node]);
+    }
+    let (at, length) = name.map_or((NONE, NONE), |name| put(&mut parts.strings, name));
+    parts.nodes.push([node - 1, place, 1, at, length, 0, parts.children.len() as u32, 0, parts.named.len() as u32, 0]);
+}
+
+fn put(strings: &mut Vec<u8>, text: &str) -> (u32, u32) {
+    let at = strings.len() as u32;
+    strings.extend_from_slice(text.as_bytes());
+    (at, text.len() as u32)
 }
 
 /// Two definitions and up to two items.

@@ -22,6 +22,10 @@ pub struct Shape {
     pub shuffled: bool,
     /// Words that a tag does not use hold anything.
     pub loose: bool,
+    /// Index texts may be a dot before the path.
+    pub dotted: bool,
+    /// Containers that are only named may have neither name nor place, unless names are plain.
+    pub placeless: bool,
 }
 
 impl Shape {
@@ -41,6 +45,8 @@ impl Shape {
             laying: *random.pick(&[Laying::Anew, Laying::Shared, Laying::Overlapping, Laying::Scattered]),
             shuffled: random.once_in(2),
             loose: random.once_in(2),
+            dotted: random.once_in(3),
+            placeless: random.once_in(3),
         }
     }
 }
@@ -125,13 +131,16 @@ impl Story {
 
     /// Gives a container its name and path; no two paths are equal, but for a few.
     fn name(&mut self, id: usize, paths: &mut HashSet<String>, random: &mut Random) {
-        let nameless_allowed = self.nodes[id].place != NONE || !self.shape.plain;
+        let nameless_allowed = self.nodes[id].place != NONE || self.shape.placeless && !self.shape.plain;
         let mut name = match random.below(3) {
             0 if nameless_allowed => None,
             1 if nameless_allowed && random.once_in(4) => Some(String::new()),
             _ if self.shape.plain => Some(texts::plain_name(random)),
             _ => Some(texts::name(random)),
         };
+        if !nameless_allowed && name.as_deref() == Some("") {
+            name = Some(format!("u{id}"));
+        }
         let mut turn = 0;
         loop {
             let (path, top_is_place) = self.path(id, name.as_deref());
@@ -328,14 +337,19 @@ impl Filler {
         }
     }
 
-    /// One entry for each container: its path, or a dot before it, or, where paths clash, another's second text.
+    /// One entry for each container: its path, or a dot before it where that may be, or, where paths clash, another's
+    /// second text.
     fn index(&mut self, story: &Story, number: &[u32], random: &mut Random) {
         let mut texts = BTreeMap::new();
         let containers = || (0..number.len()).filter(|i| story.nodes[*i].tag == 1);
         let dotted = |i: usize| format!(".{}", story.nodes[i].path);
         for i in containers() {
             let node = &story.nodes[i];
-            let text = if node.top_is_place && random.once_in(4) { dotted(i) } else { node.path.clone() };
+            let text = if story.shape.dotted && node.top_is_place && random.once_in(4) {
+                dotted(i)
+            } else {
+                node.path.clone()
+            };
             texts.entry(text).or_insert(number[i]);
         }
         for i in containers() {

@@ -1,6 +1,7 @@
 //! Counts of a run: answers by row, reason, kind and query, and what passed and failed.
 
 use crate::pages;
+use crate::path_index;
 use crate::searched;
 use crate::targets;
 use std::collections::BTreeMap;
@@ -9,6 +10,10 @@ use std::collections::BTreeMap;
 pub struct Tally {
     pub rows: [u64; 24],
     pub reasons: BTreeMap<String, u64>,
+    /// What was met in path indexes: on images that the published Rust accepts, and on others.
+    pub index: [[u64; 2]; path_index::CASES.len()],
+    /// Images that get 16 by the rule of the path index, by the published row.
+    pub turned: BTreeMap<u32, u64>,
     pub kinds: BTreeMap<&'static str, u64>,
     /// Of each query, how often it found something, and how often nothing.
     pub queries: BTreeMap<&'static str, [u64; 2]>,
@@ -86,6 +91,11 @@ impl Tally {
             println!("    {name:30} {all:>10} {accepted:>10}");
         }
         print("reasons", self.reasons.iter());
+        println!("met in path indexes: accepted by the published Rust, refused by it");
+        for ((name, _), [accepted, refused]) in path_index::CASES.iter().zip(self.index) {
+            println!("    {name:50} {accepted:>10} {refused:>10}");
+        }
+        print("16 by the rule of the path index, by the published row", self.turned.iter());
         print("views by kind", self.kinds.iter());
         println!("queries: found, nothing");
         for (name, [found, nothing]) in &self.queries {

@@ -7,6 +7,7 @@ pub mod model;
 
 use crate::images::MARK;
 use crate::library::{Library, PathList, Targets, Writer, write_words};
+use crate::path_index;
 use crate::published::Mistake;
 use crate::random::Random;
 use crate::rows::{resolver_row, writer_row};
@@ -209,7 +210,7 @@ fn path_of(list: &PathList, entry: Entry) -> Option<(bool, Vec<Step>)> {
 fn written(ink: u32, draft: &Draft, ours: Option<&dyn Writer>, tally: &mut Tally) {
     let theirs = reference::write(ink, draft);
     let (what, image) = match &theirs {
-        Written::Image(image) if reference::load(image).is_ok() => ("resolved, then written", &image[..]),
+        Written::Image(image) if path_index::row(image) == 0 => ("resolved, then written", &image[..]),
         Written::Refused(message) if writer_row(message) == Some(22) => ("resolved, then 22", &[][..]),
         _ => ("", &[][..]),
     };

@@ -3,6 +3,7 @@
 use crate::drafts::{Case, Known};
 use crate::images::{self, MARK};
 use crate::library::{Library, Writer, write_words};
+use crate::path_index;
 use crate::random::Random;
 use crate::rows::{breaks_draft, writer_row};
 use crate::tally::Tally;
@@ -11,7 +12,7 @@ use reference::{Draft, Written};
 pub fn draft(case: &Case, ours: Option<&dyn Library>, random: &mut Random, tally: &mut Tally) {
     *tally.drafts.entry(case.name).or_default() += 1;
     let theirs = reference::write(case.ink, &case.draft);
-    let loads = matches!(&theirs, Written::Image(image) if reference::load(image).is_ok());
+    let loads = matches!(&theirs, Written::Image(image) if path_index::row(image) == 0);
     let did = match &theirs {
         Written::Image(_) if loads => "written",
         Written::Image(_) => "written, refused by its own loader",
@@ -28,7 +29,8 @@ pub fn draft(case: &Case, ours: Option<&dyn Library>, random: &mut Random, tally
     let Some((writer, all)) = ours.and_then(|ours| ours.writer().map(|writer| (writer, ours.answers_all()))) else {
         return;
     };
-    let numbered = loads || matches!(theirs, Written::Refused(_));
+    // the published writer has no 21, and may refuse such a draft for what its paths then are
+    let numbered = loads || matches!(theirs, Written::Refused(_)) && case.known != Known::Number(21);
     if !all && (broken || !numbered) {
         return;
     }

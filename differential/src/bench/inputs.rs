@@ -1,6 +1,7 @@
 //! What is measured: images, and drafts that become images.
 
 use crate::parts::{NONE, Parts, word_at};
+use crate::path_index;
 use crate::random::Random;
 use crate::stories::{Shape, Story};
 use crate::texts::{self, Laying};
@@ -59,8 +60,17 @@ pub const ALL: [fn(&mut Random) -> Input; 19] = [
 ];
 
 pub fn mixed(nodes: usize, random: &mut Random) -> Parts {
-    let laying = Laying::Shared;
-    let shape = Shape { nodes, containers: 3, depth: 3, plain: true, laying, shuffled: true, loose: false };
+    let shape = Shape {
+        nodes,
+        containers: 3,
+        depth: 3,
+        plain: true,
+        laying: Laying::Shared,
+        shuffled: true,
+        loose: false,
+        dotted: false,
+        placeless: false,
+    };
     with_definitions(Story::random(shape, random).parts(random))
 }
 
@@ -117,13 +127,13 @@ fn overlaid(name: &'static str, parts: Parts) -> Input {
 /// An image that no writer gives; only loaded.
 fn loaded(name: &'static str, parts: Parts) -> Input {
     let image = parts.bytes();
-    view(&image);
+    assert_eq!(path_index::row(&image), 0, "{name}");
     Input { name, image, draft: None, asked: false, walks: vec![], look_ups: vec![] }
 }
 
 fn image_of(name: &str, draft: &Draft) -> Vec<u8> {
     match reference::write(21, draft) {
-        Written::Image(image) => image,
+        Written::Image(image) if path_index::row(&image) == 0 => image,
         _ => panic!("{name}: a sound draft"),
     }
 }

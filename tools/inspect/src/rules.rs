@@ -19,7 +19,7 @@ mod tree;
 pub use place::{Broken, Part, Place};
 
 /// All rules by number and name, in the order in which they are tested first.
-pub const RULES: [(u32, &str); 40] = [
+pub const RULES: [(u32, &str); 41] = [
     (1, "whole header"),
     (1, "magic"),
     (2, "format version"),
@@ -53,6 +53,7 @@ pub const RULES: [(u32, &str); 40] = [
     (14, "named child's parent"),
     (15, "reached"),
     (16, "order of the index"),
+    (16, "name or place"),
     (16, "fit of a path"),
     (17, "order of definitions"),
     (11, "items' start"),

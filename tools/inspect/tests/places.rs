@@ -26,7 +26,7 @@ fn with_word(image: &[u8], at: usize, word: u32) -> Vec<u8> {
 }
 
 /// Rules that compare two words; the place is at one of them, and the fault may be the other.
-const OF_TWO: [&str; 11] = [
+const OF_TWO: [&str; 12] = [
     "child's parent and place",
     "named child's parent",
     "container",
@@ -35,6 +35,7 @@ const OF_TWO: [&str; 11] = [
     "items left over",
     "items' start",
     "left over",
+    "name or place",
     "order of items",
     "order of named entries",
     "order of the index",

@@ -4,7 +4,7 @@ use super::Rule;
 use super::place::quoted;
 use super::records::container;
 use super::sections::Section::*;
-use super::sections::{Image, PARENT, PLACE, Word};
+use super::sections::{Image, NONE, PARENT, PLACE, Word};
 
 pub fn rules(image: &Image<'_>) -> Rule {
     let mut last = None;
@@ -33,59 +33,37 @@ fn order(image: &Image<'_>, at: Word<'_>, text: &str, last: Option<&str>) -> Rul
     }
 }
 
+/// The text is the target's path. Nothing fits where a container on the way has neither name nor place.
 fn fit(image: &Image<'_>, at: Word<'_>, text: &str, target: usize) -> Rule {
-    let pieces = pieces(image, target);
-    if fits(&pieces, text) {
+    let way = way(image, target);
+    if let Some(node) = way.iter().find(|node| piece(image, **node).is_none()) {
+        let which = if *node == target { "the target" } else { "on the way to the target" };
+        let because = format!("{}; node {node}, {which}, has neither a name nor a place", quoted(text));
+        return Err(image.broken(16, "name or place", at, because));
+    }
+    let pieces: Vec<String> = way.iter().rev().filter_map(|node| piece(image, *node)).collect();
+    let path = pieces.join(".");
+    if text == path {
         return Ok(());
     }
-    let because = format!("{}; the path of node {target} is {}", quoted(text), quoted(&shown_path(&pieces)));
+    let because = format!("{}; the path of node {target} is {}", quoted(text), quoted(&path));
     Err(image.broken(16, "fit of a path", at, because))
 }
 
-/// A container's piece of a path: its non-empty name, else its place.
-#[derive(Clone, Copy)]
-enum Piece<'a> {
-    Name(&'a str),
-    Place(u32),
-}
-
-/// The pieces of a container's path, the last one first. The tree passed, so parents lead to the root.
-fn pieces<'a>(image: &Image<'a>, target: usize) -> Vec<Piece<'a>> {
-    let (mut node, mut pieces) = (target, vec![]);
+/// The containers from a node up to the root, which is left out. The tree passed, so parents lead there.
+fn way(image: &Image<'_>, target: usize) -> Vec<usize> {
+    let (mut node, mut way) = (target, vec![]);
     while node != 0 {
-        let name = image.text(image.field(node, 0), image.field(node, 1));
-        pieces.push(match name {
-            Ok(name) if !name.is_empty() => Piece::Name(name),
-            _ => Piece::Place(image.word(Nodes, node, PLACE)),
-        });
+        way.push(node);
         node = image.word(Nodes, node, PARENT) as usize;
     }
-    pieces
+    way
 }
 
-/// The text is the path, or a dot before it where the topmost piece is a place.
-fn fits(pieces: &[Piece<'_>], text: &str) -> bool {
-    let mut rest = text;
-    for (k, piece) in pieces.iter().enumerate() {
-        let before = match piece {
-            Piece::Name(name) => rest.strip_suffix(name),
-            Piece::Place(place) => rest.strip_suffix(place.to_string().as_str()),
-        };
-        let dotted = |before: &'_ str| -> Option<usize> {
-            if k + 1 == pieces.len() { Some(before.len()) } else { before.strip_suffix('.').map(str::len) }
-        };
-        match before.and_then(dotted) {
-            Some(length) => rest = &rest[..length],
-            None => return false,
-        }
+/// A container's piece of a path: its non-empty name, else its place.
+fn piece(image: &Image<'_>, container: usize) -> Option<String> {
+    match image.text(image.field(container, 0), image.field(container, 1)) {
+        Ok(name) if !name.is_empty() => Some(name.to_owned()),
+        _ => Some(image.word(Nodes, container, PLACE)).filter(|place| *place != NONE).map(|place| place.to_string()),
     }
-    rest.is_empty() || rest == "." && matches!(pieces.last(), Some(Piece::Place(_)))
-}
-
-fn shown_path(pieces: &[Piece<'_>]) -> String {
-    let texts = pieces.iter().rev().map(|piece| match piece {
-        Piece::Name(name) => (*name).to_owned(),
-        Piece::Place(place) => place.to_string(),
-    });
-    texts.collect::<Vec<_>>().join(".")
 }
