@@ -230,10 +230,11 @@ fn followed_entry(
         return j;
     }
     let node = path_node(nodes, entry.value, version);
-    if node.parent == 0 {
+    let parent = node.parent;
+    if parent == 0 {
         return j;
     }
-    let k = parent_entry(index, work, node.parent, j);
+    let k = parent_entry(index, work, parent, j);
     if j <= k {
         return j;
     }

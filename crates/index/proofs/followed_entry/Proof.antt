@@ -46,21 +46,20 @@ extends-requires c κs = search needs
 returns-6 : tie.Need-returns-6
 returns-6 c =
     let x = c .before in
-    let low = x .before .before .if5 .left in
-    let at = x .before .before .before .before .before .before .before .before .before .before .before .before .before .before .before .before .before .before .args in
     let known = x .before .before .before .parent-entry in
-    let read = x .before .before .before .before .before .before .path-node in
-    let has = x .before .before .before .before .before .before .before .before .has-piece in
-    let there = x .before .before .before .before .before .before .before .before .before .before .is-container in
-    let entry = x .before .before .before .before .before .before .before .before .before .before .before .before .before .text-entry in
-    let pre = x .before .before .before .before .before .before .before .before .before .before .before .before .before .before .before .before .before .before .pre in (
+    let read = x .before .before .before .before .before in
+    let has = read .before .before in
+    let there = has .before .before in
+    let entry = there .before .before .before in
+    let start = entry .before .before .before .before .before in
+    let at = start .args in (
       omega arith,
       λ h.
-          followed-by (at .version) (at .nodes .now) (at .index .now) (at .strings .now) (at .j) (pre .1) (known .result) (entry .result) (x .before .text-entry2 .result) (read .result) (entry .ensures)
-          (x .before .before .before .before .before .before .before .before .before .before .before .if1 .left)
-          (sym (there .ensures) ∙ not-false (there .result) (x .before .before .before .before .before .before .before .before .before .if2 .left))
-          (sym (has .ensures) ∙ not-false (has .result) (x .before .before .before .before .before .before .before .if3 .left))
-          (read .ensures) (x .before .before .before .before .if4 .left) h (known .ensures .1 h) (x .before .text-entry2 .ensures) (x .extends .ensures (c .if6 .taken)),
+          followed-by (at .version) (at .nodes .now) (at .index .now) (at .strings .now) (at .j) (start .pre .1) (known .result) (entry .text-entry .result) (x .before .text-entry2 .result)
+          (read .path-node .result) (entry .text-entry .ensures) (there .before .if1 .left)
+          (sym (there .is-container .ensures) ∙ not-false (there .is-container .result) (has .before .if2 .left))
+          (sym (has .has-piece .ensures) ∙ not-false (has .has-piece .result) (read .before .if3 .left))
+          (read .path-node .ensures) (x .before .before .before .before .if4 .left) h (known .ensures .1 h) (x .before .text-entry2 .ensures) (x .extends .ensures (c .if6 .taken)),
     )
 
 returns-7 : tie.Need-returns-7
