@@ -1,14 +1,13 @@
 -- An entry that goes on after that of its target's parent: its text, its fit and its order by those of the parent.
 use Prim.Native.Nat.{ℕ, zero, suc, _+_, _≤_, _<_}
 use mathlib.Core.Path.{_≡_, refl, sym, ap, _∙_, subst}
-use mathlib.Core.Logic.{_⊎_, inl, inr}
 use mathlib.Core.List.{List, [], _∷_, _++_, append-nil}
 use mathlib.Core.Bool.{Bool, true, false, cond, _&&_, not}
 use native.Mathlib.Omega.{arith}
 use lib.Dec.{leb, ltb, eqb}
 use lib.ListN.{length, getD, take, drop, take-append-drop, length-take}
 use borrow.Author.Tests.{ne-eqb, ltb-true}
-use Rattle.laws.specs.Refusal.{firstOf, unless, _▸_}
+use Rattle.laws.specs.Refusal.{unless, _▸_}
 use Rattle.laws.proofs.First.{first-all}
 use Rattle.laws.proofs.Flags.{both-true}
 use Rattle.laws.proofs.Members.{and-true}

@@ -1,7 +1,7 @@
 -- The index where nothing is refused: what each entry is, that its texts are sorted and differ, and that sections alike in what it reads are refused alike.
 use Prim.Native.Nat.{ℕ, zero, suc, _/_, _<_}
 use mathlib.Core.Path.{_≡_, refl, sym, ap, _∙_}
-use mathlib.Core.List.{List, _∷_}
+use mathlib.Core.List.{List}
 use mathlib.Core.Bool.{true}
 use lib.ListN.{length}
 use Rattle.laws.specs.Refusal.{firstOf, unless, _▸_}

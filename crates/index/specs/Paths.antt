@@ -1,7 +1,7 @@
 -- The canonical path of a container, and the text that fits it.
 use Prim.Native.Nat.{ℕ, zero, suc, _+_}
 use mathlib.Core.List.{List, [], _∷_, _++_}
-use mathlib.Core.Bool.{Bool, true, false, cond, _&&_, _||_, not}
+use mathlib.Core.Bool.{Bool, true, cond, _&&_, _||_, not}
 use lib.Dec.{eqb}
 use Rattle.words.specs.Words.{isNone}
 use Rattle.texts.specs.Text.{same, texts}

@@ -23,7 +23,7 @@ use Rattle.promises.proofs.Lookups.{accepted-lookups}
 use Rattle.written.proofs.Bytes.{image-bytes}
 use Rattle.written.proofs.DraftRules.{encodes-exactly}
 use Rattle.written.proofs.Loads.{written-loads, same-paths}
-use Rattle.written.proofs.Sound.{written-sound, written-index-once, written-one-spelling}
+use Rattle.written.proofs.Sound.{written-sound, written-one-spelling}
 use Rattle.written_views.proofs.Written.{written-views}
 use Rattle.writer.specs.declared.Encoded.{Encoded}
 use Rattle.writer.specs.declared.Encoded.the-variants.{Written, Short, Refused}
@@ -148,7 +148,6 @@ encoded-keeps ink s work n out z w e =
           sound = written-sound ink s work (length out) z w p;
           reads = accepted-reads image needed (viewOf image) bytes view;
           lookups = accepted-lookups image needed (viewOf image) bytes view;
-          once = written-index-once ink s work (length out) z w p;
           spelling = written-one-spelling ink s work (length out) z w p;
           views = written-views ink s work (length out) z w p;
           paths = same-paths ink s work (length out) z w p;

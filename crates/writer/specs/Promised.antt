@@ -14,7 +14,7 @@ use Rattle.load.specs.Load.{loadRule, loadWords}
 use Rattle.draft.specs.Numbering.{numbering, oldOf}
 use Rattle.draft_image.specs.Encode.{imageFor, encodeRule, outAfter}
 use Rattle.promises.specs.Answers.{given}
-use Rattle.promises.specs.Promises.{Sound, NamedOnce, OneSpelling}
+use Rattle.promises.specs.Promises.{Sound, OneSpelling}
 use Rattle.promises.specs.Rules.{Iff}
 use Rattle.promises.specs.Readers.{ImageReads}
 use Rattle.promises.specs.Lookups.{Lookups}
@@ -32,8 +32,7 @@ pub record Promised (s : Sections) (image : List ℕ) : Type 0 where
   pub sound : Sound (sectionsOf image)
   pub reads : ImageReads (sectionsOf image)
   pub lookups : Lookups (sectionsOf image)
-  -- its index names each container exactly once, by one spelling
-  pub once : (i : ℕ) → i < nodeCount (sectionsOf image) → isContainer (sectionsOf image) i ≡ true → NamedOnce (sectionsOf image) i
+  -- one spelling in its index
   pub spelling : OneSpelling (sectionsOf image)
   -- a reader sees in it what the author wrote, and its canonical paths are the draft's
   pub views : SameViews s (sectionsOf image) (numbering s)

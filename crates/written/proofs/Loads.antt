@@ -21,17 +21,17 @@ use Rattle.draft.specs.Numbering.{numbering}
 use Rattle.draft_image.specs.Strings.{storedTexts}
 use Rattle.draft_image.specs.Written.{written}
 use Rattle.draft_image.specs.Encode.{imageFor, encodeRule}
-use Rattle.written.specs.Written.{DraftWords, WrittenLoads, WrittenAccepted, HeaderPasses, RoundTrip, SamePaths, IndexPaths}
+use Rattle.written.specs.Written.{DraftWords, WrittenLoads, WrittenAccepted, HeaderPasses, RoundTrip, SamePaths}
 use Rattle.draft_image.proofs.Lengths.{image-length}
 use Rattle.written.proofs.Header.{WholeSections, round-trip, header-passes, checksum-passes}
 use Rattle.written.proofs.Draft.{taken, numbered, ink-taken, image-fits}
 use Rattle.written.proofs.Texts.{stored}
-use Rattle.draft_image.proofs.Blocks.{w, index-count}
+use Rattle.draft_image.proofs.Blocks.{w}
 use Rattle.written.proofs.Fields.{Given, roomy, counted}
 use Rattle.written.proofs.Rules.{root-kept, node-kept, used-up}
 use Rattle.written.proofs.Tree.{tree-kept}
 use Rattle.written.proofs.Paths.{path-same}
-use Rattle.written.proofs.Index.{index-path, index-passes, containers-kept}
+use Rattle.written.proofs.Index.{index-passes, containers-kept}
 use Rattle.written.proofs.Definitions.{definitions-pass}
 use Rattle.written.proofs.Words.{whole}
 
@@ -121,7 +121,3 @@ sections-back ink s work room two words p = back ink s work room two words p ∙
 pub same-paths : SamePaths
 same-paths ink s work room two words p j h c =
     ap (λ (v : Sections). canonicalPath v j) (back ink s work room two words p) ∙ path-same (given ink s work room two words p) j h c
-
-pub index-paths : IndexPaths
-index-paths ink s work room two words p =
-    rw (back ink s work room two words p) (λ k h. index-path (given ink s work room two words p) k (omega (arith, index-count s (numbering s) (storedTexts s (numbering s)))))

@@ -6,7 +6,7 @@ use Rattle.load.specs.Load.{loadWords}
 use Rattle.draft_image.specs.Encode.{imageFor}
 use Rattle.promises.proofs.Sound.{accepted-sound}
 use Rattle.promises.proofs.OneSpelling.{accepted-one-spelling}
-use Rattle.written.specs.Written.{WrittenSound, WrittenIndexOnce, WrittenOneSpelling}
+use Rattle.written.specs.Written.{WrittenSound, WrittenOneSpelling}
 use Rattle.written.proofs.Loads.{written-loads}
 use Rattle.written.proofs.Bytes.{image-bytes}
 
@@ -15,9 +15,6 @@ written-sound ink s work room two words p =
     let needed = loadWords (sectionsOf (imageFor ink s)) in
     let enough : loadWords (sectionsOf (imageFor ink s)) ≤ loadWords (sectionsOf (imageFor ink s)) = omega arith in
     accepted-sound (imageFor ink s) needed (image-bytes ink s words) (written-loads ink s work room two words p needed enough)
-
-pub written-index-once : WrittenIndexOnce
-written-index-once ink s work room two words p = written-sound ink s work room two words p .index
 
 pub written-one-spelling : WrittenOneSpelling
 written-one-spelling ink s work room two words p =

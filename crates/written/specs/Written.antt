@@ -3,15 +3,14 @@ use Prim.Native.Nat.{ℕ, _^_, _≤_, _<_}
 use mathlib.Core.Path.{_≡_}
 use mathlib.Core.Bool.{true}
 use Rattle.laws.specs.Lists.{Below}
-use Rattle.image.specs.Sections.{Sections, nodeCount, indexCount, indexWord, isContainer}
+use Rattle.image.specs.Sections.{Sections, nodeCount, isContainer}
 use Rattle.image.specs.Header.{version, headerRule, sectionsOf}
 use Rattle.index.specs.Paths.{canonicalPath}
-use Rattle.index.specs.Index.{indexText}
 use Rattle.load.specs.Load.{loadRule, loadWords, Accepted}
 use Rattle.draft.specs.Numbering.{numbering, oldOf}
 use Rattle.draft_image.specs.Written.{written}
 use Rattle.draft_image.specs.Encode.{imageFor, encodeRule}
-use Rattle.promises.specs.Promises.{Sound, NamedOnce, OneSpelling}
+use Rattle.promises.specs.Promises.{Sound, OneSpelling}
 
 -- the words of a draft are words, its bytes are bytes: what slices of u32 and u8 hold
 pub record DraftWords (s : Sections) : Type 0 where
@@ -58,24 +57,12 @@ SamePaths =
     Written (λ ink s. (j : ℕ) → j < nodeCount s → isContainer s (oldOf (numbering s) j) ≡ true
     → canonicalPath (sectionsOf (imageFor ink s)) j ≡ canonicalPath s (oldOf (numbering s) j))
 
--- each index text is its target's canonical path
-abbrev pub IndexPaths : Type 0
-IndexPaths =
-    Written (λ ink s. (k : ℕ) → k < indexCount (sectionsOf (imageFor ink s))
-    → indexText (sectionsOf (imageFor ink s)) k ≡ canonicalPath (sectionsOf (imageFor ink s)) (indexWord (sectionsOf (imageFor ink s)) k 2))
-
 -- ---- nothing sticks
 
 -- demand 3, all of it, holds of the image
 abbrev pub WrittenSound : Type 0
 WrittenSound = Written (λ ink s. Sound (sectionsOf (imageFor ink s)))
 
--- its index names each container exactly once
-abbrev pub WrittenIndexOnce : Type 0
-WrittenIndexOnce =
-    Written (λ ink s. (i : ℕ) → i < nodeCount (sectionsOf (imageFor ink s)) → isContainer (sectionsOf (imageFor ink s)) i ≡ true
-    → NamedOnce (sectionsOf (imageFor ink s)) i)
-
--- by one spelling, and no two containers have one path
+-- one spelling in its index: each text is its target's path, and no two containers have one path
 abbrev pub WrittenOneSpelling : Type 0
 WrittenOneSpelling = Written (λ ink s. OneSpelling (sectionsOf (imageFor ink s)))

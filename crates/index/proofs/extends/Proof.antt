@@ -1,17 +1,13 @@
 -- `index::extends` meets its contract.
 use Prim.Native.Nat.{ℕ, _+_}
-use mathlib.Core.Path.{_≡_, sym, ap, _∙_}
+use mathlib.Core.Path.{sym, _∙_}
 use mathlib.Core.List.{List}
 use mathlib.Core.Bool.{true≢false}
 use native.Mathlib.Omega.{arith}
-use lib.ListN.{length, drop}
 use lib.Seq.{length-take-le}
 use borrow.Author.Tests.{not-false}
 use Rattle.laws.proofs.Lists.{to-end}
-use Rattle.texts.specs.Text.{same}
 use Rattle.texts.proofs.Text.{same-equal}
-use Rattle.image.specs.Sections.{goodBytes}
-use Rattle.index.specs.Paths.{pieceOf}
 use Rattle.index.proofs.Follow.{Seen, extends-by, front-shared}
 use denote.Ref.{now}
 use borrow.Author.Needs.{needs}

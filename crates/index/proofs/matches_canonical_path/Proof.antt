@@ -3,9 +3,8 @@ use Prim.Native.Nat.{ℕ, suc, _-_, _/_, _≤_, _<_}
 use native.Mathlib.Omega.{arith}
 use mathlib.Core.Path.{_≡_, refl, sym, ap, _∙_}
 use mathlib.Core.List.{List, []}
-use mathlib.Core.Bool.{Bool}
 use lib.ListN.{length, take}
-use lib.Seq.{take-length, length-take-le}
+use lib.Seq.{take-length}
 use borrow.Author.Tests.{not-true, not-false}
 use Rattle.image.specs.Sections.{Sections}
 use Rattle.index.specs.Paths.{hasPiece, fits}
