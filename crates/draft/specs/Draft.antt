@@ -11,7 +11,7 @@ use Rattle.image.specs.Sections.{Sections, nodeWords, textEntryWords, definitio
 use Rattle.image.specs.Refusals.{badDraft, draftUnreached, draftShape, draftPaths}
 use Rattle.records.specs.Records.{fieldsRule, parentRule, rootRight, usedUp, records}
 use Rattle.tree.specs.Tree.{entriesRule, readWalk, allSeen, Walked, trees}
-use Rattle.index.specs.Paths.{canonicalPath, hasPiece, paths}
+use Rattle.index.specs.Paths.{canonicalPath, nameOrPlace, paths}
 use Rattle.index.specs.Definitions.{goodDefinition, goodItem, itemsRight, numberOfItems, itemsUsedUp, definitionText, itemTextOf, definitions}
 use Rattle.draft.specs.Needs.{draftCounts, wordsFor}
 
@@ -77,7 +77,7 @@ shapeRule s = unless (rootRight s) draftShape ▸ firstOf (nodeCount s) (relatio
 
 -- a container, the root excepted, has a name or a place
 unfoldable pub placed : Sections → ℕ → Bool
-placed s i = not (isContainer s i) || eqb i 0 || hasPiece s i
+placed s i = not (isContainer s i) || eqb i 0 || nameOrPlace s i
 
 -- no container before i has i's path
 unfoldable pub newPath : Sections → ℕ → Bool

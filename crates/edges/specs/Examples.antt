@@ -99,11 +99,17 @@ withoutPlace nameAt nameLength count nodes children index strings =
 abbrev pub aloneWithoutPlace : ℕ → ℕ → List ℕ → Sections
 aloneWithoutPlace nameAt nameLength text = withoutPlace nameAt nameLength 0 [] [] (1 ∷ length text ∷ 1 ∷ []) text
 
--- with a nameless container of place 0 in it, node 2; both filed under the beginning of the text
+-- with a nameless container of place 0 in it, node 2
+abbrev pub withBelow : ℕ → ℕ → List ℕ → List ℕ → Sections
+withBelow nameAt nameLength index text = withoutPlace nameAt nameLength 1 (1 ∷ 0 ∷ 1 ∷ NONE ∷ NONE ∷ 0 ∷ 1 ∷ 0 ∷ 1 ∷ 0 ∷ []) (2 ∷ []) index text
+
+-- both filed under the beginning of the text
 abbrev pub belowWithoutPlace : ℕ → ℕ → ℕ → List ℕ → Sections
-belowWithoutPlace nameAt nameLength len text =
-    withoutPlace nameAt nameLength 1 (1 ∷ 0 ∷ 1 ∷ NONE ∷ NONE ∷ 0 ∷ 1 ∷ 0 ∷ 1 ∷ 0 ∷ []) (2 ∷ [])
-    (1 ∷ len ∷ 1 ∷ 1 ∷ length text ∷ 2 ∷ []) text
+belowWithoutPlace nameAt nameLength len text = withBelow nameAt nameLength (1 ∷ len ∷ 1 ∷ 1 ∷ length text ∷ 2 ∷ []) text
+
+-- node 2 filed under the text, and then no node under a
+abbrev pub belowFiledFirst : ℕ → ℕ → List ℕ → Sections
+belowFiledFirst nameAt nameLength text = withBelow nameAt nameLength (1 ∷ length text ∷ 2 ∷ 0 ∷ 1 ∷ NONE ∷ []) text
 
 -- a root, and definitions and items by their words
 abbrev pub listSections : List ℕ → List ℕ → List ℕ → Sections

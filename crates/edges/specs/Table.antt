@@ -25,7 +25,7 @@ use Rattle.views.specs.declared.OptionalWord.the-variants as word
 use Rattle.views.specs.declared.NodeKindView.the-variants as kind
 use Rattle.views.specs.declared.NodeAnswer.{NodeAnswer}
 use Rattle.views.specs.declared.NodeAnswer.the-variants as node
-use Rattle.edges.specs.Examples.{smallestImage, headerAlone, containerWords, plainSections, rootNamed, rootDraft, withChild, withDivert, withPlace3, withA, withTwoPlaces, aloneWithoutPlace, belowWithoutPlace, withLists, twoReds, itemsOutside, examples}
+use Rattle.edges.specs.Examples.{smallestImage, headerAlone, containerWords, plainSections, rootNamed, rootDraft, withChild, withDivert, withPlace3, withA, withTwoPlaces, aloneWithoutPlace, belowWithoutPlace, belowFiledFirst, withLists, twoReds, itemsOutside, examples}
 
 -- the view of a root: no parent, no place, flags 0, and the name
 abbrev rootView : OptionalText → NodeAnswer
@@ -152,6 +152,8 @@ pub record NoPlaceLines : Type 0 where
   pub below-named-image : loadRule (imageOf 21 (belowWithoutPlace 0 1 1 (ascii "a.0"))) 6 ≡ 0
   pub below : fits (belowWithoutPlace NONE NONE 10 (ascii "4294967295.0")) 2 (ascii "4294967295.0") ≡ false
   pub below-image : loadRule (imageOf 21 (belowWithoutPlace NONE NONE 10 (ascii "4294967295.0"))) 6 ≡ 16
+  -- the way is asked: what is behind the entry would be 9
+  pub below-first : loadRule (imageOf 21 (belowFiledFirst NONE NONE (ascii "4294967295.0"))) 6 ≡ 16
 
 no-place-lines : NoPlaceLines
 unfolding examples encodes encodings walks lookups views loads
@@ -169,6 +171,7 @@ no-place-lines =
       below-named-image = refl;
       below = refl;
       below-image = refl;
+      below-first = refl;
     }
 
 -- an item in two definitions; a relative walk of no components

@@ -9,7 +9,7 @@ use Rattle.laws.proofs.First.{both, passed, first-all, first-of}
 use Rattle.words.specs.Words.{wordsOf}
 use Rattle.texts.specs.Text.{before, rising}
 use Rattle.image.specs.Sections.{Sections, textEntryWords, nodeWord, parentOf, indexWord, indexCount, nodeCount, goodText, insideContainer}
-use Rattle.index.specs.Paths.{nameless, piece, pathFrom, canonicalPath, hasPiece, hasPathFrom, hasPath, fits}
+use Rattle.index.specs.Paths.{piece, pathFrom, canonicalPath, nameOrPlace, nameOrPlaceFrom, fits}
 use Rattle.index.specs.Index.{indexText, indexEntryRule, indexRule}
 use Rattle.index.specs.Parts.{indexParts, pathNodeOf}
 use Rattle.index.proofs.Paths.{fits-one}
@@ -63,10 +63,6 @@ module _ (s : Sections) (p : indexRule s ≡ 0) where
   pub index-path : (j : ℕ) → j < indexCount s → indexText s j ≡ canonicalPath s (indexWord s j 2)
   index-path j h = fits-one s (indexWord s j 2) (indexText s j) (index-passed s p j h .fit) .1
 
-  -- which has all its pieces
-  pub index-has : (j : ℕ) → j < indexCount s → hasPath s (indexWord s j 2) ≡ true
-  index-has j h = fits-one s (indexWord s j 2) (indexText s j) (index-passed s p j h .fit) .0
-
   -- so two entries of one target are one
   pub index-target : (j k : ℕ) → j < indexCount s → k < indexCount s → indexWord s j 2 ≡ indexWord s k 2 → j ≡ k
   index-target j k h g e = index-once j k h g (index-path j h ∙ ap (canonicalPath s) e ∙ sym (index-path k g))
@@ -84,9 +80,8 @@ module _ (s r : Sections) (versioned : s .version ≡ r .version) (nodes : s .no
   pub container-like : (i : ℕ) → insideContainer s i ≡ insideContainer r i
   container-like i = rw (count-like, word-like i 2)
 
-  pub has-piece-like : (i : ℕ) → hasPiece s i ≡ hasPiece r i
-  unfolding nameless
-  has-piece-like i = rw (word-like i 1, word-like i 3, word-like i 4)
+  pub name-or-place-like : (i : ℕ) → nameOrPlace s i ≡ nameOrPlace r i
+  name-or-place-like i = rw (word-like i 1, word-like i 3, word-like i 4)
 
   pub path-node-like : (i : ℕ) → pathNodeOf s i ≡ pathNodeOf r i
   path-node-like i = rw (word-like i 0, word-like i 1, word-like i 3, word-like i 4)
@@ -104,14 +99,14 @@ module _ (s r : Sections) (versioned : s .version ≡ r .version) (nodes : s .no
   path-like zero i = refl
   path-like (suc n) i = rw (at-word i 0, path-like n (parentOf r i), piece-like i)
 
-  pub has-like : (n i : ℕ) → hasPathFrom n s i ≡ hasPathFrom n r i
-  unfolding hasPathFrom
-  has-like zero i = refl
-  has-like (suc n) i = rw (at-word i 0, has-like n (parentOf r i), has-piece-like s r versioned nodes i)
+  pub way-like : (n i : ℕ) → nameOrPlaceFrom n s i ≡ nameOrPlaceFrom n r i
+  unfolding nameOrPlaceFrom
+  way-like zero i = refl
+  way-like (suc n) i = rw (at-word i 0, way-like n (parentOf r i), name-or-place-like s r versioned nodes i)
 
   pub fits-like : (i : ℕ) (t : List ℕ) → fits s i t ≡ fits r i t
   unfolding fits
-  fits-like i t = rw (count-like s r versioned nodes, has-like (nodeCount r) i, path-like (nodeCount r) i)
+  fits-like i t = rw (count-like s r versioned nodes, way-like (nodeCount r) i, path-like (nodeCount r) i)
 
   module _ (index : s .index ≡ r .index) where
     entry-word-like : (j k : ℕ) → indexWord s j k ≡ indexWord r j k

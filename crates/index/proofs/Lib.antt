@@ -3,4 +3,4 @@ pub mod Paths
 pub mod Index
 pub mod Definitions
 pub mod Readers
-pub mod Follow
+pub mod Extended

@@ -16,7 +16,7 @@ use Rattle.texts.proofs.Text.{same-equal, equal-same, same-unlike}
 use Rattle.image.specs.Sections.{Sections, nodeCount, parentOf}
 use Rattle.tree.specs.Reach.{climb, Climbs}
 use Rattle.index.specs.declared.PathNode.{PathNode}
-use Rattle.index.specs.Paths.{pieceOf, piece, joinedByDot, pathFrom, canonicalPath, hasPiece, hasPathFrom, hasPath, fits}
+use Rattle.index.specs.Paths.{pieceOf, piece, joinedByDot, pathFrom, canonicalPath, nameOrPlace, nameOrPlaceFrom, nameOrPlaceOnWay, fits}
 use Rattle.index.specs.Parts.{pathNodeOf}
 use Rattle.index.proofs.Suffix.{cut, fitsPath, fits-front, fits-other, fits-short}
 
@@ -31,9 +31,9 @@ module _ (s : Sections) (n i : ℕ) (away : i ≡ 0 → ⊥) where
   unfolding pathFrom
   path-step = rw (ne-eqb i 0 away)
 
-  pub has-step : hasPathFrom (suc n) s i ≡ (hasPiece s i && hasPathFrom n s (parentOf s i))
-  unfolding hasPathFrom
-  has-step = rw (ne-eqb i 0 away)
+  pub way-step : nameOrPlaceFrom (suc n) s i ≡ (nameOrPlace s i && nameOrPlaceFrom n s (parentOf s i))
+  unfolding nameOrPlaceFrom
+  way-step = rw (ne-eqb i 0 away)
 
   pub path-top : parentOf s i ≡ 0 → pathFrom (suc n) s i ≡ piece s i
   path-top p = path-step ∙ rw p
@@ -44,30 +44,30 @@ module _ (s : Sections) (n i : ℕ) (away : i ≡ 0 → ⊥) where
 -- ---- a text against a path, up to the bound
 
 abbrev pub fitsFrom : ℕ → Sections → ℕ → List ℕ → Bool
-fitsFrom n s i t = fitsPath (hasPathFrom n s i) t (pathFrom n s i)
+fitsFrom n s i t = fitsPath (nameOrPlaceFrom n s i) t (pathFrom n s i)
 
 pub whole-fits : (s : Sections) (i : ℕ) (t : List ℕ) → fits s i t ≡ fitsFrom (nodeCount s) s i t
 unfolding fits
 whole-fits s i t = refl
 
 pub fits-bound : (s : Sections) (i : ℕ) (t : List ℕ) → fitsFrom 0 s i t ≡ same t []
-unfolding pathFrom hasPathFrom
+unfolding pathFrom nameOrPlaceFrom
 fits-bound s i t = refl
 
 pub fits-root : (s : Sections) (n i : ℕ) (t : List ℕ) → i ≡ 0 → fitsFrom n s i t ≡ same t []
-unfolding pathFrom hasPathFrom
+unfolding pathFrom nameOrPlaceFrom
 fits-root s zero i t e = refl
 fits-root s (suc n) i t e = rw (eq-eqb i 0 e)
 
 -- the root has nothing on its way
-pub has-root : (s : Sections) (n : ℕ) → hasPathFrom n s 0 ≡ true
-unfolding hasPathFrom
-has-root s zero = refl
-has-root s (suc n) = refl
+pub way-root : (s : Sections) (n : ℕ) → nameOrPlaceFrom n s 0 ≡ true
+unfolding nameOrPlaceFrom
+way-root s zero = refl
+way-root s (suc n) = refl
 
 -- nothing fits a nameless node of place NONE
-pub step-lost : (s : Sections) (n i : ℕ) (t : List ℕ) → (i ≡ 0 → ⊥) → hasPiece s i ≡ false → fitsFrom (suc n) s i t ≡ false
-step-lost s n i t away h = rw (has-step s n i away, h)
+pub step-lost : (s : Sections) (n i : ℕ) (t : List ℕ) → (i ≡ 0 → ⊥) → nameOrPlace s i ≡ false → fitsFrom (suc n) s i t ≡ false
+step-lost s n i t away h = rw (way-step s n i away, h)
 
 -- the piece of a node by the words that were read of it
 abbrev pub pieceBy : Sections → PathNode → List ℕ
@@ -78,7 +78,7 @@ pub record PathReached (s : Sections) (t : List ℕ) (n at end : ℕ) (node : Pa
   pub away : at ≡ 0 → ⊥
   pub read : node ≡ pathNodeOf s at
   pub inside : end ≤ length t
-  pub has : hasPiece s at ≡ true
+  pub has : nameOrPlace s at ≡ true
 
 -- its piece is what stands before `end`, from a start on
 pub record Matched (s : Sections) (t : List ℕ) (end start : ℕ) (node : PathNode) : Type 0 where
@@ -95,8 +95,8 @@ module _ {s : Sections} {t : List ℕ} {n at end : ℕ} {node : PathNode} (here 
   parent-read = rw (here .read)
 
   -- it has a piece, so what is left to ask is the way above it
-  way : hasPathFrom (suc n) s at ≡ hasPathFrom n s (parentOf s at)
-  way = has-step s n at (here .away) ∙ ap (λ (b : Bool). b && hasPathFrom n s (parentOf s at)) (here .has)
+  way : nameOrPlaceFrom (suc n) s at ≡ nameOrPlaceFrom n s (parentOf s at)
+  way = way-step s n at (here .away) ∙ ap (λ (b : Bool). b && nameOrPlaceFrom n s (parentOf s at)) (here .has)
 
   -- the path ends with the piece
   path-ends : (lead : List ℕ) × (pathFrom (suc n) s at ≡ lead ++ pieceBy s node)
@@ -113,7 +113,7 @@ module _ {s : Sections} {t : List ℕ} {n at end : ℕ} {node : PathNode} (here 
   pub step-short : end < length (pieceBy s node) → fitsFrom (suc n) s at (take end t) ≡ false
   step-short h =
       rw (path-ends .1)
-      (fits-short (hasPathFrom (suc n) s at) (take end t) (path-ends .0) (pieceBy s node) (rw (length-take-le end t (here .inside)) h))
+      (fits-short (nameOrPlaceFrom (suc n) s at) (take end t) (path-ends .0) (pieceBy s node) (rw (length-take-le end t (here .inside)) h))
 
   -- it ends otherwise
   pub step-other : (start : ℕ) → start ≤ end → end - start ≡ length (pieceBy s node) → same (take (end - start) (drop start t)) (pieceBy s node) ≡ false
@@ -123,7 +123,7 @@ module _ {s : Sections} {t : List ℕ} {n at end : ℕ} {node : PathNode} (here 
       let inside = here .inside in
       let l : length part ≡ end - start = length-take-le (end - start) (drop start t) (simp length-drop (omega arith)) in
       rw (path-ends .1, cut t start end size)
-      (fits-other (hasPathFrom (suc n) s at) (take start t) part (path-ends .0) (pieceBy s node) (l ∙ long) (same-unlike part (pieceBy s node) u))
+      (fits-other (nameOrPlaceFrom (suc n) s at) (take start t) part (path-ends .0) (pieceBy s node) (l ∙ long) (same-unlike part (pieceBy s node) u))
 
   module _ {start : ℕ} (found : Matched s t end start node) where
     whole : take end t ≡ take start t ++ piece s at
@@ -135,7 +135,7 @@ module _ {s : Sections} {t : List ℕ} {n at end : ℕ} {node : PathNode} (here 
     pub step-top : node .parent ≡ 0 → fitsFrom (suc n) s at (take end t) ≡ same (take start t) []
     step-top p =
         let q : parentOf s at ≡ 0 = sym parent-read ∙ p in
-        rw (whole, path-top s n at (here .away) q, way, q, has-root s n)
+        rw (whole, path-top s n at (here .away) q, way, q, way-root s n)
         (fits-front true (take start t) [] (piece s at))
 
     module _ (below : node .parent ≡ 0 → ⊥) where
@@ -143,20 +143,20 @@ module _ {s : Sections} {t : List ℕ} {n at end : ℕ} {node : PathNode} (here 
       lower q = below (parent-read ∙ q)
 
       -- a dot is due before the piece
-      due : fitsFrom (suc n) s at (take end t) ≡ fitsPath (hasPathFrom n s (parentOf s at)) (take start t) (pathFrom n s (parentOf s at) ++ (dot ∷ []))
+      due : fitsFrom (suc n) s at (take end t) ≡ fitsPath (nameOrPlaceFrom n s (parentOf s at)) (take start t) (pathFrom n s (parentOf s at) ++ (dot ∷ []))
       due =
           rw (whole, path-below s n at (here .away) lower, way)
-          (fits-front (hasPathFrom n s (parentOf s at)) (take start t) (pathFrom n s (parentOf s at) ++ (dot ∷ [])) (piece s at))
+          (fits-front (nameOrPlaceFrom n s (parentOf s at)) (take start t) (pathFrom n s (parentOf s at) ++ (dot ∷ [])) (piece s at))
 
       -- what stands before the piece is given
       due-of : (l : List ℕ) → take start t ≡ l
-          → fitsFrom (suc n) s at (take end t) ≡ fitsPath (hasPathFrom n s (parentOf s at)) l (pathFrom n s (parentOf s at) ++ (dot ∷ []))
-      due-of l e = due ∙ ap (λ (k : List ℕ). fitsPath (hasPathFrom n s (parentOf s at)) k (pathFrom n s (parentOf s at) ++ (dot ∷ []))) e
+          → fitsFrom (suc n) s at (take end t) ≡ fitsPath (nameOrPlaceFrom n s (parentOf s at)) l (pathFrom n s (parentOf s at) ++ (dot ∷ []))
+      due-of l e = due ∙ ap (λ (k : List ℕ). fitsPath (nameOrPlaceFrom n s (parentOf s at)) k (pathFrom n s (parentOf s at) ++ (dot ∷ []))) e
 
       pub step-none : start ≡ 0 → fitsFrom (suc n) s at (take end t) ≡ false
       step-none e =
           due-of [] (ap (λ (m : ℕ). take m t) e)
-          ∙ fits-short (hasPathFrom n s (parentOf s at)) [] (pathFrom n s (parentOf s at)) (dot ∷ []) (omega arith)
+          ∙ fits-short (nameOrPlaceFrom n s (parentOf s at)) [] (pathFrom n s (parentOf s at)) (dot ∷ []) (omega arith)
 
       module _ (e : ℕ) (q : start ≡ e + 1) where
         byte : take start t ≡ take e t ++ (getD t e 0 ∷ [])
@@ -168,13 +168,13 @@ module _ {s : Sections} {t : List ℕ} {n at end : ℕ} {node : PathNode} (here 
         pub step-no-dot : (getD t e 0 ≡ dot → ⊥) → fitsFrom (suc n) s at (take end t) ≡ false
         step-no-dot d =
             due-of (take e t ++ (getD t e 0 ∷ [])) byte
-            ∙ fits-other (hasPathFrom n s (parentOf s at)) (take e t) (getD t e 0 ∷ []) (pathFrom n s (parentOf s at)) (dot ∷ []) refl
+            ∙ fits-other (nameOrPlaceFrom n s (parentOf s at)) (take e t) (getD t e 0 ∷ []) (pathFrom n s (parentOf s at)) (dot ∷ []) refl
             (λ r. d (ap (λ (l : List ℕ). getD l 0 0) r))
 
         pub step-dot : getD t e 0 ≡ dot → fitsFrom (suc n) s at (take end t) ≡ fitsFrom n s (node .parent) (take e t)
         step-dot d =
             due-of (take e t ++ (dot ∷ [])) (byte ∙ ap (λ (b : ℕ). take e t ++ (b ∷ [])) d)
-            ∙ fits-front (hasPathFrom n s (parentOf s at)) (take e t) (pathFrom n s (parentOf s at)) (dot ∷ [])
+            ∙ fits-front (nameOrPlaceFrom n s (parentOf s at)) (take e t) (pathFrom n s (parentOf s at)) (dot ∷ [])
             ∙ ap (λ (p : ℕ). fitsFrom n s p (take e t)) (sym parent-read)
 
 -- ---- a bound that is large enough makes no difference
@@ -188,14 +188,14 @@ path-enough s (suc k) zero m i e h g = absurd (omega arith)
 path-enough s (suc k) (suc n) zero i e h g = absurd (omega arith)
 path-enough s (suc k) (suc n) (suc m) i e h g = rw (path-enough s k n m (parentOf s i) e (omega arith) (omega arith))
 
-pub has-enough : (s : Sections) (k n m i : ℕ) → climb s k i ≡ 0 → k < n → k < m → hasPathFrom n s i ≡ hasPathFrom m s i
-unfolding climb hasPathFrom
-has-enough s zero zero m i e h g = absurd (omega arith)
-has-enough s zero (suc n) zero i e h g = absurd (omega arith)
-has-enough s zero (suc n) (suc m) i e h g = rw (eq-eqb i 0 e)
-has-enough s (suc k) zero m i e h g = absurd (omega arith)
-has-enough s (suc k) (suc n) zero i e h g = absurd (omega arith)
-has-enough s (suc k) (suc n) (suc m) i e h g = rw (has-enough s k n m (parentOf s i) e (omega arith) (omega arith))
+pub way-enough : (s : Sections) (k n m i : ℕ) → climb s k i ≡ 0 → k < n → k < m → nameOrPlaceFrom n s i ≡ nameOrPlaceFrom m s i
+unfolding climb nameOrPlaceFrom
+way-enough s zero zero m i e h g = absurd (omega arith)
+way-enough s zero (suc n) zero i e h g = absurd (omega arith)
+way-enough s zero (suc n) (suc m) i e h g = rw (eq-eqb i 0 e)
+way-enough s (suc k) zero m i e h g = absurd (omega arith)
+way-enough s (suc k) (suc n) zero i e h g = absurd (omega arith)
+way-enough s (suc k) (suc n) (suc m) i e h g = rw (way-enough s k n m (parentOf s i) e (omega arith) (omega arith))
 
 -- the root has the empty path
 pub path-root : (s : Sections) (n : ℕ) → pathFrom n s 0 ≡ []
@@ -230,19 +230,19 @@ module _ (s : Sections) (i : ℕ) (away : i ≡ 0 → ⊥) (climbs : Climbs s (n
       ∙ ap (λ (l : List ℕ). joinedByDot (parentOf s i) l (piece s i)) (path-enough s (a .steps) (a .bound) (nodeCount s) (parentOf s i) (a .arrives) (a .few) (omega arith))
 
   -- and whether it has all its pieces
-  pub has-child : hasPath s i ≡ (hasPiece s i && hasPath s (parentOf s i))
-  has-child =
+  pub way-child : nameOrPlaceOnWay s i ≡ (nameOrPlace s i && nameOrPlaceOnWay s (parentOf s i))
+  way-child =
       let a = above in
-      ap (λ (n : ℕ). hasPathFrom n s i) (a .whole)
-      ∙ has-step s (a .bound) i away
-      ∙ ap (λ (b : Bool). hasPiece s i && b) (has-enough s (a .steps) (a .bound) (nodeCount s) (parentOf s i) (a .arrives) (a .few) (omega arith))
+      ap (λ (n : ℕ). nameOrPlaceFrom n s i) (a .whole)
+      ∙ way-step s (a .bound) i away
+      ∙ ap (λ (b : Bool). nameOrPlace s i && b) (way-enough s (a .steps) (a .bound) (nodeCount s) (parentOf s i) (a .arrives) (a .few) (omega arith))
 
 -- ---- the text that fits a node
 
-pub fits-one : (s : Sections) (i : ℕ) (t : List ℕ) → fits s i t ≡ true → (hasPath s i ≡ true) × (t ≡ canonicalPath s i)
+pub fits-one : (s : Sections) (i : ℕ) (t : List ℕ) → fits s i t ≡ true → (nameOrPlaceOnWay s i ≡ true) × (t ≡ canonicalPath s i)
 unfolding fits
-fits-one s i t p = let r = both-true (hasPath s i) (same t (canonicalPath s i)) p in (r .0, same-equal t (canonicalPath s i) (r .1))
+fits-one s i t p = let r = both-true (nameOrPlaceOnWay s i) (same t (canonicalPath s i)) p in (r .0, same-equal t (canonicalPath s i) (r .1))
 
-pub path-fits : (s : Sections) (i : ℕ) (t : List ℕ) → hasPath s i ≡ true → t ≡ canonicalPath s i → fits s i t ≡ true
+pub path-fits : (s : Sections) (i : ℕ) (t : List ℕ) → nameOrPlaceOnWay s i ≡ true → t ≡ canonicalPath s i → fits s i t ≡ true
 unfolding fits
 path-fits s i t h e = rw h (equal-same t (canonicalPath s i) e)

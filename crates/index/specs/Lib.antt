@@ -2,4 +2,4 @@ pub mod Paths
 pub mod Index
 pub mod Definitions
 pub mod Parts
-pub mod Follow
+pub mod Extended

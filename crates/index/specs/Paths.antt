@@ -39,29 +39,29 @@ pathFrom (suc n) s i =
 abbrev pub canonicalPath : Sections → ℕ → List ℕ
 canonicalPath s i = pathFrom (nodeCount s) s i
 
--- a container has a non-empty name, or a place that is not NONE: it is not a nameless container of place NONE
-abbrev pub hasPieceBy : ℕ → ℕ → ℕ → Bool
-hasPieceBy place at len = not (noName at len) || not (isNone place)
+-- a container has a non-empty name or a place that is not NONE: it is not a nameless container of place NONE
+abbrev pub nameOrPlaceBy : ℕ → ℕ → ℕ → Bool
+nameOrPlaceBy place at len = not (noName at len) || not (isNone place)
 
-abbrev pub hasPiece : Sections → ℕ → Bool
-hasPiece s i = not (nameless s i) || not (isNone (placeOf s i))
+abbrev pub nameOrPlace : Sections → ℕ → Bool
+nameOrPlace s i = nameOrPlaceBy (placeOf s i) (f s i 0) (f s i 1)
 
--- node i and all on the way from it up to the root have one, the root excepted; the first argument bounds the steps
-unfoldable pub hasPathFrom : ℕ → Sections → ℕ → Bool
-hasPathFrom zero s i = true
-hasPathFrom (suc n) s i =
-    let above = hasPathFrom n s (parentOf s i) in
-    cond (eqb i 0) true (hasPiece s i && above)
+-- so have node i and all on the way from it up to the root, the root excepted; the first argument bounds the steps
+unfoldable pub nameOrPlaceFrom : ℕ → Sections → ℕ → Bool
+nameOrPlaceFrom zero s i = true
+nameOrPlaceFrom (suc n) s i =
+    let above = nameOrPlaceFrom n s (parentOf s i) in
+    cond (eqb i 0) true (nameOrPlace s i && above)
 
 -- no nameless container of place NONE, the root excepted, is node i or on the way to it
-abbrev pub hasPath : Sections → ℕ → Bool
-hasPath s i = hasPathFrom (nodeCount s) s i
+abbrev pub nameOrPlaceOnWay : Sections → ℕ → Bool
+nameOrPlaceOnWay s i = nameOrPlaceFrom (nodeCount s) s i
 
 -- an index text fits its target: it is the canonical path, and nothing fits where a nameless container of place NONE is the target or on the way
 unfoldable pub fits : Sections → ℕ → List ℕ → Bool
-fits s i t = hasPath s i && same t (canonicalPath s i)
+fits s i t = nameOrPlaceOnWay s i && same t (canonicalPath s i)
 
 -- names on an `unfolding` line what a computation with this module needs
 unfoldable pub paths : Unit {0}
-unfolding nameless pieceOf piece pathFrom hasPathFrom fits sections texts decimals
+unfolding nameless pieceOf piece pathFrom nameOrPlaceFrom fits sections texts decimals
 paths = tt

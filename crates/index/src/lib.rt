@@ -9,11 +9,12 @@ ghost use Rattle.texts.specs.Text.{same};
 ghost use Rattle.words.specs.Words.{wordsOf};
 ghost use Rattle.image.specs.Sections.{textEntrySize, definitionSize, nodeCount};
 ghost use Rattle.image.specs.Entries.{textEntryOf};
-ghost use Rattle.index.specs.Paths.{noName, pieceOf, hasPiece, fits};
+ghost use Rattle.tree.specs.Reach.{AllClimb};
+ghost use Rattle.index.specs.Paths.{noName, pieceOf, nameOrPlace, fits};
 ghost use Rattle.index.specs.Index.{indexEntryRule, indexRule};
 ghost use Rattle.index.specs.Definitions.{itemsBefore, itemRuleFrom, definitionRule, definitionsRule};
 ghost use Rattle.index.specs.Parts.{indexParts, definitionParts, pathNodeOf};
-ghost use Rattle.index.specs.Follow.{AllClimb, Tested, Extends, Followed};
+ghost use Rattle.index.specs.Extended.{Tested, Extends, Extended};
 use image::ImageView;
 use image::NodeRecord;
 use image::TextEntry;
@@ -78,8 +79,8 @@ fn is_piece(strings: &[u8], node: PathNode, text: &[u8]) -> bool
 }
 
 // Whether node `at` has a name or a place: it is not a nameless one of place NONE.
-fn has_piece(nodes: &[u8], at: u32, version: u32) -> bool
-    ensures { λ r. ⌜ r ≡ hasPiece (indexParts version (now (nodes .entry)) [] []) at ⌝ }
+fn has_name_or_place(nodes: &[u8], at: u32, version: u32) -> bool
+    ensures { λ r. ⌜ r ≡ nameOrPlace (indexParts version (now (nodes .entry)) [] []) at ⌝ }
 {
     let node = path_node(nodes, at, version);
     if node.place != image::NONE {
@@ -101,7 +102,7 @@ fn matches_canonical_path(nodes: &[u8], strings: &[u8], id: u32, text: &[u8], ve
             return end == 0;
         }
         steps -= 1;
-        if !has_piece(nodes, at, version) {
+        if !has_name_or_place(nodes, at, version) {
             return false;
         }
         let node = path_node(nodes, at, version);
@@ -156,7 +157,8 @@ fn index_entry_rule(nodes: &[u8], index: &[u8], strings: &[u8], j: usize, versio
     }
 }
 
-// An entry before `j` whose target is `parent`, if the parent's work word tells one, else `j`. The words may hold anything.
+// An entry before `j` whose target is `parent`: the one whose number the parent's work word holds, if that is such an entry, else `j`. The words
+// may hold anything, and `j` may always be answered.
 fn parent_entry(index: &[u8], work: &[u32], parent: u32, j: usize) -> usize
     requires { ⌜ textEntrySize * j ≤ length (now index) ⌝ }
     ensures { λ r. ⌜ (r ≤ j) × (r < j → textEntryOf (wordsOf (now (index .entry))) r .value ≡ parent) ⌝ }
@@ -173,7 +175,8 @@ fn parent_entry(index: &[u8], work: &[u32], parent: u32, j: usize) -> usize
     if above.value == parent { k } else { j }
 }
 
-// Whether the text of an entry is that of the entry `above`, a dot and the piece of a node, and good if that one is.
+// Whether the text of an entry is that of the entry `above`, a dot and the piece of a node, and good if that one is. False may always be
+// answered.
 fn extends(strings: &[u8], above: TextEntry, entry: TextEntry, node: PathNode) -> bool
     ensures { λ r. ⌜ (r ≡ true → Extends (now (strings .entry)) above entry node) ⌝ }
 {
@@ -206,8 +209,9 @@ fn extends(strings: &[u8], above: TextEntry, entry: TextEntry, node: PathNode) -
     )
 }
 
-// An entry before `j` that tells that entry `j` has a good text and fits: that of the parent of its target. `j` where none does.
-fn followed_entry(
+// The entry of the parent of entry `j`'s target, where it comes before `j` and shows that entry `j`'s text is good and fits, else `j`. `j` may always
+// be answered: the plain test decides then.
+fn extended_entry(
     nodes: &[u8],
     index: &[u8],
     strings: &[u8],
@@ -217,7 +221,7 @@ fn followed_entry(
 ) -> usize
     requires { ⌜ textEntrySize * j + textEntrySize ≤ length (now index) ⌝ }
     requires { ⌜ Tested (indexParts version (now nodes) (now index) (now strings)) j ⌝ }
-    ensures { λ r. ⌜ (r ≤ j) × (r < j → Followed (indexParts version (now (nodes .entry)) (now (index .entry)) (now (strings .entry))) j r) ⌝ }
+    ensures { λ r. ⌜ (r ≤ j) × (r < j → Extended (indexParts version (now (nodes .entry)) (now (index .entry)) (now (strings .entry))) j r) ⌝ }
 {
     let entry = image::text_entry(index, j);
     if entry.value == 0 {
@@ -226,7 +230,7 @@ fn followed_entry(
     if !tree::is_container(nodes, entry.value, version) {
         return j;
     }
-    if !has_piece(nodes, entry.value, version) {
+    if !has_name_or_place(nodes, entry.value, version) {
         return j;
     }
     let node = path_node(nodes, entry.value, version);
@@ -245,7 +249,8 @@ fn followed_entry(
     }
 }
 
-// The same refusal where no entry before `j` has one. A text is compared with that of its target's parent if the work words tell it.
+// The refusal of index entry `j`, or 0, where no entry before it is refused. Its text is compared with that of its target's parent, if the work
+// words hold the number of the parent's entry.
 fn next_entry_rule(
     nodes: &[u8],
     index: &[u8],
@@ -258,7 +263,7 @@ fn next_entry_rule(
     requires { ⌜ Tested (indexParts version (now nodes) (now index) (now strings)) j ⌝ }
     ensures { λ r. ⌜ r ≡ indexEntryRule (indexParts version (now (nodes .entry)) (now (index .entry)) (now (strings .entry))) j ⌝ }
 {
-    let k = followed_entry(nodes, index, strings, work, j, version);
+    let k = extended_entry(nodes, index, strings, work, j, version);
     if j <= k {
         return index_entry_rule(nodes, index, strings, j, version);
     }
@@ -272,7 +277,7 @@ fn next_entry_rule(
     }
 }
 
-// The first refusal of an entry of the index, or 0. The work word of each node that an entry names gets the entry's number.
+// The first refusal of an entry of the index, or 0. The work words of the nodes serve to find a parent's entry; what they hold afterwards is open.
 pub fn index_rule(nodes: &[u8], index: &[u8], strings: &[u8], work: &mut [u32], version: u32) -> u32
     requires { ⌜ AllClimb (indexParts version (now nodes) [] []) ⌝ }
     requires { ⌜ nodeCount (indexParts version (now nodes) [] []) ≤ length (now work) ⌝ }

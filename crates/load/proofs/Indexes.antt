@@ -14,13 +14,13 @@ use Rattle.image.specs.Sections.{Sections, nodeSize, textEntrySize, definitionS
 use Rattle.image.specs.Header.{sectionBytes, sectionsBy}
 use Rattle.image.proofs.Views.{version-by, nodes-by, index-by, definitions-by, items-by, strings-by}
 use Rattle.tree.specs.Tree.{treeRule}
+use Rattle.tree.specs.Reach.{AllClimb}
 use Rattle.tree.proofs.ParentSteps.{tree-climbs}
 use Rattle.index.specs.Index.{indexRule}
 use Rattle.index.specs.Definitions.{definitionsRule}
 use Rattle.index.specs.Parts.{indexParts, definitionParts}
-use Rattle.index.specs.Follow.{AllClimb}
 use Rattle.index.proofs.Index.{index-parts, count-like}
-use Rattle.index.proofs.Follow.{climbs-like}
+use Rattle.index.proofs.Extended.{climbs-like}
 use Rattle.index.proofs.Definitions.{definitions-parts}
 use Rattle.load.specs.Load.{recordsRule, loadWords}
 use Rattle.load.proofs.Rows.{recorded, root-some}

@@ -1,4 +1,4 @@
--- The way from a node up to the root: no nameless container of place NONE is on it, the root excepted, exactly if the node has a path.
+-- The way from a node up to the root in plain words: no nameless container of place NONE, the root excepted, is on it.
 use Prim.Native.Nat.{ℕ, zero, suc, _≤_, _<_}
 use mathlib.Core.Path.{_≡_, refl, sym, _∙_, subst}
 use mathlib.Core.Logic.{_≢_}
@@ -10,20 +10,22 @@ use Rattle.laws.proofs.Flags.{both-true}
 use Rattle.words.specs.Words.{NONE}
 use Rattle.image.specs.Sections.{Sections, nodeCount, parentOf, placeOf}
 use Rattle.tree.specs.Reach.{climb, Climbs}
-use Rattle.index.specs.Paths.{nameless, hasPiece, hasPathFrom, hasPath}
-use Rattle.index.proofs.Paths.{has-step}
+use Rattle.index.specs.Paths.{nameless, nameOrPlace, nameOrPlaceFrom, nameOrPlaceOnWay}
+use Rattle.index.proofs.Paths.{way-step}
 use Rattle.promises.specs.Rules.{OnWay, NameOrPlace}
 
 module _ (s : Sections) where
   -- ---- one node
 
-  pub piece-right : (i : ℕ) → hasPiece s i ≡ true → NameOrPlace s i
-  piece-right i h e q = true≢false (sym h ∙ rw (e, eq-eqb (placeOf s i) NONE q))
+  pub name-right : (i : ℕ) → nameOrPlace s i ≡ true → NameOrPlace s i
+  unfolding nameless
+  name-right i h e q = true≢false (sym h ∙ rw (e, eq-eqb (placeOf s i) NONE q))
 
-  pub right-piece : (i : ℕ) → NameOrPlace s i → hasPiece s i ≡ true
-  right-piece i h = by (nameless s i) refl
+  pub right-name : (i : ℕ) → NameOrPlace s i → nameOrPlace s i ≡ true
+  unfolding nameless
+  right-name i h = by (nameless s i) refl
     where
-      by : (b : Bool) → nameless s i ≡ b → hasPiece s i ≡ true
+      by : (b : Bool) → nameless s i ≡ b → nameOrPlace s i ≡ true
       by true e = rw (e, ne-eqb (placeOf s i) NONE (h e))
       by false e = rw e
 
@@ -47,31 +49,31 @@ module _ (s : Sections) where
       each zero h = away
       each (suc m) h = o .below-root m (omega arith)
 
-  way-has : (n i : ℕ) → ((x : ℕ) → OnWay s i x → NameOrPlace s x) → hasPathFrom n s i ≡ true
-  unfolding hasPathFrom
-  way-has zero i w = refl
-  way-has (suc n) i w =
+  right-from : (n i : ℕ) → ((x : ℕ) → OnWay s i x → NameOrPlace s x) → nameOrPlaceFrom n s i ≡ true
+  unfolding nameOrPlaceFrom
+  right-from zero i w = refl
+  right-from (suc n) i w =
       elim (ℕ-discrete i 0) [
         | yes e ↦ rw (eq-eqb i 0 e)
-        | no d ↦ rw (ne-eqb i 0 d, right-piece i (w i (here i d)), way-has n (parentOf s i) (λ x o. w x (above i x d o)))
+        | no d ↦ rw (ne-eqb i 0 d, right-name i (w i (here i d)), right-from n (parentOf s i) (λ x o. w x (above i x d o)))
       ]
 
   -- a node on the way, within the bound
-  has-way : (k n i : ℕ) → k < n → hasPathFrom n s i ≡ true → ((m : ℕ) → m ≤ k → climb s m i ≢ 0) → NameOrPlace s (climb s k i)
+  from-right : (k n i : ℕ) → k < n → nameOrPlaceFrom n s i ≡ true → ((m : ℕ) → m ≤ k → climb s m i ≢ 0) → NameOrPlace s (climb s k i)
   unfolding climb
-  has-way k zero i l h b = absurd (omega arith)
-  has-way zero (suc n) i l h b = piece-right i (both-true (hasPiece s i) _ (sym (has-step s n i (b 0 (omega arith))) ∙ h) .0)
-  has-way (suc k) (suc n) i l h b =
-      has-way k n (parentOf s i) (omega arith) (both-true (hasPiece s i) _ (sym (has-step s n i (b 0 (omega arith))) ∙ h) .1) (λ m q. b (suc m) (omega arith))
+  from-right k zero i l h b = absurd (omega arith)
+  from-right zero (suc n) i l h b = name-right i (both-true (nameOrPlace s i) _ (sym (way-step s n i (b 0 (omega arith))) ∙ h) .0)
+  from-right (suc k) (suc n) i l h b =
+      from-right k n (parentOf s i) (omega arith) (both-true (nameOrPlace s i) _ (sym (way-step s n i (b 0 (omega arith))) ∙ h) .1) (λ m q. b (suc m) (omega arith))
 
   -- ---- both ways
 
-  pub right-path : (i : ℕ) → ((x : ℕ) → OnWay s i x → NameOrPlace s x) → hasPath s i ≡ true
-  right-path i w = way-has (nodeCount s) i w
+  pub right-path : (i : ℕ) → ((x : ℕ) → OnWay s i x → NameOrPlace s x) → nameOrPlaceOnWay s i ≡ true
+  right-path i w = right-from (nodeCount s) i w
 
   -- parent steps lead to the root, so that the way is shorter than the bound
-  pub path-right : (i : ℕ) → Climbs s (nodeCount s) i → hasPath s i ≡ true → (x : ℕ) → OnWay s i x → NameOrPlace s x
-  path-right i c h x o = subst (NameOrPlace s) (o .arrives) (has-way (o .steps) (nodeCount s) i short h (o .below-root))
+  pub path-right : (i : ℕ) → Climbs s (nodeCount s) i → nameOrPlaceOnWay s i ≡ true → (x : ℕ) → OnWay s i x → NameOrPlace s x
+  path-right i c h x o = subst (NameOrPlace s) (o .arrives) (from-right (o .steps) (nodeCount s) i short h (o .below-root))
     where
       short : o .steps < nodeCount s
       short =

@@ -94,7 +94,7 @@ pub record OnWay (s : Sections) (i x : ℕ) : Type 0 where
   pub arrives : climb s steps i ≡ x
   pub below-root : (m : ℕ) → m ≤ steps → climb s m i ≢ 0
 
--- not a nameless container of place NONE
+-- not a nameless node of place NONE
 abbrev pub NameOrPlace : Sections → ℕ → Type 0
 NameOrPlace s i = nameless s i ≡ true → placeOf s i ≢ NONE
 

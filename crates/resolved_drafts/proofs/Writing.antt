@@ -20,7 +20,7 @@ use Rattle.image.specs.Refusals.{badInkVersion, tooFewWords, draftPaths, noRoom
 use Rattle.image.specs.Sections.{Sections, nodeCount, parentOf, tagOf, f, isContainer}
 use Rattle.image.specs.Tags.{containerTag}
 use Rattle.records.proofs.PassedRules.{parent}
-use Rattle.index.specs.Paths.{nameless, pieceOf, piece, joinedByDot, pathFrom, canonicalPath, hasPieceBy}
+use Rattle.index.specs.Paths.{nameless, pieceOf, piece, joinedByDot, pathFrom, canonicalPath, nameOrPlaceBy}
 use Rattle.draft.specs.Draft.{tablesRule, writeWords, reachRule, shapeRule, placed, newPath, pathRule, pathsRule}
 use Rattle.draft.specs.PathList.{pathOf, listRight, follows, pathTablesRule}
 use Rattle.draft.proofs.Rules.{shape}
@@ -87,7 +87,7 @@ module _ (s : Sections) (ws : List ℕ) (a : SameTree s ws) (up : (i : ℕ) → 
       by : (b : Bool) → isContainer s i ≡ b → placed r i ≡ placed s i
       by true e =
           let q = eqb-true (tagOf s i) containerTag e in
-          λ t. not (eqb (a .tags i t) containerTag) || eqb i 0 || hasPieceBy (a .places i t) (name-at i q t) (name-len i q t)
+          λ t. not (eqb (a .tags i t) containerTag) || eqb i 0 || nameOrPlaceBy (a .places i t) (name-at i q t) (name-len i q t)
       by false e = rw (e, same-box s ws a i ∙ e)
 
   pub same-paths : pathsRule r ≡ pathsRule s

@@ -8,7 +8,7 @@ use native.Mathlib.Nat.{not-suc-le-zero, le-of-suc-le-suc, le-trans}
 use lib.ListN.{length}
 use Rattle.image.specs.Sections.{Sections, nodeCount, parentOf, isContainer}
 use Rattle.tree.specs.Tree.{childAt, namedAt, entriesRule, entryNodes, turns, loadWalk, treeRule}
-use Rattle.tree.specs.Reach.{climb, Climbs}
+use Rattle.tree.specs.Reach.{climb, Climbs, AllClimb}
 use Rattle.laws.proofs.Members.{All, all-map, all-append, all-reverse, all-has, Distinct, pigeon}
 use Rattle.tree.proofs.Walks.{Turns, walk-turns, walk-marks}
 use Rattle.tree.proofs.Entries.{children-pass, named-pass, child-container, named-container, entry-each, entries-inside}
@@ -78,7 +78,7 @@ module _ (s : Sections) where
       (λ i k e. all-reverse (λ x. x < nodeCount s) (entryNodes s i) (entries-inside s i e)) (turns s) (0 ∷ []) (h, tt) p in
       record { distinct = m .0; inside = all-map (loadWalk s .seen) (λ i k. k .0) (m .1) }
 
-  pub tree-climbs : 0 < nodeCount s → treeRule s ≡ 0 → (i : ℕ) → i < nodeCount s → Climbs s (nodeCount s) i
+  pub tree-climbs : 0 < nodeCount s → treeRule s ≡ 0 → AllClimb s
   unfolding loadWalk
   tree-climbs h p i k =
       let q = walk-passed s p in

@@ -10,7 +10,7 @@ use Rattle.laws.specs.Sorted.{isort}
 use Rattle.words.specs.Words.{NONE}
 use Rattle.texts.specs.Text.{rising, byKey}
 use Rattle.image.specs.Sections.{Sections, nodeWords, nodeCount, f, isContainer, goodOptional}
-use Rattle.tree.specs.Reach.{Climbs}
+use Rattle.tree.specs.Reach.{AllClimb}
 use Rattle.index.specs.Paths.{canonicalPath}
 use Rattle.draft.specs.Draft.{pathsRule}
 use Rattle.draft.specs.Numbering.{oldOf}
@@ -51,7 +51,7 @@ pub record Arranged (key : ℕ → List ℕ) (w₀ : List ℕ) (list found : ℕ
 pub record Rooted (s : Sections) (order : List ℕ) : Type 0 where
   pub whole : length (s .nodes) ≡ nodeCount s * nodeWords (s .version)
   pub numbers : Permutation (nodeCount s) order
-  pub climbs : (x : ℕ) → x < nodeCount s → Climbs s (nodeCount s) x
+  pub climbs : AllClimb s
   pub named : (x : ℕ) → x < nodeCount s → isContainer s x ≡ true → goodOptional s (f s x 0) (f s x 1) ≡ true
 
 -- how many paths there are, if rule 22 passes

@@ -10,13 +10,13 @@ use Rattle.laws.specs.Lists.{placeIn}
 use Rattle.image.specs.declared.NodeRecord.{NodeRecord}
 use Rattle.image.specs.Sections.{Sections, nodeCount, isContainer}
 use Rattle.image.specs.Tags.{containerTag}
-use Rattle.index.specs.Paths.{hasPieceBy}
+use Rattle.index.specs.Paths.{nameOrPlaceBy}
 use Rattle.draft.specs.Source.{wordOf}
 use Rattle.draft.specs.Numbering.{oldOf}
 
 -- node i is the root, no container, or a container that has a name or a place, by its record
 unfoldable pub placedIn : NodeRecord → ℕ → Bool
-placedIn r i = not (eqb (r .tag) containerTag) || eqb i 0 || hasPieceBy (r .place) (r .f0) (r .f1)
+placedIn r i = not (eqb (r .tag) containerTag) || eqb i 0 || nameOrPlaceBy (r .place) (r .f0) (r .f1)
 
 -- the tag of a node, in the nodes' words
 abbrev pub tagAt : ℕ → List ℕ → ℕ → ℕ

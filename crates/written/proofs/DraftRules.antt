@@ -23,7 +23,7 @@ use Rattle.tree.specs.Tree.{childAt, namedAt, entriesRule, allSeen, readWalk}
 use Rattle.tree.specs.Reach.{Reached}
 use Rattle.tree.proofs.Numbers.{read-reached, reached-read}
 use Rattle.tree.proofs.Entries.{children-pass, named-pass, entries-pass}
-use Rattle.index.specs.Paths.{canonicalPath, hasPiece}
+use Rattle.index.specs.Paths.{canonicalPath, nameOrPlace}
 use Rattle.index.specs.Definitions.{goodDefinition, firstItem, numberOfItems, itemsBefore, itemsRight, itemsUsedUp}
 use Rattle.draft.specs.Draft.{wholeEntries, draftNodeRule, draftChildRule, draftNamedRule, draftDefinitionRule, draftItemRule, tablesRule, writeWords, reachRule, relationRule, orderRule, shapeRule, placed, newPath, pathRule, pathsRule}
 use Rattle.draft.proofs.Rules.{Tables, tables, Checked, checked, entries-counts, entries-below, Shape, shape}
@@ -31,7 +31,7 @@ use Rattle.draft.proofs.ReachedNodes.{reached}
 use Rattle.draft_image.specs.Encode.{imageFor, draftRule, encodeRule}
 use Rattle.promises.specs.Rules.{TextRight, NodeRight, FieldRight, ParentRight, ChildRight, NamedRight, Iff}
 use Rattle.promises.proofs.Fields.{text-right, right-text, node-right, right-node, fields-right, right-fields, parent-right, right-parent}
-use Rattle.promises.proofs.Way.{piece-right, right-piece}
+use Rattle.promises.proofs.Way.{name-right, right-name}
 use Rattle.promises.proofs.Acceptance.{right-child, right-named}
 use Rattle.written.specs.DraftRules.{DraftDefinitionRight, TablesRight, ShapeRight, PathsRight, DraftRight, EncodeRight, EncodesExactly, DraftsExactly}
 
@@ -187,7 +187,7 @@ module _ (s : Sections) where
       record {
         placed = λ i h c d.
             let q = both _ _ (first-all _ _ p i h) in
-            piece-right s i (one-of (isContainer s i) (eqb i 0) (hasPiece s i) (passed _ 21 (q .0)) c (ne-eqb i 0 d));
+            name-right s i (one-of (isContainer s i) (eqb i 0) (nameOrPlace s i) (passed _ 21 (q .0)) c (ne-eqb i 0 d));
         differ = λ i j h k a b e.
             let q = both _ _ (first-all _ _ p i h) in
             new-differs i (passed _ 21 (q .1)) j k a b e;
@@ -203,7 +203,7 @@ module _ (s : Sections) where
   right-paths r = first-of (nodeCount s) _ (λ i h. then _ _ (pass _ 22 (is-placed i h)) (pass _ 22 (is-new i h)))
     where
       is-placed : (i : ℕ) → i < nodeCount s → placed s i ≡ true
-      is-placed i h = of-one (isContainer s i) (eqb i 0) (hasPiece s i) (λ c d. right-piece s i (r .placed i h c (eqb-false i 0 d)))
+      is-placed i h = of-one (isContainer s i) (eqb i 0) (nameOrPlace s i) (λ c d. right-name s i (r .placed i h c (eqb-false i 0 d)))
 
       is-new : (i : ℕ) → i < nodeCount s → newPath s i ≡ true
       is-new i h = by (isContainer s i) refl

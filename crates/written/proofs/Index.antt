@@ -20,7 +20,7 @@ use Rattle.texts.specs.Text.{before, same, byKey, rising}
 use Rattle.texts.proofs.Text.{same-turned, same-unlike, unlike-before}
 use Rattle.image.specs.Sections.{Sections, nodeCount, indexCount, indexWord, isContainer}
 use Rattle.records.specs.Records.{containerOf, containersBefore}
-use Rattle.index.specs.Paths.{canonicalPath, hasPath}
+use Rattle.index.specs.Paths.{canonicalPath, nameOrPlaceOnWay}
 use Rattle.index.specs.Index.{indexText, indexEntryRule, indexRule}
 use Rattle.index.proofs.Paths.{path-fits}
 use Rattle.draft.specs.Draft.{newPath}
@@ -34,7 +34,7 @@ use Rattle.written.proofs.Fields.{Given, counted, old-in, new-old, insi
 use Rattle.written.proofs.Rules.{good-at, text-at}
 use Rattle.written.proofs.Tree.{rising-same}
 use Rattle.written.proofs.Paths.{path-good, path-same}
-use Rattle.written.proofs.HasPath.{has-path}
+use Rattle.written.proofs.OnWay.{written-way}
 
 -- ---- sorting
 
@@ -175,7 +175,7 @@ module _ {s : Sections} {order : List ℕ} {kept : List (List ℕ)} (g : Given s
       (pass _ 9 (rw (index-target k h) (and-true _ _ (inside-written g (target k) (b .0)) (container-same g (target k) (b .0) ∙ b .1))))
       (then _ _
       (pass _ 16 (rising-same k (indexText v) (λ m. pathOf s order (target m)) (λ m q. index-text m (omega arith)) (rising-at (pathOf s order) boxes k h boxes-rise)))
-      (pass _ 16 (path-fits v (indexWord v k 2) (indexText v k) (ap (hasPath v) (index-target k h) ∙ has-path g (target k) (b .0) (b .1)) (index-path k h)))))
+      (pass _ 16 (path-fits v (indexWord v k 2) (indexText v k) (ap (nameOrPlaceOnWay v) (index-target k h) ∙ written-way g (target k) (b .0) (b .1)) (index-path k h)))))
 
   pub index-passes : indexRule v ≡ 0
   unfolding indexRule

@@ -7,7 +7,7 @@ pub mod Payload
 pub mod Rules
 pub mod Tree
 pub mod Paths
-pub mod HasPath
+pub mod OnWay
 pub mod Index
 pub mod Definitions
 pub mod Words

@@ -20,7 +20,7 @@ use Rattle.image.proofs.GoodBytes.{good-empty, good-append, good-ascii}
 use Rattle.image.specs.Sections.{Sections, nodeCount, parentOf, placeOf, tagOf, f, textAt, goodText, absent, inside, isContainer, goodBytes}
 use Rattle.records.specs.Fields.{kinds, kindOf, fields}
 use Rattle.records.specs.Records.{fieldRule, firstField}
-use Rattle.index.specs.Paths.{noName, nameless, pieceOf, piece, joinedByDot, pathFrom, canonicalPath, hasPiece}
+use Rattle.index.specs.Paths.{noName, nameless, pieceOf, piece, joinedByDot, pathFrom, canonicalPath, nameOrPlace}
 use Rattle.draft.specs.Numbering.{oldOf}
 use Rattle.draft_image.specs.Strings.{textIf, fieldTexts, offsetOf}
 use Rattle.draft_image.specs.Written.{fieldWords}
@@ -104,9 +104,9 @@ module _ {s : Sections} {order : List ℕ} {kept : List (List ℕ)} (g : Given s
             (text-at g name (f v j 0) (f v j 1) held p q))
 
     -- a name is absent or empty where the draft's is
-    nameless-same : nameless v j ≡ nameless s i
-    unfolding nameless fields fieldWords
-    nameless-same =
+    no-name-same : noName (f v j 0) (f v j 1) ≡ noName (f s i 0) (f s i 1)
+    unfolding fields fieldWords
+    no-name-same =
         let r = container-reads g j h c .0 in
         go (absent (f s i 0) (f s i 1)) refl (r .0) (r .1 .0)
       where
@@ -120,8 +120,8 @@ module _ {s : Sections} {order : List ℕ} {kept : List (List ℕ)} (g : Given s
             rw (ne-eqb (f v j 0) NONE (λ z. omega arith))
             (ap (λ (m : ℕ). eqb m 0) (q ∙ good-length s (f s i 0) (f s i 1) (name-good i (old-in g j h) c e)))
 
-    pub has-piece-same : hasPiece v j ≡ hasPiece s i
-    has-piece-same = rw (nameless-same, place-word g j h)
+    pub name-or-place-same : nameOrPlace v j ≡ nameOrPlace s i
+    name-or-place-same = rw (no-name-same, place-word g j h)
 
   -- ---- paths
 

@@ -63,6 +63,6 @@ SamePaths =
 abbrev pub WrittenSound : Type 0
 WrittenSound = Written (λ ink s. Sound (sectionsOf (imageFor ink s)))
 
--- one spelling in its index: each text is its target's path, and no two containers have one path
+-- one spelling in its index: each text is its target's path, no two containers have one path, each but the root has a name or a place
 abbrev pub WrittenOneSpelling : Type 0
 WrittenOneSpelling = Written (λ ink s. OneSpelling (sectionsOf (imageFor ink s)))

@@ -8,7 +8,7 @@ use lib.Seq.{length-take-le}
 use borrow.Author.Tests.{not-false}
 use Rattle.laws.proofs.Lists.{to-end}
 use Rattle.texts.proofs.Text.{same-equal}
-use Rattle.index.proofs.Follow.{Seen, extends-by, front-shared}
+use Rattle.index.proofs.Extended.{Seen, seen-extends, front-shared}
 use denote.Ref.{now}
 use borrow.Author.Needs.{needs}
 use Rattle.index.proofs.extends.Statement.{statement}
@@ -98,7 +98,7 @@ returns-6 : tie.Need-returns-6
 returns-6 c = λ e. absurd (true≢false (sym e))
 
 returns-7 : tie.Need-returns-7
-returns-7 c = λ e. let x = seen (c .before .before .before) in extends-by x (front-shared x (c .if7 .taken))
+returns-7 c = λ e. let x = seen (c .before .before .before) in seen-extends x (front-shared x (c .if7 .taken))
 
 slice-aggregate-equal : tie.Need-slice-aggregate-equal
 slice-aggregate-equal c =
@@ -113,7 +113,7 @@ equal-requires : tie.Need-equal-requires
 equal-requires c κs = search needs
 
 returns-8 : tie.Need-returns-8
-returns-8 c = λ e. let x = seen (c .before .before .before .before .before .before) in extends-by x (same-equal _ _ (sym (c .equal .ensures) ∙ e) ∙ c .before .text-bytes .ensures)
+returns-8 c = λ e. let x = seen (c .before .before .before .before .before .before) in seen-extends x (same-equal _ _ (sym (c .equal .ensures) ∙ e) ∙ c .before .text-bytes .ensures)
 
 pub extends-spec : {M : Type 1} → statement M
 extends-spec =

@@ -10,7 +10,7 @@ use Rattle.laws.specs.Refusal.{firstOf}
 use Rattle.index.specs.Index.{indexEntryRule}
 use Rattle.index.specs.Parts.{indexParts}
 use Rattle.index.proofs.Readers.{index-run}
-use Rattle.index.proofs.Follow.{climbs-like, target-below}
+use Rattle.index.proofs.Extended.{climbs-like, target-below}
 use Rattle.laws.proofs.Chains.{first-broken, first-done}
 use Rattle.laws.proofs.RuleRuns.{run-starts, run-goes}
 use borrow.Author.Needs.{needs}

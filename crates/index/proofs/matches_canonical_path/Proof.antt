@@ -7,11 +7,11 @@ use lib.ListN.{length, take}
 use lib.Seq.{take-length}
 use borrow.Author.Tests.{not-true, not-false}
 use Rattle.image.specs.Sections.{Sections}
-use Rattle.index.specs.Paths.{hasPiece, fits}
+use Rattle.index.specs.Paths.{nameOrPlace, fits}
 use Rattle.index.specs.Parts.{indexParts}
 use Rattle.index.proofs.Suffix.{empty-part}
 use Rattle.index.proofs.Paths.{fitsFrom, whole-fits, pieceBy, PathReached, Matched, fits-bound, fits-root, step-lost, step-short, step-other, step-top, step-none, step-no-dot, step-dot}
-use Rattle.index.proofs.Index.{has-piece-like, path-node-like}
+use Rattle.index.proofs.Index.{name-or-place-like, path-node-like}
 use borrow.Author.Needs.{needs}
 use Rattle.index.proofs.matches_canonical_path.Statement.{statement}
 use Rattle.index.proofs.matches_canonical_path.Tie as tie
@@ -24,7 +24,7 @@ abbrev μ-loop : tie.MeasureT-loop
 μ-loop nodes strings id text version steps₀ at₀ end₀ steps at end = steps
 
 -- it has been told whether the node reached has a name or a place
-module _ (c : tie.After-has-piece Inv-loop μ-loop) where
+module _ (c : tie.After-has-name-or-place Inv-loop μ-loop) where
   abbrev here : tie.At-loop Inv-loop μ-loop
   here = c .before .before .before
 
@@ -37,15 +37,15 @@ module _ (c : tie.After-has-piece Inv-loop μ-loop) where
   abbrev text : List ℕ
   text = here .before .before .before .before .before .args .text .now
 
-  has : hasPiece whole (here .loop .at) ≡ c .has-piece .result
-  has = sym (c .has-piece .ensures ∙ has-piece-like bare whole refl refl (here .loop .at))
+  has : nameOrPlace whole (here .loop .at) ≡ c .has-name-or-place .result
+  has = sym (c .has-name-or-place .ensures ∙ name-or-place-like bare whole refl refl (here .loop .at))
 
   left : fits whole (here .before .before .before .before .before .args .id) text ≡ fitsFrom (suc (here .loop .steps - 1)) whole (here .loop .at) (take (here .loop .end) text)
   left = here .loop .inv .1 ∙ ap (λ (n : ℕ). fitsFrom n whole (here .loop .at) (take (here .loop .end) text)) (omega arith)
 
 -- it has, and was read
 module _ (c : tie.After-path-node Inv-loop μ-loop) where
-  abbrev told : tie.After-has-piece Inv-loop μ-loop
+  abbrev told : tie.After-has-name-or-place Inv-loop μ-loop
   told = c .before .before
 
   reached : PathReached (whole told) (text told) (here told .loop .steps - 1) (here told .loop .at) (here told .loop .end) (c .path-node .result)
@@ -54,7 +54,7 @@ module _ (c : tie.After-path-node Inv-loop μ-loop) where
         away = told .before .before .loop-test .taken;
         read = c .path-node .ensures ∙ path-node-like (bare told) (whole told) refl refl (here told .loop .at);
         inside = here told .loop .inv .0;
-        has = has told ∙ not-false (told .has-piece .result) (c .before .if2 .left);
+        has = has told ∙ not-false (told .has-name-or-place .result) (c .before .if2 .left);
       }
 
 -- its piece is found
@@ -95,15 +95,15 @@ returns c =
 sub-steps : tie.Need-sub-steps Inv-loop μ-loop
 sub-steps c = search needs
 
-has-piece-requires : tie.Need-has-piece-requires Inv-loop μ-loop
-has-piece-requires c κs = search needs
+has-name-or-place-requires : tie.Need-has-name-or-place-requires Inv-loop μ-loop
+has-name-or-place-requires c κs = search needs
 
 returns-2 : tie.Need-returns-2 Inv-loop μ-loop
 returns-2 c =
     let at = c .before in
     sym (left at
     ∙ step-lost (whole at) (here at .loop .steps - 1) (here at .loop .at) (take (here at .loop .end) (text at)) (at .before .before .loop-test .taken)
-    (has at ∙ not-true (at .has-piece .result) (c .if2 .taken)))
+    (has at ∙ not-true (at .has-name-or-place .result) (c .if2 .taken)))
 
 path-node-requires : tie.Need-path-node-requires Inv-loop μ-loop
 path-node-requires c κs = search needs
@@ -187,7 +187,7 @@ matches-canonical-path-spec =
     loop-holds
     returns
     sub-steps
-    has-piece-requires
+    has-name-or-place-requires
     returns-2
     path-node-requires
     piece-len-requires

@@ -5,13 +5,13 @@ use Rattle.laws.specs.Refusal.{unless}
 use Rattle.words.specs.Words.{wordsOf}
 use Rattle.index.specs.Parts.{indexParts}
 use Rattle.index.proofs.Readers.{index-texts}
-use Rattle.index.proofs.Follow.{followed-rule, followed-next}
+use Rattle.index.proofs.Extended.{extended-rule, extended-next}
 use borrow.Author.Needs.{needs}
 use Rattle.index.proofs.next_entry_rule.Statement.{statement}
 use Rattle.index.proofs.next_entry_rule.Tie as tie
 
-followed-entry-requires : tie.Need-followed-entry-requires
-followed-entry-requires c κs = search needs
+extended-entry-requires : tie.Need-extended-entry-requires
+extended-entry-requires c κs = search needs
 
 index-entry-rule-requires : tie.Need-index-entry-rule-requires
 index-entry-rule-requires c κs = search needs
@@ -23,7 +23,7 @@ add-if2 : tie.Need-add-if2
 add-if2 c = search needs
 
 returns-2 : tie.Need-returns-2
-returns-2 c = sym (followed-next (c .before .before .followed-entry .ensures .1 (omega arith)) (c .if2 .taken))
+returns-2 c = sym (extended-next (c .before .before .extended-entry .ensures .1 (omega arith)) (c .if2 .taken))
 
 entry-rises-requires : tie.Need-entry-rises-requires
 entry-rises-requires c κs = search needs
@@ -33,7 +33,7 @@ unfolding unless
 returns-3 c =
     let at = c .before .before .before .before .before .before .before .before .before .args in
     let s = indexParts (at .version) (at .nodes .now) (at .index .now) (at .strings .now) in
-    sym (followed-rule (c .before .before .before .before .followed-entry .ensures .1 (omega arith))
+    sym (extended-rule (c .before .before .before .before .extended-entry .ensures .1 (omega arith))
     ∙ rw (← index-texts s (wordsOf (at .index .now)) refl (at .j), ← c .before .entry-rises .ensures, c .if3 .taken))
 
 returns-4 : tie.Need-returns-4
@@ -41,14 +41,14 @@ unfolding unless
 returns-4 c =
     let at = c .before .before .before .before .before .before .before .before .before .args in
     let s = indexParts (at .version) (at .nodes .now) (at .index .now) (at .strings .now) in
-    sym (followed-rule (c .before .before .before .before .followed-entry .ensures .1 (omega arith))
+    sym (extended-rule (c .before .before .before .before .extended-entry .ensures .1 (omega arith))
     ∙ rw (← index-texts s (wordsOf (at .index .now)) refl (at .j), ← c .before .entry-rises .ensures, c .if3 .left))
 
 pub next-entry-rule-spec : {M : Type 1} → statement M
 next-entry-rule-spec =
     tie.close
     (tie.spec
-    followed-entry-requires
+    extended-entry-requires
     index-entry-rule-requires
     returns
     add-if2

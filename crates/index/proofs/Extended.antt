@@ -23,14 +23,14 @@ use Rattle.image.specs.Entries.{textEntryOf, indexIn}
 use Rattle.image.proofs.Entries.{index-entry}
 use Rattle.image.proofs.GoodBytes.{good-append, good-ascii}
 use Rattle.tree.specs.Parts.{partsOf}
-use Rattle.tree.specs.Reach.{climb, Climbs}
+use Rattle.tree.specs.Reach.{climb, Climbs, AllClimb}
 use Rattle.index.specs.declared.PathNode.{PathNode}
-use Rattle.index.specs.Paths.{pieceOf, piece, canonicalPath, hasPiece, hasPath, fits}
+use Rattle.index.specs.Paths.{pieceOf, piece, canonicalPath, nameOrPlace, nameOrPlaceOnWay, fits}
 use Rattle.index.specs.Index.{indexText, indexEntryRule}
 use Rattle.index.specs.Parts.{indexParts, pathNodeOf}
-use Rattle.index.specs.Follow.{AllClimb, Tested, Extends, Followed}
-use Rattle.index.proofs.Paths.{joined-below, path-child, has-child, fits-one, path-fits}
-use Rattle.index.proofs.Index.{Entry, entry-passed, word-like, count-like, container-like, has-piece-like, path-node-like}
+use Rattle.index.specs.Extended.{Tested, Extends, Extended}
+use Rattle.index.proofs.Paths.{joined-below, path-child, way-child, fits-one, path-fits}
+use Rattle.index.proofs.Index.{Entry, entry-passed, word-like, count-like, container-like, name-or-place-like, path-node-like}
 
 -- ---- a text that extends another
 
@@ -81,9 +81,9 @@ module _ {strings : List ℕ} {above entry : TextEntry} {node : PathNode} {text 
         (good-append (partAt strings (above .offset) (above .len)) (dot ∷ drop (above .len + 1) text) g
         (good-append (dot ∷ []) (drop (above .len + 1) text) (good-ascii (dot ∷ []) (below-cons 128 dot [] (omega arith) (below-none 128))) (seen .good)))
 
-    pub extends-by : Extends strings above entry node
+    pub seen-extends : Extends strings above entry node
     unfolding goodIn
-    extends-by =
+    seen-extends =
         record {
           good = λ g.
               let a = above .offset in
@@ -113,7 +113,7 @@ module _ (s : Sections) (j : ℕ) (tested : Tested s j) where
   earlier k h = entry-passed s k (first-all j (indexEntryRule s) (tested .passed) k h)
 
   module _ (k : ℕ) (low : k < j) (target : insideContainer s (indexWord s j 2) ≡ true) (away : indexWord s j 2 ≡ 0 → ⊥)
-      (has : hasPiece s (indexWord s j 2) ≡ true) (below : parentOf s (indexWord s j 2) ≡ 0 → ⊥) (parent : indexWord s k 2 ≡ parentOf s (indexWord s j 2))
+      (has : nameOrPlace s (indexWord s j 2) ≡ true) (below : parentOf s (indexWord s j 2) ≡ 0 → ⊥) (parent : indexWord s k 2 ≡ parentOf s (indexWord s j 2))
       (longer : Extends (s .strings) (indexIn s k) (indexIn s j) (pathNodeOf s (indexWord s j 2))) where
     abbrev i : ℕ
     i = indexWord s j 2
@@ -121,9 +121,9 @@ module _ (s : Sections) (j : ℕ) (tested : Tested s j) where
     climbs : Climbs s (nodeCount s) i
     climbs = tested .climbs i (below-count s i target)
 
-    above : (hasPath s (parentOf s i) ≡ true) × (indexText s k ≡ canonicalPath s (parentOf s i))
+    above : (nameOrPlaceOnWay s (parentOf s i) ≡ true) × (indexText s k ≡ canonicalPath s (parentOf s i))
     above = let r = fits-one s (indexWord s k 2) (indexText s k) (earlier k low .fit) in (
-      ap (hasPath s) (sym parent) ∙ r .0,
+      ap (nameOrPlaceOnWay s) (sym parent) ∙ r .0,
       r .1 ∙ ap (canonicalPath s) parent,
     )
 
@@ -131,24 +131,24 @@ module _ (s : Sections) (j : ℕ) (tested : Tested s j) where
     unfolding piece
     piece-of = refl
 
-    followed-text : indexText s j ≡ indexText s k ++ dot ∷ piece s i
-    followed-text = longer .text ∙ ap (λ (l : List ℕ). indexText s k ++ dot ∷ l) piece-of
+    extended-text : indexText s j ≡ indexText s k ++ dot ∷ piece s i
+    extended-text = longer .text ∙ ap (λ (l : List ℕ). indexText s k ++ dot ∷ l) piece-of
 
-    followed-fit : fits s i (indexText s j) ≡ true
-    followed-fit =
-        path-fits s i (indexText s j) (has-child s i away climbs ∙ and-true _ _ has (above .0))
-        (followed-text
+    extended-fit : fits s i (indexText s j) ≡ true
+    extended-fit =
+        path-fits s i (indexText s j) (way-child s i away climbs ∙ and-true _ _ has (above .0))
+        (extended-text
         ∙ ap (λ (l : List ℕ). l ++ dot ∷ piece s i) (above .1)
         ∙ sym (path-child s i away climbs ∙ joined-below (parentOf s i) (canonicalPath s (parentOf s i)) (piece s i) below))
 
-    pub followed : Followed s j k
-    followed =
+    pub extended : Extended s j k
+    extended =
         record {
           text = longer .good (earlier k low .text);
           target = target;
-          fit = followed-fit;
+          fit = extended-fit;
           rest = piece s i;
-          longer = followed-text;
+          longer = extended-text;
         }
 
 -- by what the code has read
@@ -159,20 +159,20 @@ module _ (version : ℕ) (nodes index strings : List ℕ) (j : ℕ) where
   abbrev bare : Sections
   bare = indexParts version nodes [] []
 
-  pub followed-by : Tested whole j → (k : ℕ) (entry above : TextEntry) (node : PathNode) → entry ≡ textEntryOf (wordsOf index) j → (entry .value ≡ 0 → ⊥)
-      → insideContainer (partsOf version nodes [] [] []) (entry .value) ≡ true → hasPiece bare (entry .value) ≡ true → node ≡ pathNodeOf bare (entry .value)
+  pub extended-by : Tested whole j → (k : ℕ) (entry above : TextEntry) (node : PathNode) → entry ≡ textEntryOf (wordsOf index) j → (entry .value ≡ 0 → ⊥)
+      → insideContainer (partsOf version nodes [] [] []) (entry .value) ≡ true → nameOrPlace bare (entry .value) ≡ true → node ≡ pathNodeOf bare (entry .value)
       → (node .parent ≡ 0 → ⊥) → k < j → textEntryOf (wordsOf index) k .value ≡ node .parent → above ≡ textEntryOf (wordsOf index) k → Extends strings above entry node
-      → Followed whole j k
-  followed-by tested k entry above node e away target has n below low parent a longer =
+      → Extended whole j k
+  extended-by tested k entry above node e away target has n below low parent a longer =
       let e′ : entry ≡ indexIn whole j = e ∙ index-entry whole (wordsOf index) j refl in
       let a′ : above ≡ indexIn whole k = a ∙ index-entry whole (wordsOf index) k refl in
       let v : entry .value ≡ indexWord whole j 2 = ap (λ (x : TextEntry). x .value) e′ in
       let n′ : node ≡ pathNodeOf whole (indexWord whole j 2) = n ∙ path-node-like bare whole refl refl (entry .value) ∙ ap (pathNodeOf whole) v in
       let up : node .parent ≡ parentOf whole (indexWord whole j 2) = ap (λ (x : PathNode). x .parent) n′ in
-      followed whole j tested k low
+      extended whole j tested k low
       (ap (insideContainer whole) (sym v) ∙ sym (container-like (partsOf version nodes [] [] []) whole refl refl (entry .value)) ∙ target)
       (λ z. away (v ∙ z))
-      (ap (hasPiece whole) (sym v) ∙ sym (has-piece-like bare whole refl refl (entry .value)) ∙ has)
+      (ap (nameOrPlace whole) (sym v) ∙ sym (name-or-place-like bare whole refl refl (entry .value)) ∙ has)
       (λ z. below (up ∙ z))
       (sym (ap (λ (x : TextEntry). x .value) (index-entry whole (wordsOf index) k refl)) ∙ parent ∙ up)
       (subst (λ (x : TextEntry). Extends strings x (indexIn whole j) (pathNodeOf whole (indexWord whole j 2))) a′
@@ -210,20 +210,20 @@ before-longer : (s t : List ℕ) (b : ℕ) → before s (s ++ b ∷ t) ≡ true
 unfolding orderOf
 before-longer s t b = less-before s (s ++ b ∷ t) (ap (λ (l : List ℕ). orderOf l (s ++ b ∷ t)) (sym (append-nil s)) ∙ order-front s [] (b ∷ t))
 
-module _ {s : Sections} {j k : ℕ} (f : Followed s j k) where
+module _ {s : Sections} {j k : ℕ} (f : Extended s j k) where
   -- by the order
-  pub followed-rule : indexEntryRule s j ≡ unless (rising (indexText s) j) 16
+  pub extended-rule : indexEntryRule s j ≡ unless (rising (indexText s) j) 16
   unfolding indexEntryRule unless _▸_
-  followed-rule = rw (f .text, f .target, f .fit) (by (rising (indexText s) j))
+  extended-rule = rw (f .text, f .target, f .fit) (by (rising (indexText s) j))
     where
       by : (b : Bool) → (unless b 16 ▸ 0) ≡ unless b 16
       by true = refl
       by false = refl
 
   -- right behind the parent's it comes after it
-  pub followed-next : k + 1 ≡ j → indexEntryRule s j ≡ 0
+  pub extended-next : k + 1 ≡ j → indexEntryRule s j ≡ 0
   unfolding unless
-  followed-next e = followed-rule ∙ ap (λ (b : Bool). unless b 16) (risen j e (f .longer))
+  extended-next e = extended-rule ∙ ap (λ (b : Bool). unless b 16) (risen j e (f .longer))
     where
       risen : (m : ℕ) → k + 1 ≡ m → indexText s m ≡ indexText s k ++ dot ∷ f .rest → rising (indexText s) m ≡ true
       risen zero q l = absurd (omega arith)

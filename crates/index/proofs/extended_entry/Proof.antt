@@ -1,11 +1,11 @@
--- `index::followed_entry` meets its contract.
+-- `index::extended_entry` meets its contract.
 use mathlib.Core.Path.{_∙_, sym}
 use native.Mathlib.Omega.{arith}
 use borrow.Author.Tests.{not-false}
-use Rattle.index.proofs.Follow.{followed-by}
+use Rattle.index.proofs.Extended.{extended-by}
 use borrow.Author.Needs.{needs}
-use Rattle.index.proofs.followed_entry.Statement.{statement}
-use Rattle.index.proofs.followed_entry.Tie as tie
+use Rattle.index.proofs.extended_entry.Statement.{statement}
+use Rattle.index.proofs.extended_entry.Tie as tie
 
 text-entry-requires : tie.Need-text-entry-requires
 text-entry-requires c κs = search needs
@@ -19,8 +19,8 @@ is-container-requires c κs = search needs
 returns-2 : tie.Need-returns-2
 returns-2 c = (omega arith, λ h. absurd (omega arith))
 
-has-piece-requires : tie.Need-has-piece-requires
-has-piece-requires c κs = search needs
+has-name-or-place-requires : tie.Need-has-name-or-place-requires
+has-name-or-place-requires c κs = search needs
 
 returns-3 : tie.Need-returns-3
 returns-3 c = (omega arith, λ h. absurd (omega arith))
@@ -55,25 +55,25 @@ returns-6 c =
     let at = start .args in (
       omega arith,
       λ h.
-          followed-by (at .version) (at .nodes .now) (at .index .now) (at .strings .now) (at .j) (start .pre .1) (known .result) (entry .text-entry .result) (x .before .text-entry2 .result)
+          extended-by (at .version) (at .nodes .now) (at .index .now) (at .strings .now) (at .j) (start .pre .1) (known .result) (entry .text-entry .result) (x .before .text-entry2 .result)
           (read .path-node .result) (entry .text-entry .ensures) (there .before .if1 .left)
           (sym (there .is-container .ensures) ∙ not-false (there .is-container .result) (has .before .if2 .left))
-          (sym (has .has-piece .ensures) ∙ not-false (has .has-piece .result) (read .before .if3 .left))
+          (sym (has .has-name-or-place .ensures) ∙ not-false (has .has-name-or-place .result) (read .before .if3 .left))
           (read .path-node .ensures) (x .before .before .before .before .if4 .left) h (known .ensures .1 h) (x .before .text-entry2 .ensures) (x .extends .ensures (c .if6 .taken)),
     )
 
 returns-7 : tie.Need-returns-7
 returns-7 c = (omega arith, λ h. absurd (omega arith))
 
-pub followed-entry-spec : {M : Type 1} → statement M
-followed-entry-spec =
+pub extended-entry-spec : {M : Type 1} → statement M
+extended-entry-spec =
     tie.close
     (tie.spec
     text-entry-requires
     returns
     is-container-requires
     returns-2
-    has-piece-requires
+    has-name-or-place-requires
     returns-3
     path-node-requires
     returns-4

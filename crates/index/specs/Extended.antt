@@ -1,22 +1,18 @@
--- An entry of the index told by that of its target's parent, which came before it.
-use Prim.Native.Nat.{ℕ, _<_}
+-- An entry of the index whose text goes on after that of the entry of its target's parent.
+use Prim.Native.Nat.{ℕ}
 use mathlib.Core.Path.{_≡_}
 use mathlib.Core.List.{List, _∷_, _++_}
 use mathlib.Core.Bool.{true}
 use Rattle.laws.specs.Refusal.{firstOf}
 use Rattle.texts.specs.Dots.{dot}
 use Rattle.image.specs.declared.TextEntry.{TextEntry}
-use Rattle.image.specs.Sections.{Sections, nodeCount, indexWord, partAt, goodIn, goodText, insideContainer}
-use Rattle.tree.specs.Reach.{Climbs}
+use Rattle.image.specs.Sections.{Sections, indexWord, partAt, goodIn, goodText, insideContainer}
+use Rattle.tree.specs.Reach.{AllClimb}
 use Rattle.index.specs.declared.PathNode.{PathNode}
 use Rattle.index.specs.Paths.{pieceOf, fits}
 use Rattle.index.specs.Index.{indexText, indexEntryRule}
 
--- parent steps lead from each node to the root
-abbrev pub AllClimb : Sections → Type 0
-AllClimb s = (i : ℕ) → i < nodeCount s → Climbs s (nodeCount s) i
-
--- so they do, and no entry before j is refused
+-- what is known when entry j is tested: parent steps lead from every node to the root, and no entry before it is refused
 pub record Tested (s : Sections) (j : ℕ) : Type 0 where
   pub climbs : AllClimb s
   pub passed : firstOf j (indexEntryRule s) ≡ 0
@@ -27,7 +23,7 @@ pub record Extends (strings : List ℕ) (above entry : TextEntry) (node : PathNo
   pub text : partAt strings (entry .offset) (entry .len) ≡ partAt strings (above .offset) (above .len) ++ dot ∷ pieceOf strings (node .place) (node .offset) (node .len)
 
 -- entry j passes its rules but for the order, and its text goes on after that of entry k
-pub record Followed (s : Sections) (j k : ℕ) : Type 0 where
+pub record Extended (s : Sections) (j k : ℕ) : Type 0 where
   pub text : goodText s (indexWord s j 0) (indexWord s j 1) ≡ true
   pub target : insideContainer s (indexWord s j 2) ≡ true
   pub fit : fits s (indexWord s j 2) (indexText s j) ≡ true
