@@ -108,6 +108,12 @@ fn no_place() {
             let by_number = &[("", 0), ("4294967295", 1), ("4294967295.0", 2)][..2 + below as usize];
             assert_eq!(filed(&draft, by_name), if named { Ok(()) } else { MISFIT });
             assert_eq!(filed(&draft, by_number), MISFIT);
+            if below == 1 {
+                // the way is asked: what is behind the entry of the lower one would be 9
+                let lower = if named { by_name[2] } else { by_number[2] };
+                let due = if named { Err(Refusal::BAD_NODE) } else { MISFIT };
+                assert_eq!(filed(&draft, &[("", 0), lower, ("a", NONE)]), due);
+            }
             let written = draft.image_length(21, &mut vec![0; draft.work_words()]).map(|_| ());
             assert_eq!(written, if named { Ok(()) } else { Err(Refusal::DRAFT_PATHS) });
         }
