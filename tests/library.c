@@ -1069,7 +1069,7 @@ static void filed_without_place(uint32_t name, uint32_t name_length, bool below)
           "place NONE, %s, %d below it", what, below);
     CHECK(filed(&draft, has_name ? by_number : by_name, below ? 9 : 6) == STORY_IMAGE_BAD_INDEX,
           "place NONE, %s, %d below it: another text", what, below);
-    const uint32_t lower_first[] = {0, 0, 0, has_name ? 0 : 3, has_name ? 3 : 12, 2, 0, 1, NONE};
+    const uint32_t lower_first[] = {0, 0, 0, has_name ? 0u : 3u, has_name ? 3u : 12u, 2, 0, 1, NONE};
     if (below)
         CHECK(filed(&draft, lower_first, 9) == (has_name ? STORY_IMAGE_BAD_NODE : STORY_IMAGE_BAD_INDEX),
               "place NONE, %s: the one below filed first, then no node", what);
