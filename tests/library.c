@@ -133,45 +133,47 @@ static struct image accepted(const char *folder, const char *name) {
 
 /* ---- loads */
 
+/* The samples and the number of each. */
+static const struct {
+    const char *name;
+    uint32_t number;
+} sample_numbers[] = {
+    {"smallest", STORY_IMAGE_OK},
+    {"guide", STORY_IMAGE_OK},
+    {"step", STORY_IMAGE_OK},
+    {"largest", STORY_IMAGE_OK},
+    {"cut-header", STORY_IMAGE_BAD_HEADER},
+    {"version", STORY_IMAGE_BAD_VERSION},
+    {"ink-version", STORY_IMAGE_BAD_INK_VERSION},
+    {"cut", STORY_IMAGE_BAD_LENGTH},
+    {"sections", STORY_IMAGE_BAD_SECTIONS},
+    {"bit", STORY_IMAGE_BAD_CHECKSUM},
+    {"root", STORY_IMAGE_BAD_ROOT},
+    {"choice-target", STORY_IMAGE_BAD_NODE},
+    {"text", STORY_IMAGE_BAD_TEXT},
+    {"children-start", STORY_IMAGE_BAD_RANGE},
+    {"tag", STORY_IMAGE_BAD_TAG},
+    {"index-count", STORY_IMAGE_LEFT_OVER},
+    {"place", STORY_IMAGE_BAD_CHILD},
+    {"circle", STORY_IMAGE_UNREACHED},
+    {"index-order", STORY_IMAGE_BAD_INDEX},
+    {"dotted", STORY_IMAGE_BAD_INDEX},
+    {"placeless", STORY_IMAGE_BAD_INDEX},
+    {"item-order", STORY_IMAGE_BAD_DEFINITION},
+};
+
 static void samples(const char *folder) {
-    static const struct {
-        const char *name;
-        uint32_t number;
-    } table[] = {
-        {"smallest", STORY_IMAGE_OK},
-        {"guide", STORY_IMAGE_OK},
-        {"step", STORY_IMAGE_OK},
-        {"largest", STORY_IMAGE_OK},
-        {"cut-header", STORY_IMAGE_BAD_HEADER},
-        {"version", STORY_IMAGE_BAD_VERSION},
-        {"ink-version", STORY_IMAGE_BAD_INK_VERSION},
-        {"cut", STORY_IMAGE_BAD_LENGTH},
-        {"sections", STORY_IMAGE_BAD_SECTIONS},
-        {"bit", STORY_IMAGE_BAD_CHECKSUM},
-        {"root", STORY_IMAGE_BAD_ROOT},
-        {"choice-target", STORY_IMAGE_BAD_NODE},
-        {"text", STORY_IMAGE_BAD_TEXT},
-        {"children-start", STORY_IMAGE_BAD_RANGE},
-        {"tag", STORY_IMAGE_BAD_TAG},
-        {"index-count", STORY_IMAGE_LEFT_OVER},
-        {"place", STORY_IMAGE_BAD_CHILD},
-        {"circle", STORY_IMAGE_UNREACHED},
-        {"index-order", STORY_IMAGE_BAD_INDEX},
-        {"dotted", STORY_IMAGE_BAD_INDEX},
-        {"placeless", STORY_IMAGE_BAD_INDEX},
-        {"item-order", STORY_IMAGE_BAD_DEFINITION},
-    };
-    for (size_t i = 0; i < sizeof table / sizeof table[0]; i++) {
-        struct image image = sample(folder, table[i].name);
-        uint32_t number = load(&image, image.length / 4);
-        CHECK(number == table[i].number, "%s: %u in place of %u", table[i].name, (unsigned)number,
-              (unsigned)table[i].number);
+    for (size_t i = 0; i < sizeof sample_numbers / sizeof sample_numbers[0]; i++) {
+        const char *name = sample_numbers[i].name;
+        struct image image = sample(folder, name);
+        uint32_t due = sample_numbers[i].number, number = load(&image, image.length / 4);
+        CHECK(number == due, "%s: %u in place of %u", name, (unsigned)number, (unsigned)due);
         if (number == 0 || number > STORY_IMAGE_TOO_FEW_WORDS) {
             size_t needed = words_needed(&image);
-            CHECK(needed <= image.length / 4, "%s needs no more words than a quarter of its bytes", table[i].name);
-            CHECK(story_image_load_words(image.bytes, image.length) == needed, "%s, the words it needs", table[i].name);
-            CHECK(load(&image, needed) == number, "%s with as many words as it needs", table[i].name);
-            CHECK(load(&image, needed - 1) == STORY_IMAGE_TOO_FEW_WORDS, "%s with one word fewer", table[i].name);
+            CHECK(needed <= image.length / 4, "%s needs no more words than a quarter of its bytes", name);
+            CHECK(story_image_load_words(image.bytes, image.length) == needed, "%s, the words it needs", name);
+            CHECK(load(&image, needed) == number, "%s with as many words as it needs", name);
+            CHECK(load(&image, needed - 1) == STORY_IMAGE_TOO_FEW_WORDS, "%s with one word fewer", name);
         }
         free(image.bytes);
     }
@@ -1060,16 +1062,16 @@ static void filed_without_place(uint32_t name, uint32_t name_length, bool below)
     struct draft draft = container_draft(nodes, below ? 30 : 20, "a.04294967295.0");
     bool has_name = name != NONE && name_length != 0;
     const char *what = has_name ? "named" : name == NONE ? "without a name" : "with the empty name";
+    const uint32_t *index = has_name ? by_name : by_number, *other = has_name ? by_number : by_name;
     draft.children = children;
     draft.child_words = below;
     draft.named = named;
     draft.named_words = SIZE(named);
-    CHECK(filed(&draft, has_name ? by_name : by_number, below ? 9 : 6) ==
-              (has_name ? STORY_IMAGE_OK : STORY_IMAGE_BAD_INDEX),
+    CHECK(filed(&draft, index, below ? 9 : 6) == (has_name ? STORY_IMAGE_OK : STORY_IMAGE_BAD_INDEX),
           "place NONE, %s, %d below it", what, below);
-    CHECK(filed(&draft, has_name ? by_number : by_name, below ? 9 : 6) == STORY_IMAGE_BAD_INDEX,
-          "place NONE, %s, %d below it: another text", what, below);
-    const uint32_t lower_first[] = {0, 0, 0, has_name ? 0u : 3u, has_name ? 3u : 12u, 2, 0, 1, NONE};
+    CHECK(filed(&draft, other, below ? 9 : 6) == STORY_IMAGE_BAD_INDEX, "place NONE, %s, %d below it: another text",
+          what, below);
+    const uint32_t lower_first[] = {0, 0, 0, index[6], index[7], index[8], 0, 1, NONE};
     if (below)
         CHECK(filed(&draft, lower_first, 9) == (has_name ? STORY_IMAGE_BAD_NODE : STORY_IMAGE_BAD_INDEX),
               "place NONE, %s: the one below filed first, then no node", what);

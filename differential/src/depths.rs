@@ -1,5 +1,5 @@
-//! Depth, which the published Rust does not tell: counted over the parents of its views on an accepted image, over the
-//! parent words on other bytes and under other views.
+//! Depth, which the published Rust does not tell: counted over the parents of its views on an image that the published
+//! Rust accepts, over the parent words on other bytes and under other views.
 
 use crate::bench::lapped_chain;
 use crate::library::{Library, Queries, View, load_words};

@@ -1,6 +1,6 @@
 //! Pages, which the published Rust does not have: their slots against the image's own words. Whether a node has a view
-//! is asked of the published Rust on an accepted image. On other bytes and under other views, where it cannot be asked,
-//! it is told by docs/FORMAT.md, written out here, and our lone call must tell the same.
+//! is asked of the published Rust on an image that the published Rust accepts. On other bytes and under other views,
+//! where it cannot be asked, it is told by docs/FORMAT.md, written out here, and our lone call must tell the same.
 
 use crate::images::MARK;
 use crate::library::{Queries, View, section};
@@ -39,7 +39,7 @@ pub enum Case {
     NotInBytes,
 }
 
-/// Each case in words, and whether it can come up on an accepted image.
+/// Each case in words, and whether it can come up on an image that the published Rust accepts.
 pub const CASES: [(&str, bool); 12] = [
     ("pages of no number", true),
     ("pages of forty numbers or more", true),
@@ -126,8 +126,8 @@ pub struct Asked<'a> {
     pub ours: Option<&'a dyn Queries>,
 }
 
-/// A page of an accepted image, by its published views. The random numbers are those of a copy, so that the cases of a
-/// seed are the same with and without pages.
+/// A page of an image that the published Rust accepts, by its published views. The random numbers are those of a copy,
+/// so that the cases of a seed are the same with and without pages.
 pub fn accepted(asked: &Asked<'_>, views: &[Option<NodeView>], random: &Random, tally: &mut Tally) {
     let nodes = Nodes::new(asked.bytes, asked.view);
     let has_view = |number: u32, record: &Record| {

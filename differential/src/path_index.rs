@@ -1,11 +1,12 @@
 //! The rule of the path index that the published Rust does not have: only the canonical path fits, and nothing fits
-//! where a nameless container of place NONE, the root excepted, is the target or on the way to it. Such an entry gets 16.
+//! where a nameless container of place NONE, the root excepted, is the target or on the way to it. Such an entry gets
+//! 16.
 //!
-//! What a load must answer is still asked of the published Rust. Where an entry breaks the rule, it is asked of the image
-//! in which the first such entry has the text (0, 0), the empty one. That text is always good, and it fits no container
-//! but the root; so the Rust refuses the entry with 16, for its order or its fit, unless something before it is refused.
-//! All that is tested before it, the entries before it among them, is the same in both images, and nothing is tested
-//! after it.
+//! What a load must answer is still asked of the published Rust. Where an entry breaks the rule, it is asked of the
+//! image in which the first such entry has the text (0, 0), the empty one. That text is always good, and it fits no
+//! container but the root; so the Rust refuses the entry with 16, for its order or its fit, unless something before it
+//! is refused. All that is tested before it, the entries before it among them, is the same in both images, and nothing
+//! is tested after it.
 
 use crate::library::{header_view, section};
 use crate::pages::{Nodes, Record};
@@ -16,8 +17,8 @@ use crate::tally::Tally;
 /// The section that the index is.
 const INDEX: usize = 5;
 
-/// What must come up in the indexes of images whose header passes: each case in words, and whether it can be in one that
-/// the published Rust accepts, and in one that it refuses.
+/// What must come up in the indexes of images whose header passes: each case in words, and whether it can be in one
+/// that the published Rust accepts, and in one that it refuses.
 pub const CASES: [(&str, [bool; 2]); 9] = [
     ("a dot before the path of a child of the root", [true, true]),
     ("a dot before the path of one further down", [true, true]),
@@ -30,7 +31,8 @@ pub const CASES: [(&str, [bool; 2]); 9] = [
     ("a dot for the root", [false, true]),
 ];
 
-/// The published rows in whose place 16 comes: what is tested behind the entry passes, or is broken in one of these ways.
+/// The published rows in whose place 16 comes: what is tested behind the entry passes, or is broken in one of these
+/// ways.
 pub const TURNED: [u32; 5] = [0, 9, 10, 11, 17];
 
 /// An entry whose text is good and whose target is a container other than the root.

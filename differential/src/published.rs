@@ -129,8 +129,8 @@ impl Published {
         self.0 == mistake
     }
 
-    /// Whether an index entry is refused. Another rule: a dot fits, or fits further down; place NONE fits, or does above the
-    /// target; a named container of place NONE fits nothing.
+    /// Whether an index entry is refused. Another rule: a dot fits, or fits further down; place NONE fits, or does
+    /// above the target; a named container of place NONE fits nothing.
     fn breaks(&self, entry: &path_index::Entry) -> bool {
         let none = entry.none_target || entry.none_on_way;
         match self.0 {

@@ -1,4 +1,4 @@
-//! Every query on an accepted image, on both sides.
+//! Every query on an image that the published Rust accepts, on both sides.
 
 use crate::depths;
 use crate::library::{Found, Queries, View, header_view};

@@ -82,10 +82,7 @@ fn coverage(ours: Option<&dyn Library>, tally: &mut Tally) {
         need(reference::REASONS.contains(&reason), format!("not in the published source: {reason}"));
         need(tally.reasons.contains_key(reason) == reachable, format!("reason {reason}, reachable: {reachable}"));
     }
-    for ((what, expected), counts) in path_index::CASES.iter().zip(tally.index) {
-        need(counts.map(|count| count > 0) == *expected, format!("path index, {what}: {counts:?}"));
-    }
-    need(tally.turned.keys().eq(&path_index::TURNED), format!("16 in the place of rows {:?}", tally.turned));
+    index_met(tally, &mut need);
     for kind in KINDS {
         need(tally.kinds.contains_key(kind), format!("kind {kind}"));
     }
@@ -110,6 +107,14 @@ fn coverage(ours: Option<&dyn Library>, tally: &mut Tally) {
     for what in missing {
         tally.check(false, || format!("not met: {what}"), &[]);
     }
+}
+
+/// What must have come up in path indexes.
+fn index_met(tally: &Tally, mut need: impl FnMut(bool, String)) {
+    for ((what, expected), counts) in path_index::CASES.iter().zip(tally.index) {
+        need(counts.map(|count| count > 0) == *expected, format!("path index, {what}: {counts:?}"));
+    }
+    need(tally.turned.keys().eq(&path_index::TURNED), format!("16 in the place of rows {:?}", tally.turned));
 }
 
 /// What must have come up where drafts were written and targets found.

@@ -1,7 +1,7 @@
 //! Look-ups of list items with the number of definitions whose items were searched, which the published Rust does not
-//! tell: on an accepted image it is counted in a plain loop over the published definitions and items. On other bytes and
-//! under other views, where the published Rust cannot be asked, answer and count are those of docs/FORMAT.md, written out
-//! here.
+//! tell: on an image that the published Rust accepts it is counted in a plain loop over the published definitions and
+//! items. On other bytes and under other views, where the published Rust cannot be asked, answer and count are those of
+//! docs/FORMAT.md, written out here.
 
 use crate::library::{Found, Looked, Place, View, section};
 use crate::pages::Asked;
@@ -38,7 +38,7 @@ pub enum Case {
     NotInBytes,
 }
 
-/// Each case in words, and whether it can come up on an accepted image.
+/// Each case in words, and whether it can come up on an image that the published Rust accepts.
 pub const CASES: [(&str, bool); 18] = [
     ("the last of several definitions answers, 1", true),
     ("one between answers", true),

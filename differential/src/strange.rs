@@ -1,5 +1,6 @@
-//! What the published Rust cannot be asked: queries on bytes that were not accepted or under another view, which must
-//! end with parts inside the bytes, and depth, pages and look-ups there; names that are no text; walks along wrong words.
+//! What the published Rust cannot be asked: queries on bytes that it does not accept or under another view, which must
+//! end with parts inside the bytes, and depth, pages and look-ups there; names that are no text; walks along wrong
+//! words.
 
 use crate::depths;
 use crate::images::MARK;
@@ -12,7 +13,7 @@ use crate::stories::edge;
 use crate::tally::Tally;
 use reference::{Kind, NodeView, Step};
 
-/// The view of an accepted image, over damaged or cut bytes, or itself damaged.
+/// The view of an image that the published Rust accepts, over damaged or cut bytes, or itself damaged.
 pub fn bytes(bytes: &[u8], view: &View, ours: &dyn Queries, random: &mut Random, tally: &mut Tally) {
     let mut view = *view;
     let mut bytes = bytes.to_vec();
@@ -96,8 +97,8 @@ fn count_words(
     tally.check(right, || format!("list item {name:?}: due {due:?}, ours {found:?}, count {lent:x?}"), bytes);
 }
 
-/// On an accepted image: names that are no text name nothing, texts outside are not there, and a walk finds nothing
-/// where its words go wrong.
+/// On an image that the published Rust accepts: names that are no text name nothing, texts outside are not there, and a
+/// walk finds nothing where its words go wrong.
 pub fn asked(bytes: &[u8], view: &View, ours: &dyn Queries, random: &mut Random, tally: &mut Tally) {
     let node = random.below(view[2] as usize) as u32;
     let no_text = *random.pick(&[&b"\xff"[..], b"a\x80", b"\xc0\xaf", b"\xed\xa0\x80", b".\xff"]);

@@ -1,17 +1,14 @@
 //! The place finder on the path index: one spelling a container, and none without a name or a place.
 
+mod common;
+
+use common::repair;
 use inspect::rules::{Broken, first_broken};
 
 const NONE: u32 = u32::MAX;
 
 /// A container by its name and place; the next one is its named child.
 type Container = (&'static str, u32);
-
-fn checksum(bytes: &[u8]) -> u32 {
-    let covered = bytes[..84].iter().chain(&bytes[88..]);
-    let step = |rest: u32| if rest & 1 == 1 { rest >> 1 ^ 0xedb8_8320 } else { rest >> 1 };
-    !covered.fold(u32::MAX, |sum, byte| (0..8).fold(sum ^ u32::from(*byte), |rest, _| step(rest)))
-}
 
 /// The root and containers below each other, the index texts in the order of the nodes.
 fn image(containers: &[Container], texts: &[&str]) -> Vec<u8> {
@@ -42,8 +39,7 @@ fn image(containers: &[Container], texts: &[&str]) -> Vec<u8> {
     let mut bytes = b"BLINKIMG".to_vec();
     bytes.extend(words.flat_map(|word| word.to_le_bytes()));
     bytes.extend(strings.bytes());
-    let sum = checksum(&bytes);
-    bytes[84..88].copy_from_slice(&sum.to_le_bytes());
+    repair(&mut bytes);
     bytes
 }
 
@@ -88,8 +84,7 @@ fn the_way_is_seen() {
     let mut bytes = image(&[("", NONE), ("b", 0)], &["", "4294967295", "4294967295.b"]);
     let at = u32::from_le_bytes(bytes[60..64].try_into().unwrap()) as usize;
     bytes[at + 12..at + 36].rotate_left(12);
-    let sum = checksum(&bytes);
-    bytes[84..88].copy_from_slice(&sum.to_le_bytes());
+    repair(&mut bytes);
     let because = r#""4294967295.b"; node 1, on the way to the target, has neither a name nor a place"#;
     is_16(first_broken(&bytes), "name or place", because);
 }

@@ -1,5 +1,8 @@
 //! One word of a sound image is set to another value: the place that is found is that word, or one that speaks of it.
 
+mod common;
+
+use common::repair;
 use inspect::library;
 use inspect::rules::first_broken;
 use inspect::rules::sections::{Section, word_at};
@@ -10,18 +13,11 @@ fn sample(name: &str) -> Vec<u8> {
     std::fs::read(file).expect("a sample")
 }
 
-fn checksum(bytes: &[u8]) -> u32 {
-    let covered = bytes[..84].iter().chain(&bytes[88..]);
-    let step = |rest: u32| if rest & 1 == 1 { rest >> 1 ^ 0xedb8_8320 } else { rest >> 1 };
-    !covered.fold(u32::MAX, |sum, byte| (0..8).fold(sum ^ u32::from(*byte), |rest, _| step(rest)))
-}
-
 /// The image with a word, its checksum set right.
 fn with_word(image: &[u8], at: usize, word: u32) -> Vec<u8> {
     let mut bytes = image.to_vec();
     bytes[at..at + 4].copy_from_slice(&word.to_le_bytes());
-    let sum = checksum(&bytes);
-    bytes[84..88].copy_from_slice(&sum.to_le_bytes());
+    repair(&mut bytes);
     bytes
 }
 

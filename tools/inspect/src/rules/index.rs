@@ -15,6 +15,7 @@ pub fn rules(image: &Image<'_>) -> Rule {
         let target = image.word(Index, entry, 2);
         container(image, target, Word::new(Index, entry, 2, "node"))?;
         order(image, at, text, last)?;
+        name_or_place(image, at, text, target as usize)?;
         fit(image, at, text, target as usize)?;
         last = Some(text);
     }
@@ -33,15 +34,19 @@ fn order(image: &Image<'_>, at: Word<'_>, text: &str, last: Option<&str>) -> Rul
     }
 }
 
-/// The text is the target's path. Nothing fits where a container on the way has neither name nor place.
+/// Nothing fits where the target or a container on the way to it has neither name nor place.
+fn name_or_place(image: &Image<'_>, at: Word<'_>, text: &str, target: usize) -> Rule {
+    let Some(node) = way(image, target).into_iter().find(|node| piece(image, *node).is_none()) else {
+        return Ok(());
+    };
+    let which = if node == target { "the target" } else { "on the way to the target" };
+    let because = format!("{}; node {node}, {which}, has neither a name nor a place", quoted(text));
+    Err(image.broken(16, "name or place", at, because))
+}
+
+/// The text is the target's path. Every container on the way has a piece of it.
 fn fit(image: &Image<'_>, at: Word<'_>, text: &str, target: usize) -> Rule {
-    let way = way(image, target);
-    if let Some(node) = way.iter().find(|node| piece(image, **node).is_none()) {
-        let which = if *node == target { "the target" } else { "on the way to the target" };
-        let because = format!("{}; node {node}, {which}, has neither a name nor a place", quoted(text));
-        return Err(image.broken(16, "name or place", at, because));
-    }
-    let pieces: Vec<String> = way.iter().rev().filter_map(|node| piece(image, *node)).collect();
+    let pieces: Vec<String> = way(image, target).iter().rev().filter_map(|node| piece(image, *node)).collect();
     let path = pieces.join(".");
     if text == path {
         return Ok(());
