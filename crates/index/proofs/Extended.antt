@@ -2,17 +2,17 @@
 use Prim.Native.Nat.{ℕ, zero, suc, _+_, _≤_, _<_}
 use mathlib.Core.Path.{_≡_, refl, sym, ap, _∙_, subst}
 use mathlib.Core.List.{List, [], _∷_, _++_, append-nil}
-use mathlib.Core.Bool.{Bool, true, false, cond, _&&_, not}
+use mathlib.Core.Bool.{Bool, true, false, cond, _&&_}
 use native.Mathlib.Omega.{arith}
-use lib.Dec.{leb, ltb, eqb}
+use lib.Dec.{leb, eqb}
 use lib.ListN.{length, getD, take, drop, take-append-drop, length-take}
-use borrow.Author.Tests.{ne-eqb, ltb-true}
+use borrow.Author.Tests.{ne-eqb}
 use Rattle.laws.specs.Refusal.{unless, _▸_}
 use Rattle.laws.proofs.First.{first-all}
 use Rattle.laws.proofs.Flags.{both-true}
 use Rattle.laws.proofs.Members.{and-true}
 use Rattle.laws.proofs.Lists.{below-none, below-cons, drop-next, part-of-first}
-use Rattle.words.specs.Words.{NONE, isNone, wordsOf}
+use Rattle.words.specs.Words.{NONE, wordsOf}
 use Rattle.texts.specs.Text.{orderOf, before, same, rising}
 use Rattle.texts.specs.Dots.{dot}
 use Rattle.texts.proofs.Text.{order-front, less-before, same-equal}
@@ -21,6 +21,7 @@ use Rattle.image.specs.Sections.{Sections, nodeCount, indexWord, parentOf, part
 use Rattle.image.specs.Tags.{containerTag}
 use Rattle.image.specs.Entries.{textEntryOf, indexIn}
 use Rattle.image.proofs.Entries.{index-entry}
+use Rattle.image.proofs.Tests.{inside-true}
 use Rattle.image.proofs.GoodBytes.{good-append, good-ascii}
 use Rattle.tree.specs.Parts.{partsOf}
 use Rattle.tree.specs.Reach.{climb, Climbs, AllClimb}
@@ -105,8 +106,7 @@ module _ {strings : List ℕ} {above entry : TextEntry} {node : PathNode} {text 
 
 -- a container is below the node count
 below-count : (s : Sections) (i : ℕ) → insideContainer s i ≡ true → i < nodeCount s
-below-count s i p =
-    ltb-true i (nodeCount s) (both-true (ltb i (nodeCount s)) (not (isNone i)) (both-true (inside s i) (isContainer s i) p .0) .0)
+below-count s i p = inside-true (nodeCount s) i (both-true (inside s i) (isContainer s i) p .0) .0
 
 module _ (s : Sections) (j : ℕ) (tested : Tested s j) where
   earlier : (k : ℕ) → k < j → Entry s k

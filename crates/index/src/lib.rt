@@ -21,7 +21,7 @@ use image::TextEntry;
 use image::order;
 use image::refusal;
 
-// So many values a word has.
+// How many values a word has.
 const WORD_VALUES: usize = 4294967296;
 
 // What a path needs of a node: its parent, its place and its name.
@@ -282,7 +282,8 @@ pub fn index_rule(nodes: &[u8], index: &[u8], strings: &[u8], work: &mut [u32], 
     requires { ⌜ AllClimb (indexParts version (now nodes) [] []) ⌝ }
     requires { ⌜ nodeCount (indexParts version (now nodes) [] []) ≤ length (now work) ⌝ }
     ensures answer { λ r. ⌜ r ≡ indexRule (indexParts version (now (nodes .entry)) (now (index .entry)) (now (strings .entry))) ⌝ }
-    ensures rest { λ r. ⌜ (let n = nodeCount (indexParts version (now (nodes .entry)) [] []) in drop n (now (work .exit)) ≡ drop n (now (work .entry))) ⌝ }
+    ensures rest { λ r. ⌜ (let n = nodeCount (indexParts version (now (nodes .entry)) [] []) in
+        drop n (now (work .exit)) ≡ drop n (now (work .entry))) ⌝ }
 {
     let count = index.len() / ImageView::TEXT_ENTRY_BYTES;
     let mut j = 0;

@@ -26,13 +26,13 @@ module _ (s : Sections) (some : 0 < nodeCount s) (right : SectionsRight s) where
       sym (a .holds) ∙ ap (λ (j : ℕ). indexWord s j 2) one ∙ d .holds
 
   -- its own entry's way begins with it
-  pieces : (i : ℕ) → i < nodeCount s → isContainer s i ≡ true → i ≢ 0 → NameOrPlace s i
-  pieces i h c away =
+  name-or-place : (i : ℕ) → i < nodeCount s → isContainer s i ≡ true → i ≢ 0 → NameOrPlace s i
+  name-or-place i h c away =
       let a = named-once s some right i h c in
       right .index (a .entry) (a .entry-inside) .way i (subst (λ (x : ℕ). OnWay s x i) (sym (a .holds)) (here s i away))
 
   pub one-spelling : OneSpelling s
-  one-spelling = record { texts = λ j h. right .index j h .path; apart = apart; pieces = pieces }
+  one-spelling = record { texts = λ j h. right .index j h .path; apart = apart; name-or-place = name-or-place }
 
 pub accepted-one-spelling : AcceptedOneSpelling
 accepted-one-spelling bs work p =

@@ -127,7 +127,7 @@ pub record OneSpelling (s : Sections) : Type 0 where
   -- no two containers have one canonical path
   pub apart : (i k : ℕ) → i < nodeCount s → k < nodeCount s → isContainer s i ≡ true → isContainer s k ≡ true → canonicalPath s i ≡ canonicalPath s k → i ≡ k
   -- each container, the root excepted, has a name or a place
-  pub pieces : (i : ℕ) → i < nodeCount s → isContainer s i ≡ true → i ≢ 0 → NameOrPlace s i
+  pub name-or-place : (i : ℕ) → i < nodeCount s → isContainer s i ≡ true → i ≢ 0 → NameOrPlace s i
 
 -- of whatever a load accepts
 abbrev pub AcceptedOneSpelling : Type 0
