@@ -19,7 +19,7 @@ use Rattle.records.proofs.PassedRules.{Node, node-of, ranges as fields-ranges}
 use Rattle.tree.specs.Tree.{childAt, namedAt, entryNodes, entriesRule}
 use Rattle.tree.specs.Parts.{EntriesOwned, Fit}
 use Rattle.tree.proofs.Entries.{entry-each, child-container, named-container, counts}
-use Rattle.index.specs.Definitions.{goodDefinition, goodItem, firstItem, numberOfItems, itemsBefore, itemsRight, itemsUsedUp, definitionText, itemTextOf}
+use Rattle.definitions.specs.Definitions.{goodDefinition, goodItem, firstItem, numberOfItems, itemsBefore, itemsRight, itemsUsedUp, definitionText, itemTextOf}
 use Rattle.draft.specs.Draft.{wholeEntries, draftNodeRule, draftChildRule, draftNamedRule, draftDefinitionRule, draftItemRule, entryTablesRule, tablesRule, relationRule, orderRule, shapeRule}
 
 -- ---- 19

@@ -12,7 +12,7 @@ use Rattle.image.specs.Refusals.{badDraft, draftUnreached, draftShape, draftPat
 use Rattle.records.specs.Records.{fieldsRule, parentRule, rootRight, usedUp, records}
 use Rattle.tree.specs.Tree.{entriesRule, readWalk, allSeen, Walked, trees}
 use Rattle.index.specs.Paths.{canonicalPath, nameOrPlace, paths}
-use Rattle.index.specs.Definitions.{goodDefinition, goodItem, itemsRight, numberOfItems, itemsUsedUp, definitionText, itemTextOf, definitions}
+use Rattle.definitions.specs.Definitions.{goodDefinition, goodItem, itemsRight, numberOfItems, itemsUsedUp, definitionText, itemTextOf, definitions}
 use Rattle.draft.specs.Needs.{draftCounts, wordsFor}
 
 -- ---- 19: the tables

@@ -11,7 +11,7 @@ ghost use Rattle.image.specs.Refusals.{badDraft};
 ghost use Rattle.records.specs.Fields.{kindOf};
 ghost use Rattle.records.specs.Records.{targetIn, usedUp};
 ghost use Rattle.records.specs.Shown.{sumsBefore, tagIn, startsNext, fieldsBy};
-ghost use Rattle.index.specs.Definitions.{itemsUsedUp};
+ghost use Rattle.definitions.specs.Definitions.{itemsUsedUp};
 ghost use Rattle.draft.specs.Source.{NodesFrom, draftOf};
 ghost use Rattle.draft.specs.Draft.{wholeEntries, draftChildRule, draftNamedRule, draftDefinitionRule, draftItemRule};
 ghost use Rattle.draft.specs.PathList.{follows, pathFieldsRule, pathNodeRule, pathTablesRule};

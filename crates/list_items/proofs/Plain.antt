@@ -16,8 +16,8 @@ use Rattle.texts.specs.Dots.{hasDot, beforeDot, afterDot}
 use Rattle.utf8.specs.White.{blank}
 use Rattle.image.specs.Sections.{Sections, definitionCount, definitionWord}
 use Rattle.image.proofs.Parts.{good-part}
-use Rattle.index.specs.Definitions.{definitionText, definitionsRule}
-use Rattle.index.proofs.Definitions.{Definitions, definitions-passed, definition-once}
+use Rattle.definitions.specs.Definitions.{definitionText, definitionsRule}
+use Rattle.definitions.proofs.Definitions.{Definitions, definitions-passed, definition-once}
 use Rattle.lookups.specs.declared.ListItem.{ListItem}
 use Rattle.lookups.specs.declared.ListItemAnswer.the-variants as answer
 use Rattle.lookups.specs.Lookup.{itemPlace, definitionName, answeringPlace, answers, listItemAt, listItemIn, lastItem, listItem}

@@ -6,7 +6,7 @@ use mathlib.Core.Bool.{true, false}
 use Rattle.texts.specs.Dots.{hasDot, beforeDot}
 use Rattle.utf8.specs.White.{blank}
 use Rattle.image.specs.Sections.{Sections, definitionCount}
-use Rattle.index.specs.Definitions.{definitionText}
+use Rattle.definitions.specs.Definitions.{definitionText}
 use Rattle.lookups.specs.declared.ListItem.{ListItem}
 use Rattle.lookups.specs.declared.ListItemAnswer.the-variants as answer
 use Rattle.list_items.specs.declared.ItemSearch.{ItemSearch}

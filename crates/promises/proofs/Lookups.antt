@@ -13,8 +13,8 @@ use Rattle.image.specs.declared.ImageView.{ImageView}
 use Rattle.image.specs.Header.{viewOf, sectionsBy}
 use Rattle.tree.specs.Tree.{treeRule}
 use Rattle.tree.proofs.PlainTree.{tree-right}
-use Rattle.index.specs.Definitions.{definitionText, firstItem, numberOfItems, itemTextOf, definitionsRule}
-use Rattle.index.proofs.Definitions.{Definitions, definitions-passed, definition-once, item-once}
+use Rattle.definitions.specs.Definitions.{definitionText, firstItem, numberOfItems, itemTextOf, definitionsRule}
+use Rattle.definitions.proofs.Definitions.{Definitions, definitions-passed, definition-once, item-once}
 use Rattle.load.specs.declared.Loaded.the-variants.{View}
 use Rattle.load.specs.Load.{loadRule, loadedOf}
 use Rattle.views.specs.declared.Found.the-variants as found

@@ -18,7 +18,7 @@ use Rattle.image.specs.Entries.{nodeIn}
 use Rattle.image.proofs.Parts.{part-length, part-of-part, section-inside, section-outside, text-inside, text-outside}
 use Rattle.image.proofs.Views.{strings-by, payload-by}
 use Rattle.records.specs.Fields.{Kind, kindOf, Field, text, optional, command, operator, node, optionalNode, container, optionalContainer, plain, atMost, children, named, payload, wrong}
-use Rattle.index.specs.Definitions.{firstItem, numberOfItems}
+use Rattle.definitions.specs.Definitions.{firstItem, numberOfItems}
 use Rattle.views.specs.declared.Span.{Span}
 use Rattle.views.specs.declared.NodeView.{NodeView}
 use Rattle.views.specs.declared.NodeKindView.{NodeKindView}

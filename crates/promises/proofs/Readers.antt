@@ -17,7 +17,7 @@ use Rattle.image.specs.Header.{viewOf, sectionsBy}
 use Rattle.load.specs.declared.Loaded.the-variants.{View}
 use Rattle.load.specs.Load.{loadRule, loadedBy, loadedOf}
 use Rattle.records.specs.Fields.{kindOf}
-use Rattle.index.specs.Definitions.{firstItem, numberOfItems}
+use Rattle.definitions.specs.Definitions.{firstItem, numberOfItems}
 use Rattle.tree.specs.Tree.{childAt, namedAt}
 use Rattle.tree.specs.Reach.{climb}
 use Rattle.views.specs.declared.OptionalWord.the-variants as word

@@ -17,7 +17,7 @@ use Rattle.image.specs.declared.ImageView.{ImageView}
 use Rattle.image.specs.Sections.{Sections, definitionCount, itemCount, present}
 use Rattle.image.specs.Header.{version, headerRule, viewOf, sectionsBy, sectionsOf, versionAt}
 use Rattle.image.proofs.OpenedHeader.{Opens, opens, view-inside, view-counts, length-word}
-use Rattle.index.specs.Definitions.{firstItem, numberOfItems, definitionsRule}
+use Rattle.definitions.specs.Definitions.{firstItem, numberOfItems, definitionsRule}
 use Rattle.load.specs.Load.{loadRule}
 use Rattle.views.specs.declared.Span.{Span}
 use Rattle.views.specs.declared.Found.{Found}

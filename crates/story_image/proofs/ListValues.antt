@@ -5,7 +5,7 @@ use mathlib.Core.List.{List, [], _∷_}
 use mathlib.Core.Option.{Option, none, some}
 use Rattle.image.specs.declared.Definition.{Definition}
 use Rattle.image.specs.Sections.{Sections}
-use Rattle.index.specs.Definitions.{firstItem}
+use Rattle.definitions.specs.Definitions.{firstItem}
 use Rattle.views.specs.declared.Span.{Span}
 use Rattle.views.specs.declared.DefinitionView.{DefinitionView}
 use Rattle.views.specs.declared.DefinitionAnswer.{DefinitionAnswer}

@@ -24,7 +24,7 @@ use Rattle.tree.specs.Reach.{Reached}
 use Rattle.tree.proofs.Numbers.{read-reached, reached-read}
 use Rattle.tree.proofs.Entries.{children-pass, named-pass, entries-pass}
 use Rattle.index.specs.Paths.{canonicalPath, nameOrPlace}
-use Rattle.index.specs.Definitions.{goodDefinition, firstItem, numberOfItems, itemsBefore, itemsRight, itemsUsedUp}
+use Rattle.definitions.specs.Definitions.{goodDefinition, firstItem, numberOfItems, itemsBefore, itemsRight, itemsUsedUp}
 use Rattle.draft.specs.Draft.{wholeEntries, draftNodeRule, draftChildRule, draftNamedRule, draftDefinitionRule, draftItemRule, tablesRule, writeWords, reachRule, relationRule, orderRule, shapeRule, placed, newPath, pathRule, pathsRule}
 use Rattle.draft.proofs.Rules.{Tables, tables, Checked, checked, entries-counts, entries-below, Shape, shape}
 use Rattle.draft.proofs.ReachedNodes.{reached}

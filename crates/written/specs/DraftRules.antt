@@ -14,7 +14,7 @@ use Rattle.records.specs.Fields.{Field}
 use Rattle.records.specs.Records.{fieldsAt, numberOfChildren, numberOfNamed, childrenBefore, namedBefore, payloadBefore}
 use Rattle.tree.specs.Reach.{Reached}
 use Rattle.index.specs.Paths.{canonicalPath}
-use Rattle.index.specs.Definitions.{definitionText, firstItem, numberOfItems, itemTextOf, itemsBefore}
+use Rattle.definitions.specs.Definitions.{definitionText, firstItem, numberOfItems, itemTextOf, itemsBefore}
 use Rattle.draft.specs.Draft.{tablesRule, writeWords, reachRule, shapeRule, pathsRule}
 use Rattle.draft_image.specs.Encode.{imageFor, encodeRule}
 use Rattle.promises.specs.Rules.{TextRight, NodeRight, FieldRight, ParentRight, ChildRight, NamedRight, NameOrPlace, Iff}

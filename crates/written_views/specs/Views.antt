@@ -12,7 +12,7 @@ use Rattle.image.specs.declared.ImageView.{ImageView}
 use Rattle.image.specs.Header.{sectionsBy, sectionsOf}
 use Rattle.records.specs.Fields.{Field, text, optional, command, operator, node, optionalNode, container, optionalContainer, plain, atMost, children, named, payload, wrong}
 use Rattle.records.specs.Records.{fieldsAt}
-use Rattle.index.specs.Definitions.{firstItem}
+use Rattle.definitions.specs.Definitions.{firstItem}
 use Rattle.load.specs.declared.Loaded.the-variants.{View}
 use Rattle.load.specs.Load.{loadWords, loadedOf}
 use Rattle.draft.specs.Numbering.{numbering, oldOf, newOf}

@@ -1,4 +1,4 @@
--- `index::definition_rule` meets its contract.
+-- `definitions::definition_rule` meets its contract.
 use Prim.Native.Nat.{_+_}
 use mathlib.Core.Path.{_≡_, _∙_, sym, refl}
 use mathlib.Core.List.{[]}
@@ -10,15 +10,15 @@ use Rattle.laws.specs.Refusal.{unless, _▸_, firstOf}
 use Rattle.words.specs.Words.{wordsOf}
 use Rattle.image.specs.declared.Definition.{Definition}
 use Rattle.image.specs.Sections.{Sections, itemCount}
-use Rattle.index.specs.Definitions.{itemRuleFrom, definitionRule}
-use Rattle.index.specs.Parts.{definitionParts}
-use Rattle.index.proofs.Definitions.{item-like}
+use Rattle.definitions.specs.Definitions.{itemRuleFrom, definitionRule}
+use Rattle.definitions.specs.Parts.{definitionParts}
+use Rattle.definitions.proofs.Definitions.{item-like}
 use Rattle.image.proofs.Parts.{text-entry-count}
-use Rattle.index.proofs.Readers.{definition-by, definition-past}
+use Rattle.definitions.proofs.Readers.{definition-by, definition-past}
 use Rattle.laws.proofs.RuleRuns.{first-like}
 use borrow.Author.Needs.{needs}
-use Rattle.index.proofs.definition_rule.Statement.{statement}
-use Rattle.index.proofs.definition_rule.Tie as tie
+use Rattle.definitions.proofs.definition_rule.Statement.{statement}
+use Rattle.definitions.proofs.definition_rule.Tie as tie
 
 -- the text of the definition is good and comes after the one before it
 module _ (c : tie.Else2) where

@@ -5,7 +5,7 @@ use mathlib.Core.Bool.{Bool, _&&_}
 use lib.Dec.{leb, eqb}
 use Rattle.laws.specs.Refusal.{unless, _▸_, firstOf, refusals}
 use Rattle.laws.specs.Counted.{sumOf, counted}
-use Rattle.texts.specs.Text.{rising, before, texts}
+use Rattle.texts.specs.Text.{rising, texts}
 use Rattle.image.specs.Sections.{Sections, definitionCount, itemCount, definitionWord, itemWord, textAt, goodText, sections}
 use Rattle.image.specs.Refusals.{badText, badRange, badDefinition}
 

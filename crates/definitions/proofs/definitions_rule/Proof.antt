@@ -1,4 +1,4 @@
--- `index::definitions_rule` meets its contract. The invariant: no definition so far is refused, and `used` is how many items they have.
+-- `definitions::definitions_rule` meets its contract. The invariant: no definition so far is refused, and `used` is how many items they have.
 use Prim.Native.Nat.{_≤_, _-_, _/_}
 use mathlib.Core.Path.{_≡_, sym, _∙_}
 use native.Mathlib.Omega.{arith}
@@ -6,13 +6,13 @@ use lib.ListN.{length}
 use borrow.Author.Needs.{needs}
 use borrow.Author.Tests.{eq-eqb, ne-eqb}
 use Rattle.laws.specs.Refusal.{firstOf, unless}
-use Rattle.index.specs.Definitions.{numberOfItems, itemsBefore, definitionRule}
+use Rattle.definitions.specs.Definitions.{numberOfItems, itemsBefore, definitionRule}
 use Rattle.image.specs.Sections.{textEntrySize}
-use Rattle.index.specs.Parts.{definitionParts}
-use Rattle.index.proofs.Readers.{definitions-stop, definitions-end, used-more, used-inside}
+use Rattle.definitions.specs.Parts.{definitionParts}
+use Rattle.definitions.proofs.Readers.{definitions-stop, definitions-end, used-more, used-inside}
 use Rattle.laws.proofs.RuleRuns.{sum-starts, run-starts, run-goes}
-use Rattle.index.proofs.definitions_rule.Statement.{statement}
-use Rattle.index.proofs.definitions_rule.Tie as tie
+use Rattle.definitions.proofs.definitions_rule.Statement.{statement}
+use Rattle.definitions.proofs.definitions_rule.Tie as tie
 
 abbrev Inv-loop : tie.InvT-loop
 Inv-loop definitions items strings count used₀ d₀ used d =

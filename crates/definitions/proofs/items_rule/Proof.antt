@@ -1,15 +1,15 @@
--- `index::items_rule` meets its contract. The invariant: no item so far is refused.
+-- `definitions::items_rule` meets its contract. The invariant: no item so far is refused.
 use Prim.Native.Nat.{_≤_, _-_}
 use mathlib.Core.Path.{_≡_}
 use mathlib.Core.List.{[]}
 use Rattle.laws.specs.Refusal.{firstOf}
-use Rattle.index.specs.Definitions.{itemRuleFrom}
-use Rattle.index.specs.Parts.{definitionParts}
+use Rattle.definitions.specs.Definitions.{itemRuleFrom}
+use Rattle.definitions.specs.Parts.{definitionParts}
 use Rattle.laws.proofs.Chains.{first-broken, first-done}
 use Rattle.laws.proofs.RuleRuns.{run-starts, run-goes}
 use borrow.Author.Needs.{needs}
-use Rattle.index.proofs.items_rule.Statement.{statement}
-use Rattle.index.proofs.items_rule.Tie as tie
+use Rattle.definitions.proofs.items_rule.Statement.{statement}
+use Rattle.definitions.proofs.items_rule.Tie as tie
 
 abbrev Inv-loop : tie.InvT-loop
 Inv-loop items strings first count place₀ place = (place ≤ count) × (firstOf place (itemRuleFrom (definitionParts [] items strings) first) ≡ 0)

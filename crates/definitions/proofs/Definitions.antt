@@ -11,8 +11,8 @@ use Rattle.laws.proofs.First.{both, passed, pass, then, first-all, first-of}
 use Rattle.words.specs.Words.{wordsOf}
 use Rattle.texts.specs.Text.{before, rising}
 use Rattle.image.specs.Sections.{Sections, definitionCount, itemCount, definitionWord, itemWord}
-use Rattle.index.specs.Definitions.{definitionText, firstItem, numberOfItems, itemText, itemTextOf, goodDefinition, goodItem, itemsBefore, itemsRight, itemRuleFrom, itemRule, definitionRule, itemsUsedUp, definitionsRule}
-use Rattle.index.specs.Parts.{definitionParts}
+use Rattle.definitions.specs.Definitions.{definitionText, firstItem, numberOfItems, itemText, itemTextOf, goodDefinition, goodItem, itemsBefore, itemsRight, itemRuleFrom, itemRule, definitionRule, itemsUsedUp, definitionsRule}
+use Rattle.definitions.specs.Parts.{definitionParts}
 use Rattle.image.proofs.RisingTexts.{rising-before, rising-once, rising-like}
 use Rattle.laws.proofs.RuleRuns.{first-like, sum-like}
 use Rattle.laws.proofs.Flags.{both-true}

@@ -1,15 +1,15 @@
--- `index::item_rule` meets its contract.
+-- `definitions::item_rule` meets its contract.
 use mathlib.Core.Path.{_≡_, _∙_, sym, refl}
 use mathlib.Core.List.{[]}
 use borrow.Author.Tests.{not-true, not-false}
 use Rattle.laws.specs.Refusal.{unless, _▸_}
 use Rattle.words.specs.Words.{wordsOf}
-use Rattle.index.specs.Definitions.{itemRuleFrom}
-use Rattle.index.specs.Parts.{definitionParts}
-use Rattle.index.proofs.Readers.{item-by}
+use Rattle.definitions.specs.Definitions.{itemRuleFrom}
+use Rattle.definitions.specs.Parts.{definitionParts}
+use Rattle.definitions.proofs.Readers.{item-by}
 use borrow.Author.Needs.{needs}
-use Rattle.index.proofs.item_rule.Statement.{statement}
-use Rattle.index.proofs.item_rule.Tie as tie
+use Rattle.definitions.proofs.item_rule.Statement.{statement}
+use Rattle.definitions.proofs.item_rule.Tie as tie
 
 add-text-entry : tie.Need-add-text-entry
 add-text-entry c = search needs
