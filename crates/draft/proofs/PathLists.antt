@@ -1,5 +1,5 @@
 -- The list of paths: whether its nodes rise, the entry of a node, hints, the entries that are right.
-use Prim.Native.Nat.{ℕ, zero, suc, _+_, _-_, _*_, _/_, _%_, _≤_, _<_}
+use Prim.Native.Nat.{ℕ, zero, suc, _+_, _-_, _*_, _%_, _≤_, _<_}
 use mathlib.Core.Path.{_≡_, refl, sym, ap, _∙_}
 use mathlib.Core.Logic.{_⊎_, inl, inr}
 use mathlib.Core.List.{List}
@@ -16,6 +16,7 @@ use Rattle.laws.specs.Counted.{allOf, lastOf}
 use Rattle.laws.proofs.Flags.{both-true, all-next, all-at, all-fails, all-of}
 use Rattle.image.specs.declared.NodeRecord.{NodeRecord}
 use Rattle.image.specs.Sections.{absent, insideAmong}
+use Rattle.records.specs.Flags.{external}
 use Rattle.draft.specs.declared.path_list.PathEntry.{PathEntry}
 use Rattle.draft.specs.declared.path_list.Hint.{Hint}
 use Rattle.draft.specs.PathList.{pathCount, pathWord, pathOrigin, pathOf, newOrigin, pathRight, listRight, mayFollow}
@@ -209,7 +210,7 @@ module _ (r : NodeRecord) where
   follow-sure (inr (inr e)) =
       rw (ne-eqb (r .tag) 2 (λ z. omega arith), ne-eqb (r .tag) 4 (λ z. omega arith), ne-eqb (r .tag) 13 (λ z. omega arith), eq-eqb (r .tag) 17 e)
 
-  pub follow-divert : r .tag ≡ 4 → (b : Bool) → b ≡ (not (eqb (r .f6 / 2 % 2) 1) && absent (r .f3) (r .f4)) → b ≡ mayFollow r
+  pub follow-divert : r .tag ≡ 4 → (b : Bool) → b ≡ (not (external r) && absent (r .f3) (r .f4)) → b ≡ mayFollow r
   unfolding mayFollow
   follow-divert e b h =
       rw (ne-eqb (r .tag) 2 (λ z. omega arith), eq-eqb (r .tag) 4 e, ne-eqb (r .tag) 13 (λ z. omega arith), ne-eqb (r .tag) 17 (λ z. omega arith), ← h) (or-false b)

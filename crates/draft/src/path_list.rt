@@ -1,9 +1,10 @@
 // The paths lent beside a draft: the entries of the list, the entry of a node, and the nodes that follow a path.
 ghost use mathlib.Core.Path.{_≡_};
 ghost use mathlib.Core.Bool.{_&&_, not};
-ghost use Prim.Native.Nat.{_+_, _/_, _%_, _<_};
+ghost use Prim.Native.Nat.{_+_, _<_};
 ghost use lib.Dec.{ltb, eqb};
 ghost use Rattle.image.specs.Sections.{absent};
+ghost use Rattle.records.specs.Flags.{external};
 ghost use Rattle.draft.specs.PathList.{pathCount, pathOrigin, pathOf};
 ghost use Rattle.draft.specs.PathEntries.{pathEntry, foundPath, pathsRise, Hinted};
 ghost use Rattle.draft.specs.PathList.{listed, newOrigin, pathRight, listRight, mayFollow};
@@ -145,9 +146,9 @@ pub fn next_hint(entries: &[u32], i: usize, hint: Hint) -> usize
 
 // Whether a divert is neither external nor by variable.
 fn is_plain(node: NodeRecord) -> bool
-    ensures { λ r. ⌜ r ≡ (not (eqb (node .f6 / 2 % 2) 1) && absent (node .f3) (node .f4)) ⌝ }
+    ensures { λ r. ⌜ r ≡ (not (external node) && absent (node .f3) (node .f4)) ⌝ }
 {
-    if node.f6 / 2 % 2 == 1 {
+    if node.f6 / 2 % 2 != 0 {
         return false;
     }
     if node.f3 != NONE {

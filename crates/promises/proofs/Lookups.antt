@@ -19,17 +19,19 @@ use Rattle.load.specs.declared.Loaded.the-variants.{View}
 use Rattle.load.specs.Load.{loadRule, loadedOf}
 use Rattle.views.specs.declared.Found.the-variants as found
 use Rattle.views.specs.View.{signed}
+use Rattle.views.proofs.Given.{found-given, found-refused}
 use Rattle.lookups.specs.declared.ListItem.{ListItem}
 use Rattle.lookups.specs.declared.ListItemAnswer.{ListItemAnswer}
 use Rattle.lookups.specs.declared.ListItemAnswer.the-variants as listed
 use Rattle.lookups.specs.Lookup.{findNamed, lastItem, listItem}
 use Rattle.lookups.specs.Plain.{HasName, NodeNamed, NamedLookup, Holds, LastHolds, ItemLookup}
 use Rattle.lookups.proofs.Plain.{named-read, passed-items-read}
+use Rattle.lookups.proofs.Given.{listed-given, listed-refused}
 use Rattle.list_items.proofs.Plain.{same-answer, search-counted}
 use Rattle.promises.specs.Answers.{Answer, given, ofLoaded, ofFound, ofListItem}
 use Rattle.promises.specs.Rules.{Iff}
 use Rattle.promises.specs.Lookups.{NamedFound, ItemFound, Lookups, AcceptedLookups}
-use Rattle.promises.proofs.Answers.{found-given, found-refused, listed-given, listed-refused, loaded-given}
+use Rattle.promises.proofs.Answers.{loaded-given}
 use Rattle.promises.proofs.Acceptance.{RowsPassed, load-accepted, accepted-passed}
 use Rattle.promises.proofs.Fields.{node-right}
 use Rattle.promises.proofs.Premises.{Kept, load-kept}

@@ -65,7 +65,7 @@ module _ (s : Sections) (ws : List ℕ) (a : SameTree s ws) where
   same-step i Broken = refl
 
   pub same : SameSteps r s
-  same = record { nodes = same-inside s ws a; containers = same-box s ws a; parents = same-parent; steps = same-step }
+  same = record { nodes = same-inside s ws a; containers = same-box s ws a; steps = same-step }
 
 pub resolved-walks : ResolvedWalks
 resolved-walks ink s p work h = same-walks _ s (same s _ (same-tree s p (taken ink s p work h .whole)))

@@ -15,6 +15,7 @@ use Rattle.written_views.specs.Views.{SameViews, WrittenViews, WrittenRe
 use Rattle.written_views.proofs.Texts.{numbers-same}
 use Rattle.written_views.proofs.Nodes.{node-same}
 use Rattle.written_views.proofs.Definitions.{definition-same, each-item-same}
+use Rattle.written_views.proofs.Walks.{walks-same, absolute-same}
 
 pub views-same : {s : Sections} {order : List ℕ} {kept : List (List ℕ)} → Given s order kept → SameViews s (w s order kept) order
 views-same {s} {order} {kept} g =
@@ -22,6 +23,8 @@ views-same {s} {order} {kept} g =
       numbers = numbers-same g;
       node-count = counted g;
       nodes = λ j h. node-same g j (omega (arith, counted g));
+      walks = walks-same g;
+      absolute-walks = absolute-same g;
       definition-count = definition-count s order kept;
       definitions = λ d h. definition-same g d (omega (arith, definition-count s order kept));
       item-count = item-count s order kept;
