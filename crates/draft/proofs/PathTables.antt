@@ -21,11 +21,9 @@ use Rattle.records.specs.Shown.{sumsBefore, sumsAfter}
 use Rattle.records.proofs.ByKind.{after-other}
 use Rattle.records.proofs.PassedRules.{sums-other, shown-sums}
 use Rattle.tree.specs.Parts.{Fit}
-use Rattle.draft.specs.declared.path_list.PathPlace.{PathPlace}
-use Rattle.draft.specs.declared.path_list.PathPlace.the-variants.{At, Nowhere}
 use Rattle.draft.specs.Draft.{draftNodeRule, tablesRule}
 use Rattle.draft.specs.PathList.{pathOf, listed, mayFollow, plainDivert, follows, withoutTarget, pathFieldsRule, pathNodeRule, pathTablesRule}
-use Rattle.draft.specs.PathEntries.{foundPath, followerRight}
+use Rattle.draft.specs.PathEntries.{followerRight}
 use Rattle.draft.specs.Shown.{TablesPassed}
 use Rattle.draft.proofs.Rules.{Entries, TablesBy, tables-by, whole-by, tables-fit}
 use Rattle.draft.proofs.Row21.{tables-passed}
@@ -103,14 +101,6 @@ module _ (s : Sections) (entries : List ℕ) (i : ℕ) where
           let o : r .tag ≡ 12 → ⊥ = λ e. no-list _ t (sym tag-is ∙ e) in
           sym (after-other u r d o) ∙ sums-other s i u r q n d o
       by false h = shown-sums s i u r q n (sym (path-fields-own h) ∙ p)
-
--- whether it follows, by what the search for its entry has found
-module _ (entries : List ℕ) (i : ℕ) (place : PathPlace) (e : foundPath place ≡ pathOf entries i) (node : NodeRecord) where
-  pub follows-found : (k : ℕ) → place ≡ At k → (b : Bool) → b ≡ mayFollow node → b ≡ (listed entries i && mayFollow node)
-  follows-found k p b h = rw (← e, p) h
-
-  pub follows-nowhere : place ≡ Nowhere → false ≡ (listed entries i && mayFollow node)
-  follows-nowhere p = rw (← e, p) refl
 
 -- ---- the fields of a node that follows a path, the target aside, by the tests that the code makes
 
