@@ -43,7 +43,7 @@ use Rattle.promises.proofs.Nodes.{reaches, child-range, named-range, ch
 use Rattle.promises.proofs.Premises.{Kept, load-kept, a-node}
 use Rattle.promises.proofs.Entries.{item-owner}
 use Rattle.promises.proofs.Whole.{right-whole, view-whole, view-read}
-use Rattle.promises.proofs.Walks.{walk-inside, absolute-walk, no-walk}
+use Rattle.promises.proofs.Walks.{walk-inside}
 
 -- ---- words that may be absent
 
@@ -264,8 +264,8 @@ module _ (s : Sections) (g : Kept s) where
       record {
         nodes = reads s g;
         walks = λ relative origin cs n e. walk-read n (walk-inside s g relative origin cs n (found-given (resolve s relative origin cs) n e));
-        absolute-walk = absolute-walk s;
-        no-walk = no-walk s;
+        absolute-walk = λ origin cs. unfold resolve in rw (node-inside s g 0 (g .some), eq-eqb (tagOf s 0) 1 (g .rules .root-container));
+        no-walk = λ origin h cs. unfold resolve in rw (le-ltb origin (nodeCount s) h);
         no-depth = no-depth s g;
         no-slot = no-slot s g;
         definitions = definition-read;

@@ -1,19 +1,16 @@
 -- A walk on an accepted image ends at a node.
-use Prim.Native.Nat.{ℕ, _+_, _≤_, _<_}
-use mathlib.Core.Path.{_≡_, refl, sym, ap, _∙_, subst}
+use Prim.Native.Nat.{ℕ, _+_, _<_}
+use mathlib.Core.Path.{_≡_, sym, ap, _∙_, subst}
 use mathlib.Core.List.{List}
-use mathlib.Core.Bool.{Bool, true, false}
+use mathlib.Core.Bool.{Bool, true}
 use native.Mathlib.Omega.{arith}
-use borrow.Author.Tests.{le-ltb}
 use Rattle.image.specs.Sections.{Sections, nodeCount, childCount, f, childWord, namedWord, inside}
-use Rattle.image.specs.Refusals.{notFound}
 use Rattle.image.proofs.Tests.{inside-true}
 use Rattle.records.specs.Records.{numberOfChildren}
 use Rattle.tree.proofs.Entries.{child-container}
 use Rattle.views.specs.declared.Found.the-variants.{Node}
 use Rattle.walks.specs.Walk.{Component, resolve}
 use Rattle.walks.proofs.WalkEnds.{Leads, found-inside}
-use Rattle.promises.specs.Answers.{refused, ofFound}
 use Rattle.promises.proofs.Premises.{Kept}
 use Rattle.promises.proofs.Fields.{right-node}
 use Rattle.promises.proofs.Counts.{owner}
@@ -40,11 +37,3 @@ module _ (s : Sections) (g : Kept s) where
 
   pub walk-inside : (relative : Bool) (origin : ℕ) (cs : List Component) (n : ℕ) → resolve s relative origin cs ≡ Node n → n < nodeCount s
   walk-inside relative origin cs n e = inside-true (nodeCount s) n (found-inside s leads relative origin cs n e) .0
-
-pub absolute-walk : (s : Sections) (origin other : ℕ) (cs : List Component) → ofFound (resolve s false origin cs) ≡ ofFound (resolve s false other cs)
-unfolding resolve
-absolute-walk s origin other cs = refl
-
-pub no-walk : (s : Sections) (origin : ℕ) → nodeCount s ≤ origin → (cs : List Component) → ofFound (resolve s true origin cs) ≡ refused notFound
-unfolding resolve
-no-walk s origin h cs = rw (le-ltb origin (nodeCount s) h)

@@ -218,8 +218,8 @@ pub record ImageReads (s : Sections) : Type 0 where
   pub nodes : (i : ℕ) → i < nodeCount s → Reads s i
   -- of every walk that finds something, whatever the origin and the components
   pub walks : (relative : Bool) (origin : ℕ) (cs : List Component) (n : ℕ) → ofFound (resolve s relative origin cs) ≡ given n → WalkRead s n
-  -- an absolute walk needs no origin; a relative one finds nothing from past the last node
-  pub absolute-walk : (origin other : ℕ) (cs : List Component) → ofFound (resolve s false origin cs) ≡ ofFound (resolve s false other cs)
+  -- an absolute walk needs no origin: it is the relative one from node 0; from past the last node a relative one finds nothing
+  pub absolute-walk : (origin : ℕ) (cs : List Component) → ofFound (resolve s false origin cs) ≡ ofFound (resolve s true 0 cs)
   pub no-walk : (origin : ℕ) → nodeCount s ≤ origin → (cs : List Component) → ofFound (resolve s true origin cs) ≡ refused notFound
   -- past the last node there is no depth, and a slot is 18 and eleven zeros
   pub no-depth : (i : ℕ) → nodeCount s ≤ i → ofCount (depthOf s i) ≡ refused notFound

@@ -189,15 +189,14 @@ module _ {s : Sections} {order : List ℕ} {kept : List (List ℕ)} (g : Given s
 
   -- ---- walks
 
-  answered-anew : (x : Found) → ofFound (found x) ≡ renumberedAnswer order (ofFound x)
-  answered-anew (Node n) = refl
-  answered-anew NotFound = refl
-
-  pub walks-same : (relative : Bool) (origin : ℕ) (cs : List Component)
-      → ofFound (resolve t relative (newOf order origin) cs) ≡ renumberedAnswer order (ofFound (resolve s relative origin cs))
-  walks-same relative origin cs =
-      ap ofFound (renumbered-walks s t (newOf order) steps-same relative origin cs) ∙ answered-anew (resolve s relative origin cs)
+  pub walk-same : (relative : Bool) (origin : ℕ) (cs : List Component) → resolve t relative (newOf order origin) cs ≡ found (resolve s relative origin cs)
+  walk-same = renumbered-walks s t (newOf order) steps-same
 
   -- an absolute walk does not ask for its origin
-  pub absolute-same : (origin other : ℕ) (cs : List Component) → ofFound (resolve t false other cs) ≡ renumberedAnswer order (ofFound (resolve s false origin cs))
-  absolute-same origin other cs = unfold resolve in walks-same false origin cs
+  pub absolute-same : (origin other : ℕ) (cs : List Component) → resolve t false other cs ≡ found (resolve s false origin cs)
+  absolute-same origin other cs = unfold resolve in walk-same false origin cs
+
+-- by number and value
+pub answered-anew : (order : List ℕ) (x : Found) → ofFound (foundAs (newOf order) x) ≡ renumberedAnswer order (ofFound x)
+answered-anew order (Node n) = refl
+answered-anew order NotFound = refl
