@@ -1,16 +1,14 @@
 -- The numbers that exported functions return.
 use Prim.Native.Nat.{ℕ}
-use mathlib.Core.Path.{_≡_, refl, ap, _∙_}
+use mathlib.Core.Path.{ap, _∙_}
 use mathlib.Core.List.{List}
-use mathlib.Core.Bool.{cond}
 use mathlib.Core.Option.{Option, none, some}
 use lib.ListN.{length}
-use Rattle.laws.specs.Refusal.{unless}
 use Rattle.laws.specs.Lists.{has}
 use Rattle.answers.specs.AnswerWords.{numberOf}
 use Rattle.pages.specs.Page.{pageRule}
 use Rattle.refusal_numbers.specs.Numbers.{queryNumbers, encodeNumbers}
-use Rattle.refusal_numbers.proofs.OneOf.{In, there, among, numbers}
+use Rattle.refusal_numbers.proofs.OneOf.{In, among, numbers}
 use Rattle.refusal_numbers.proofs.Loads.{load-numbers}
 use Rattle.refusal_numbers.proofs.Drafts.{encode-numbers, resolve-numbers}
 use Rattle.story_image.specs.Queries.{pageNumber}
