@@ -23,7 +23,7 @@
 //! | 18 list item | number, definition, item among all, value, name's length, name |
 //! | 19 walk | origin, relative, number, node, number of components, three words each, names' length, names |
 //! | 20 draft | ink version, number, lengths of nodes, children, named, definitions, items (in words), payload, strings, image (in bytes), then all of these; no image where the number is not 0; the number 21 says that the Rust refuses, and that only refusal is compared |
-//! | 21 targets | ink version, number, lengths of nodes, children, named, definitions, items (in words), payload, strings (in bytes), of the paths' entries, components (in words) and names (in bytes), then all of these, and the nodes after the call |
+//! | 21 targets | ink version, number, lengths of nodes, children, named, definitions, items (in words), payload, strings (in bytes), of the paths' entries, components (in words) and names (in bytes), then all of these, and the nodes after the call, unchanged where the number is not 0 |
 
 mod targets;
 
