@@ -26,8 +26,8 @@ pub fn text(image: &Image<'_>, choice: u32) -> Option<String> {
     Some(text.trim().to_owned()).filter(|text| !text.is_empty())
 }
 
-/// What stands between the `ev` and the `/ev` in front of a choice. Nothing if another choice comes between: so each node
-/// is looked at for one choice only.
+/// What stands from an `ev` to its `/ev`, the latter just in front of a choice. Nothing if another choice comes between: so
+/// each node is looked at for one choice only.
 fn evaluated<'a>(image: &Image<'a>, container: u32, place: u32) -> Option<Vec<Kind<'a>>> {
     let (mut kinds, mut open) = (vec![], 0);
     for place in (0..place).rev() {
@@ -35,20 +35,17 @@ fn evaluated<'a>(image: &Image<'a>, container: u32, place: u32) -> Option<Vec<Ki
         match kind {
             Kind::Choice { .. } => return None,
             Kind::Command("/ev") => open += 1,
+            _ if open == 0 => return None,
             Kind::Command("ev") => open -= 1,
             _ => {}
         }
         kinds.push(kind);
         if open == 0 {
-            break;
+            kinds.reverse();
+            return Some(kinds);
         }
     }
-    // the last word in front of the choice is `/ev`, and its `ev` was found
-    if open != 0 || kinds.len() < 2 {
-        return None;
-    }
-    kinds.reverse();
-    Some(kinds)
+    None
 }
 
 /// The strings that are made, those in others left out; of one that is not plain nothing.

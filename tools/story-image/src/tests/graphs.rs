@@ -84,6 +84,7 @@ fn the_text_of_a_choice() {
     assert_eq!(label(4, &[ev, begin, text("a"), ev, out, end, close, end]), None);
     assert_eq!(label(4, &[ev, begin, text("a"), close, end, text("b")]), None);
     assert_eq!(label(4, &[begin, text("a"), close, end]), None);
+    assert_eq!(label(4, &[end, begin, text("a"), close, ev]), None);
     assert_eq!(label(4, &[]), None);
     assert_eq!(label(4, &[ev, begin, text("a"), close, end, begin, NodeKind::Glue, end]), None);
     // then its path
