@@ -43,9 +43,14 @@ fn run(words: &[OsString]) -> Result<Status, Fault> {
         Some("--help" | "-h") => help::overview(),
         Some("--version" | "-V") => help::version(),
         name => match name.and_then(commands::find) {
-            Some(command) if rest.iter().any(|word| word == "--help") => help::of(command),
+            Some(command) if asks_for_help(rest) => help::of(command),
             Some(command) => (command.run)(&Call::parse(command, rest)?),
             None => Err(Fault(format!("{}: no such command; see story-image help", first.to_string_lossy()))),
         },
     }
+}
+
+/// A command is called for its help alone.
+fn asks_for_help(words: &[OsString]) -> bool {
+    words.iter().take_while(|word| *word != "--").any(|word| word == "--help" || word == "-h")
 }
