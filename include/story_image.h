@@ -542,8 +542,8 @@ uint32_t story_image_write(uint32_t ink_version, const uint32_t *nodes, size_t n
  * 20; 21; then of the first node in number order that fails 25 (no node at its path) or 26 (no container, where a
  * choice, a reference, or a divert whose last component is no index needs one). Work words as for story_image_write:
  * numbers 3, 19 and 7 leave them, else as many as are needed are 0 on return. Following takes time by the components
- * of all paths, each path's counted. The tests go over the draft once where the nodes of `paths` rise; in another
- * order 19 looks for each node in the whole list. */
+ * of all paths, each path's counted. The tests go over the draft once; where the nodes of `paths` do not rise, 19 also
+ * goes over `paths` twice for each 32,768 nodes, and has 4,096 bytes of the stack for it. */
 uint32_t story_image_resolve_static_targets(uint32_t ink_version, uint32_t *nodes, size_t nodes_length,
                                             const uint32_t *children, size_t children_length, const uint32_t *named,
                                             size_t named_length, const uint32_t *definitions,

@@ -11,8 +11,8 @@ use crate::{NODE_WORDS, NONE};
 #[derive(Clone, Copy, Debug, Default, PartialEq, Eq)]
 pub struct Paths<'a> {
     /// Four words each: node, 0 for an absolute path or 1 for a relative one, first component, number of components.
-    /// Following takes time by the components, in any order of the nodes; the test of 19 takes nodes times paths if the
-    /// nodes do not rise.
+    /// In any order: following takes time by the components, and if the nodes do not rise, the test of 19 goes over the
+    /// entries twice for each 32,768 nodes of the draft.
     pub entries: &'a [u32],
     /// Three words each: 0, 0, 0 for the parent; 1, index, 0; 2, offset and length of a name in `names`.
     pub components: &'a [u32],
