@@ -5,7 +5,6 @@ use mathlib.Core.List.{List, []}
 use mathlib.Core.Logic.{_↔_}
 use mathlib.Core.Bool.{Bool, true, false, not, true≢false}
 use native.Mathlib.Omega.{arith}
-use lib.ListN.{length, getD}
 use borrow.Author.Tests.{eqb-true, eq-eqb, not-true, not-false}
 use Rattle.laws.specs.Refusal.{passes, _▸_, firstOf}
 use Rattle.laws.proofs.First.{first-all, first-of}
@@ -21,7 +20,7 @@ use Rattle.draft.proofs.PathTables.{PathTables, path-tables, path-passed}
 use Rattle.draft_tree.specs.Standing.{Listed, child, named, Rooted}
 use Rattle.draft_tree.specs.Listing.{Markable, AllListed}
 use Rattle.draft_tree.specs.Climbing.{AllMarked}
-use Rattle.draft_tree.specs.Testing.{Testable, Told}
+use Rattle.draft_tree.specs.Testing.{Testable}
 use Rattle.draft_tree.proofs.Climbs.{rooted-same}
 use Rattle.draft_tree.proofs.RightTree.{stands-yes, stands-no, few-nodes}
 
