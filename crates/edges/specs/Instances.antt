@@ -60,24 +60,21 @@ never-lines =
 
 -- ---- the base's rule
 
-unfoldable pub dot3 : List ℕ
+-- place 3 filed as `.3`, which is 16 now
+abbrev pub dot3 : List ℕ
 dot3 = imageOf 21 (withPlace3 (ascii ".3") 2)
 
 pub record BaseLines : Type 0 where
-  pub place-3 : baseRule (imageOf 21 (withPlace3 (ascii "3") 1)) 10 ≡ 0
   pub dot-3 : baseRule dot3 10 ≡ 0
-  pub dot-3-now : loadRule dot3 10 ≡ 16
   pub zero-3 : baseRule (imageOf 21 (withPlace3 (ascii "03") 2)) 10 ≡ 16
   pub dot-a : baseRule (imageOf 21 (withA (ascii "a.a") 1 2)) 4 ≡ 16
   pub no-place : baseRule (imageOf 21 (aloneWithoutPlace NONE NONE (ascii "4294967295"))) 4 ≡ 0
 
 base-lines : BaseLines
-unfolding examples encodings baseLoads dot3
+unfolding examples encodings baseLoads
 base-lines =
     record {
-      place-3 = refl;
       dot-3 = refl;
-      dot-3-now = refl;
       zero-3 = refl;
       dot-a = refl;
       no-place = refl;
@@ -94,7 +91,7 @@ pub added-lines : AddedLines
 added-lines =
     record {
       computed = base-lines;
-      not-spelt = λ o. apart (sym (base-lines .dot-3-now) ∙ rule-added dot3 10 .accepts .1 (base-lines .dot-3, o));
+      not-spelt = λ o. apart (sym (edges .places .place-dot-3-image) ∙ rule-added dot3 10 .accepts .1 (base-lines .dot-3, o));
       smallest = rule-added smallestImage 2 .accepts .0 (edges .smallest .smallest-accepted) .0;
     }
   where
