@@ -324,7 +324,7 @@ enum { /* story_image_definition_item */
     STORY_IMAGE_DEFINITION_ITEM_VALUE,
     STORY_IMAGE_DEFINITION_ITEM_WORDS
 };
-enum { /* story_image_list_item */
+enum { /* story_image_find_list_item */
     STORY_IMAGE_LIST_ITEM_DEFINITION,
     STORY_IMAGE_LIST_ITEM_ITEM,
     STORY_IMAGE_LIST_ITEM_VALUE,
@@ -473,7 +473,7 @@ uint32_t story_image_definition_item(const uint8_t *bytes, size_t length, const 
                                      uint32_t index, uint32_t item, uint32_t *answer, size_t answer_length);
 
 /* STORY_IMAGE_COUNT_WORDS words: the number, among the items of all definitions, of a definition's first item. What
- * story_image_list_item gives, less this, is the item's index in its definition. */
+ * story_image_find_list_item gives, less this, is the item's index in its definition. */
 uint32_t story_image_definition_first_item(const uint8_t *bytes, size_t length, const uint32_t *view,
                                            size_t view_length, uint32_t index, uint32_t *answer, size_t answer_length);
 
@@ -485,9 +485,9 @@ uint32_t story_image_definition_first_item(const uint8_t *bytes, size_t length, 
  * what stands before the first dot is the name of a definition, else 0; 0 for a name that is empty or White_Space
  * alone. A definition without items counts as searched. Where no word is lent no count is written. Under a view of too
  * few words 18, and neither answer nor count is written. */
-uint32_t story_image_list_item(const uint8_t *bytes, size_t length, const uint32_t *view, size_t view_length,
-                               const uint8_t *name, size_t name_length, uint32_t *answer, size_t answer_length,
-                               uint32_t *searched, size_t searched_length);
+uint32_t story_image_find_list_item(const uint8_t *bytes, size_t length, const uint32_t *view, size_t view_length,
+                                    const uint8_t *name, size_t name_length, uint32_t *answer, size_t answer_length,
+                                    uint32_t *searched, size_t searched_length);
 
 /* STORY_IMAGE_FOUND_WORDS words: the node at the end of a path of STORY_IMAGE_STEP_WORDS words a component. Not
  * relative: the walk starts at the root, and `origin` is not looked at. Relative: the walk starts at `origin` if that
