@@ -368,10 +368,10 @@ enum {
  * length / 4, whatever the header says; 0 where a load refuses the header (1 to 5), and so needs none. */
 size_t story_image_load_words(const uint8_t *bytes, size_t length);
 
-/* Tests the whole image. 0, and the view's STORY_IMAGE_VIEW_WORDS words. Or one of 1 to 17, and the view stays as it
- * was. With story_image_load_words(bytes) work words, and also with length / 4, 7 is not given. Numbers 1 to 7 leave
- * all work words as they were, else as many as are needed are 0 on return. A view of fewer words counts as a lack of
- * work words: 7, after rows 1 to 6. */
+/* Tests the whole image. 0, and the view's STORY_IMAGE_VIEW_WORDS words. Or 1 to 17, and the view stays as it was.
+ * With story_image_load_words(bytes) work words, and also with length / 4, 7 is not given. Numbers 1 to 7 leave all
+ * work words as they were, else as many as are needed are 0 on return. A view of fewer words counts as a lack of work
+ * words: 7, after rows 1 to 6. */
 uint32_t story_image_load(const uint8_t *bytes, size_t length, uint32_t *work, size_t work_length, uint32_t *view,
                           size_t view_length);
 
@@ -495,14 +495,15 @@ uint32_t story_image_find_list_item(const uint8_t *bytes, size_t length, const u
  * is a container. From any other node it starts at that node's parent, and the first component is skipped without
  * being read: a relative path of such a node begins with the step up to its parent. Then each component leads on: to
  * the parent (18 at the root), to the ordered child at an index, to the named child that bears a name. An unknown
- * kind, a name outside the lent names, or one or two words left over at the end give 18 when the walk comes to them. */
+ * kind, a name outside the lent names, or one or two words left over at the end give 18 when the walk comes to them. On
+ * accepted bytes the node is below the node count. */
 uint32_t story_image_resolve_path(const uint8_t *bytes, size_t length, const uint32_t *view, size_t view_length,
                                   uint32_t origin, bool relative, const uint32_t *path, size_t path_length,
                                   const uint8_t *names, size_t names_length, uint32_t *answer, size_t answer_length);
 
 /* The text of a command's, of an operator's number at the start of `text`, and its length as the first word of `size`;
- * STORY_IMAGE_NAME_BYTES bytes suffice, and no byte 0 is written behind it. 0; or 18 for a number that is none; or 23
- * where text or size is too short. But for 0 both stay as they were. */
+ * STORY_IMAGE_NAME_BYTES bytes suffice, and no byte 0 is written behind it. 0; 18 for a number that is none; 23 where
+ * text or size is too short. But for 0 both stay as they were. */
 uint32_t story_image_command_name(uint32_t number, uint8_t *text, size_t text_length, uint32_t *size,
                                   size_t size_length);
 uint32_t story_image_operator_name(uint32_t number, uint8_t *text, size_t text_length, uint32_t *size,
@@ -518,12 +519,12 @@ size_t story_image_write_words(const uint32_t *nodes, size_t nodes_length, const
 /* Writes the image of a draft at the start of the output: sections 0 to 4 as words (nodes, children, named entries,
  * definitions, items; lengths are counts of words), payload and strings as bytes; any numbering with root 0, texts
  * anywhere in the strings. Children, named entries and payloads lie in the order of the nodes that have them. 0, and
- * the image's length as the first of the written words. Or 3, 7, 19, 20, 21, 22 or 23, and the output stays as it
- * was. With 23 the first of the written words is the length that the image needs, so a call with an output of length
- * 0 asks for it; an image of more than 4294967295 bytes and every other number leave the word as it was (0 before
- * the call tells this apart: no image is empty). Work words needed: story_image_write_words; numbers 3, 19 and 7
- * leave all work words as they were, else as many as are needed are 0 on return. No word for the length counts as a
- * lack of work words: 7, after 3 and 19. */
+ * the image's length as the first of the written words. Or 3, 7, 19 to 23, and the output stays as it was. With 23 the
+ * first of the written words is the length that the image needs, so a call with an output of length 0 asks for it; an
+ * image of more than 4294967295 bytes and every other number leave the word as it was (0 before the call tells this
+ * apart: no image is empty). Work words needed: story_image_write_words; numbers 3, 19 and 7 leave all work words as
+ * they were, else as many as are needed are 0 on return. No word for the length counts as a lack of work words: 7,
+ * after 3 and 19. */
 uint32_t story_image_write(uint32_t ink_version, const uint32_t *nodes, size_t nodes_length, const uint32_t *children,
                            size_t children_length, const uint32_t *named, size_t named_length,
                            const uint32_t *definitions, size_t definitions_length, const uint32_t *items,
@@ -535,16 +536,16 @@ uint32_t story_image_write(uint32_t ink_version, const uint32_t *nodes, size_t n
  * items, payload and strings are a draft's, as story_image_write takes them. Paths come beside it: `paths` has
  * STORY_IMAGE_PATH_WORDS words a path (node, 0 for an absolute path or 1 for a relative one, first component, number
  * of components), `components` STORY_IMAGE_STEP_WORDS words a component and `names` the bytes of names, as
- * story_image_resolve_path takes them. A path is followed if its node is a choice, a divert-target value, a
- * reference, or a divert that is neither external nor by variable; other nodes are passed over. The target word of a
- * node that follows a path may be any word. 0: each such node has the node at the end of its path as target, and its
- * path text is absent, but a divert-target value keeps its text; no other word changes. Or a number, and every word
- * of the draft stays: 3, 7, 19, 20, 21, 25 or 26. In this order: 3; 19, also for broken entries of `paths`, a node
- * outside or twice, a flag above 1, components outside; 7; 20; 21; then of the first node in number order that fails
- * 25 (no node at its path) or 26 (no container, where a choice, a reference, or a divert whose last component is no
- * index needs one). Work words as for story_image_write: numbers 3, 19 and 7 leave them, else as many as are needed
- * are 0 on return. Following takes time by the components of all paths, each path's counted. The nodes of `paths`
- * may come in any order; where they do not rise, 19 reads the list once for every 32768 nodes of the draft. */
+ * story_image_resolve_path takes them. A path is followed if its node is a choice, a divert-target value, a reference,
+ * or a divert that is neither external nor by variable; other nodes are passed over. The target word of a node that
+ * follows a path may be any word. 0: each such node has the node at the end of its path as target, and its path text
+ * is absent, but a divert-target value keeps its text; no other word changes. Or a number, and every word of the draft
+ * stays: 3; 19, also for broken entries of `paths`, a node outside or twice, a flag above 1, components outside; 7;
+ * 20; 21; then of the first node in number order that fails 25 (no node at its path) or 26 (no container, where a
+ * choice, a reference, or a divert whose last component is no index needs one). Work words as for story_image_write:
+ * numbers 3, 19 and 7 leave them, else as many as are needed are 0 on return. Following takes time by the components
+ * of all paths, each path's counted. The tests go over the draft once where the nodes of `paths` rise; in another
+ * order 19 looks for each node in the whole list. */
 uint32_t story_image_resolve_static_targets(uint32_t ink_version, uint32_t *nodes, size_t nodes_length,
                                             const uint32_t *children, size_t children_length, const uint32_t *named,
                                             size_t named_length, const uint32_t *definitions,
