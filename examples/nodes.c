@@ -32,8 +32,8 @@ static int print_nodes(void) {
 static void print_item(const char *name) {
     uint32_t item[STORY_IMAGE_LIST_ITEM_WORDS], searched;
     uint32_t number =
-        story_image_list_item(bytes, length, view, STORY_IMAGE_VIEW_WORDS, (const uint8_t *)name, strlen(name), item,
-                              STORY_IMAGE_LIST_ITEM_WORDS, &searched, STORY_IMAGE_COUNT_WORDS);
+        story_image_find_list_item(bytes, length, view, STORY_IMAGE_VIEW_WORDS, (const uint8_t *)name, strlen(name),
+                                   item, STORY_IMAGE_LIST_ITEM_WORDS, &searched, STORY_IMAGE_COUNT_WORDS);
     printf("%s: ", name);
     if (number == 0)
         printf("%" PRId32, (int32_t)item[STORY_IMAGE_LIST_ITEM_VALUE]);

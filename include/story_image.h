@@ -52,7 +52,8 @@ extern "C" {
 #define STORY_IMAGE_FIRST_INK_VERSION 18
 #define STORY_IMAGE_LAST_INK_VERSION 21
 
-/* Numbers that a function returns: the first rule that is broken, in the fixed order of docs/FORMAT.md. */
+/* Numbers that a function returns: the first rule that is broken, in the fixed order of docs/FORMAT.md. Which of them a
+ * function can return is said at each; that it returns no other is proved (docs/PROMISES.md, `ExportNumbers`). */
 enum {
     STORY_IMAGE_OK = 0,              /* nothing is refused */
     /* of a load */
@@ -324,7 +325,7 @@ enum { /* story_image_definition_item */
     STORY_IMAGE_DEFINITION_ITEM_VALUE,
     STORY_IMAGE_DEFINITION_ITEM_WORDS
 };
-enum { /* story_image_list_item */
+enum { /* story_image_find_list_item */
     STORY_IMAGE_LIST_ITEM_DEFINITION,
     STORY_IMAGE_LIST_ITEM_ITEM,
     STORY_IMAGE_LIST_ITEM_VALUE,
@@ -375,7 +376,7 @@ uint32_t story_image_load(const uint8_t *bytes, size_t length, uint32_t *work, s
                           size_t view_length);
 
 /* Queries. Each returns 0 and writes its words at the start of the answer, or returns 18 and leaves the answer as it
- * was; story_image_page, which has slots for its answer, also gives 24. The view is lent as the words that
+ * was; story_image_page, which has slots for its answer, returns 0, 18 or 24. The view is lent as the words that
  * story_image_load wrote. A view of fewer than STORY_IMAGE_VIEW_WORDS words, or an answer too short for the query's
  * words, gives 18, as 'no such node' does: story_image_view_whole tells the first apart, and how many words an answer
  * has is fixed for each query. Any bytes and any view may be asked: a section outside the bytes counts as empty, and an
@@ -384,8 +385,8 @@ uint32_t story_image_load(const uint8_t *bytes, size_t length, uint32_t *work, s
  * A text is an offset and a length in the strings; story_image_text gives its place in the bytes. A signed value is
  * handed over as its 32 bits: (int32_t)word. A float's bits are copied into one with memcpy. */
 
-/* Whether a view has at least STORY_IMAGE_VIEW_WORDS words. Under such a view, and with an answer that holds the
- * query's words, a query returns 18 only if there is nothing to answer. */
+/* Whether a view has at least STORY_IMAGE_VIEW_WORDS words. On accepted bytes, under the view that their load wrote,
+ * and with an answer that holds the query's words, a query returns 18 only if there is nothing to answer. */
 bool story_image_view_whole(const uint32_t *view, size_t view_length);
 
 /* STORY_IMAGE_NODE_WORDS words: the view of a node. */
@@ -473,7 +474,7 @@ uint32_t story_image_definition_item(const uint8_t *bytes, size_t length, const 
                                      uint32_t index, uint32_t item, uint32_t *answer, size_t answer_length);
 
 /* STORY_IMAGE_COUNT_WORDS words: the number, among the items of all definitions, of a definition's first item. What
- * story_image_list_item gives, less this, is the item's index in its definition. */
+ * story_image_find_list_item gives, less this, is the item's index in its definition. */
 uint32_t story_image_definition_first_item(const uint8_t *bytes, size_t length, const uint32_t *view,
                                            size_t view_length, uint32_t index, uint32_t *answer, size_t answer_length);
 
@@ -485,16 +486,17 @@ uint32_t story_image_definition_first_item(const uint8_t *bytes, size_t length, 
  * what stands before the first dot is the name of a definition, else 0; 0 for a name that is empty or White_Space
  * alone. A definition without items counts as searched. Where no word is lent no count is written. Under a view of too
  * few words 18, and neither answer nor count is written. */
-uint32_t story_image_list_item(const uint8_t *bytes, size_t length, const uint32_t *view, size_t view_length,
-                               const uint8_t *name, size_t name_length, uint32_t *answer, size_t answer_length,
-                               uint32_t *searched, size_t searched_length);
+uint32_t story_image_find_list_item(const uint8_t *bytes, size_t length, const uint32_t *view, size_t view_length,
+                                    const uint8_t *name, size_t name_length, uint32_t *answer, size_t answer_length,
+                                    uint32_t *searched, size_t searched_length);
 
 /* STORY_IMAGE_FOUND_WORDS words: the node at the end of a path of STORY_IMAGE_STEP_WORDS words a component. Not
  * relative: the walk starts at the root, and `origin` is not looked at. Relative: the walk starts at `origin` if that
  * is a container. From any other node it starts at that node's parent, and the first component is skipped without
  * being read: a relative path of such a node begins with the step up to its parent. Then each component leads on: to
  * the parent (18 at the root), to the ordered child at an index, to the named child that bears a name. An unknown
- * kind, a name outside the lent names, or one or two words left over at the end give 18 when the walk comes to them. */
+ * kind, a name outside the lent names, or one or two words left over at the end give 18 when the walk comes to them. On
+ * accepted bytes the node is below the node count. */
 uint32_t story_image_resolve_path(const uint8_t *bytes, size_t length, const uint32_t *view, size_t view_length,
                                   uint32_t origin, bool relative, const uint32_t *path, size_t path_length,
                                   const uint8_t *names, size_t names_length, uint32_t *answer, size_t answer_length);

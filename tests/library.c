@@ -283,8 +283,8 @@ static uint32_t view_by_page(const struct image *image, size_t view_length, uint
 static uint32_t search(const struct image *image, size_t view_length, const struct asked *asked, uint32_t *answer,
                        size_t answer_length, uint32_t *searched) {
     uint32_t *words = marked(2);
-    uint32_t number = story_image_list_item(image->bytes, image->length, image->view, view_length, asked->name,
-                                            asked->name_length, answer, answer_length, words, 2);
+    uint32_t number = story_image_find_list_item(image->bytes, image->length, image->view, view_length, asked->name,
+                                                 asked->name_length, answer, answer_length, words, 2);
     if (view_length < STORY_IMAGE_VIEW_WORDS)
         CHECK(words[0] == MARK, "a short view leaves the count");
     else
@@ -1108,8 +1108,8 @@ static uint32_t by_name(const struct image *image, size_t view_length, const cha
     size_t length = strlen(name);
     uint8_t *bytes = (uint8_t *)room(length);
     memcpy(bytes, name, length);
-    uint32_t number = story_image_list_item(image->bytes, image->length, image->view, view_length, bytes, length,
-                                            answer, answer_length, searched, searched_length);
+    uint32_t number = story_image_find_list_item(image->bytes, image->length, image->view, view_length, bytes, length,
+                                                 answer, answer_length, searched, searched_length);
     free(bytes);
     return number;
 }

@@ -1,12 +1,12 @@
--- `story_image::lists::story_image_list_item` meets its contract.
+-- `story_image::lists::story_image_find_list_item` meets its contract.
 use mathlib.Core.Path.{ap}
 use denote.Ref.{now}
 use Rattle.list_items.specs.declared.ItemSearch.{ItemSearch}
 use Rattle.answers.specs.AnswerWords.{listItemAnswer}
 use Rattle.story_image.proofs.Views.{no-view, asked, searched-without, searched-under}
 use borrow.Author.Needs.{needs}
-use Rattle.story_image.proofs.lists.story_image_list_item.Statement.{statement}
-use Rattle.story_image.proofs.lists.story_image_list_item.Tie as tie
+use Rattle.story_image.proofs.lists.story_image_find_list_item.Statement.{statement}
+use Rattle.story_image.proofs.lists.story_image_find_list_item.Tie as tie
 
 returns : tie.Need-returns
 returns c =
@@ -37,8 +37,8 @@ returns-2 c =
     let put = c .before .before .before .before .put-search .ensures in
     (asked (now (a .view)) _ _ _ _ long _ v _ (ap (λ (r : ItemSearch). listItemAnswer (r .answer)) search) (put .0), searched-under (now (a .bytes)) (now (a .view)) (now (a .name)) (now (a .searched)) long _ v _ search _ (put .1))
 
-pub story-image-list-item-spec : {M : Type 1} → statement M
-story-image-list-item-spec =
+pub story-image-find-list-item-spec : {M : Type 1} → statement M
+story-image-find-list-item-spec =
     tie.close
     (tie.spec
     returns
