@@ -5,6 +5,7 @@ use story_image::{Refusal, ffi};
 
 const NONE: u32 = u32::MAX;
 const VIEW_WORDS: usize = 17;
+const SLOT_WORDS: usize = 12;
 
 /// What the table of numbers says of a refusal.
 pub fn words(number: u32) -> &'static str {
@@ -72,6 +73,15 @@ pub enum Kind<'a> {
         target: Option<u32>,
     },
     Void,
+}
+
+/// What names a node.
+#[derive(Clone, Copy, Debug, PartialEq, Eq, Hash)]
+pub enum By {
+    Choice,
+    Divert,
+    DivertTarget,
+    ReadCount,
 }
 
 pub struct Divert<'a> {
@@ -179,13 +189,44 @@ impl<'a> Image<'a> {
         })
     }
 
+    /// The words of a node as the image holds them: parent, place, tag, f0 to f6, then zeros.
+    fn slot(&self, node: u32) -> Option<[u32; SLOT_WORDS]> {
+        let (bytes, view, mut slot) = (self.bytes, &self.view, [0; SLOT_WORDS]);
+        // SAFETY: as in `ask!`.
+        let number = unsafe {
+            let (view, words, slot) = (view.as_ptr(), VIEW_WORDS, slot.as_mut_ptr());
+            ffi::story_image_page(bytes.as_ptr(), bytes.len(), view, words, &node, 1, slot, SLOT_WORDS)
+        };
+        (number == 0 && slot[2] != 0).then_some(slot)
+    }
+
+    /// The node that a choice, a divert, a divert-target value or a read count names, and which of these names it.
+    pub fn target(&self, node: u32) -> Option<(By, u32)> {
+        let [_, _, tag, _, _, f2, _, f4, ..] = self.slot(node)?;
+        let (by, target) = match tag {
+            2 => (By::Choice, f2),
+            4 => (By::Divert, f2),
+            13 => (By::DivertTarget, f2),
+            17 => (By::ReadCount, f4),
+            _ => return None,
+        };
+        Some((by, optional(target)?))
+    }
+
+    /// The path text of a choice, which its view leaves out.
+    pub fn choice_path(&self, node: u32) -> Option<&'a str> {
+        let [_, _, tag, offset, length, ..] = self.slot(node)?;
+        if tag == 2 { self.text(offset, length) } else { None }
+    }
+
+    pub fn child(&self, node: u32, index: u32) -> Option<u32> {
+        let [child] = ask!(self, story_image_child_at, node, index)?;
+        Some(child)
+    }
+
     pub fn children(&self, node: u32) -> Vec<u32> {
         let [count] = ask!(self, story_image_child_count, node).unwrap_or([0]);
-        let child = |index| {
-            let [child] = ask!(self, story_image_child_at, node, index)?;
-            Some(child)
-        };
-        (0..count).filter_map(child).collect()
+        (0..count).filter_map(|index| self.child(node, index)).collect()
     }
 
     pub fn named_children(&self, node: u32) -> Vec<(&'a str, u32)> {

@@ -16,6 +16,7 @@ mod records;
 pub mod sections;
 mod tree;
 
+pub use header::VERSION as FORMAT_VERSION;
 pub use place::{Broken, Part, Place};
 
 /// All rules by number and name, in the order in which they are tested first.

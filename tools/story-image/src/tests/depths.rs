@@ -1,37 +1,23 @@
 //! The depth that the tree and the JSON show of a node is its nesting, and the number of parent steps to node 0.
 
-use inspect::{json, library, tree};
-use std::path::Path;
-use story_image::{DraftBuilder, NodeKind, Room};
-
-fn sample(name: &str) -> Vec<u8> {
-    let file = Path::new(env!("CARGO_MANIFEST_DIR")).join("../../samples").join(name);
-    std::fs::read(file).expect("a sample")
-}
+use super::{sample, written};
+use crate::depths::Depths;
+use crate::{json, tree};
+use inspect::library;
+use story_image::{DraftBuilder, NodeKind};
 
 /// Containers, each in the one before: node k has depth k. Every other one is only a named child.
 fn chain(containers: usize) -> Vec<u8> {
-    let room = Room {
-        nodes: &mut vec![0; 10 * containers],
-        children: &mut vec![0; containers],
-        named: &mut vec![0; 3 * containers],
-        strings: &mut vec![0; 2 * containers],
-        ..Room::default()
-    };
-    let mut draft = DraftBuilder::new(room).unwrap();
-    let mut last = DraftBuilder::ROOT;
-    for k in 1..containers {
-        last = if k % 2 == 0 {
-            draft.named_container(last, "a").unwrap()
-        } else {
-            draft.child(last, NodeKind::Container { name: None, count_flags: 0 }).unwrap()
-        };
-    }
-    let draft = draft.finish();
-    let mut work = vec![0; draft.work_words()];
-    let mut output = vec![0; draft.image_length(21, &mut work).unwrap()];
-    draft.write(21, &mut work, &mut output).unwrap();
-    output
+    written(containers, 2 * containers, |draft| {
+        let mut last = DraftBuilder::ROOT;
+        for k in 1..containers {
+            last = if k % 2 == 0 {
+                draft.named_container(last, "a").unwrap()
+            } else {
+                draft.child(last, NodeKind::Container { name: None, count_flags: 0 }).unwrap()
+            };
+        }
+    })
 }
 
 /// Depth, spaces in front and number of each node of the tree.
@@ -53,9 +39,7 @@ fn shown(bytes: &[u8]) -> Vec<(usize, usize, usize)> {
 
 /// Parent and depth of each node of the JSON, by number.
 fn members(bytes: &[u8]) -> Vec<(Option<usize>, usize)> {
-    let mut out = vec![];
-    json::json("-", bytes, &mut out).unwrap();
-    let text = String::from_utf8(out).unwrap();
+    let text = super::shown(json::show, bytes, &[]);
     let member = |node: &str, name: &str| {
         let (_, value) = node.split_once(&format!("\"{name}\":")).unwrap();
         value[..value.find(',').unwrap()].parse().ok()
@@ -87,4 +71,18 @@ fn a_chain() {
     let depths: Vec<_> = members(&chain(60)).iter().map(|(_, depth)| *depth).collect();
     assert_eq!(depths, (0..60).collect::<Vec<_>>());
     assert_eq!(shown(&chain(60)).last(), Some(&(59, 80, 59)));
+}
+
+/// However many steps the library is asked to take, and in whatever order.
+#[test]
+fn depths_by_parents_are_the_same() {
+    for bytes in [sample("guide.image"), chain(60)] {
+        let image = library::load(&bytes).unwrap();
+        for steps in [0, 1, 7, 100] {
+            let mut depths = Depths::with_steps(&image, steps);
+            for node in (0..image.node_count()).rev() {
+                assert_eq!(depths.of(&image, node), image.depth(node), "node {node}, {steps} steps");
+            }
+        }
+    }
 }

@@ -1,11 +1,35 @@
-//! The nodes of an accepted image as an indented tree.
+//! `tree`: the nodes of an accepted image as an indented tree.
 
-use crate::library::{Divert, Image, Kind, List};
-use crate::quoted;
+use crate::call::Call;
+use crate::depths::Depths;
+use crate::each::{Manner, Shown, each};
+use crate::end::{Fault, Status};
+use crate::explain;
+use inspect::library::{Divert, Image, Kind, List};
 use std::io::{self, Write};
+
+pub const MORE: &str = "\
+A line for each node: its depth, then, moved in by a step for each container around it, number, place or name in its
+container, kind, texts and targets; at the end the list definitions. Of a refused image what `explain` says.
+";
+
+pub fn run(call: &Call) -> Result<Status, Fault> {
+    each(call, &Manner { show, named: true, refusals: true })
+}
+
+pub fn show(shown: &Shown<'_>, out: &mut dyn Write) -> io::Result<()> {
+    let Ok(image) = &shown.loaded else { return explain::show(shown, out) };
+    writeln!(out, "{}", explain::answer(&shown.loaded))?;
+    tree(image, out)
+}
 
 /// Deeper lines are not moved further in; the depth in front says where they stand.
 const DEEPEST: usize = 40;
+
+/// A text in quotes, with what does not print escaped.
+fn quoted(text: &str) -> String {
+    format!("{text:?}")
+}
 
 /// How a node stands in its container.
 enum By<'a> {
@@ -16,13 +40,16 @@ enum By<'a> {
 
 /// One line a node: its depth, then, moved in by a step for each container around it, number, place or name in its
 /// container, kind and what it holds. A node that is met again is named only.
-pub fn tree(image: &Image<'_>, out: &mut impl Write) -> io::Result<()> {
+pub fn tree(image: &Image<'_>, out: &mut dyn Write) -> io::Result<()> {
     writeln!(out, "depth  node")?;
+    let mut depths = Depths::new(image);
     let mut seen = vec![false; image.node_count() as usize];
     let mut pending = vec![(0, 0, By::Root)];
     while let Some((node, level, by)) = pending.pop() {
         let again = std::mem::replace(&mut seen[node as usize], true);
-        line(image, node, level, &by, again, out)?;
+        let depth = depths.of(image, node).map_or("-".to_owned(), |depth| depth.to_string());
+        write!(out, "{depth:>5}  {:width$}", "", width = 2 * level.min(DEEPEST))?;
+        line(image, node, &by, again, out)?;
         if again {
             continue;
         }
@@ -36,9 +63,7 @@ pub fn tree(image: &Image<'_>, out: &mut impl Write) -> io::Result<()> {
     definitions(image, out)
 }
 
-fn line(image: &Image<'_>, node: u32, level: usize, by: &By<'_>, again: bool, out: &mut impl Write) -> io::Result<()> {
-    let depth = image.depth(node).map_or("-".to_owned(), |depth| depth.to_string());
-    write!(out, "{depth:>5}  {:width$}", "", width = 2 * level.min(DEEPEST))?;
+fn line(image: &Image<'_>, node: u32, by: &By<'_>, again: bool, out: &mut dyn Write) -> io::Result<()> {
     match by {
         By::Root => write!(out, "{node} ")?,
         By::Place(place) => write!(out, "{node} .{place} ")?,
@@ -46,13 +71,13 @@ fn line(image: &Image<'_>, node: u32, level: usize, by: &By<'_>, again: bool, ou
     }
     match image.node(node) {
         _ if again => writeln!(out, "see above"),
-        Some(view) => writeln!(out, "{}", shown(&view.kind)),
+        Some(view) => writeln!(out, "{}", words(&view.kind)),
         None => writeln!(out, "no view"),
     }
 }
 
 /// A kind and what it holds, in words.
-fn shown(kind: &Kind<'_>) -> String {
+fn words(kind: &Kind<'_>) -> String {
     let target = |target: &Option<u32>| target.map(|node| format!(" -> {node}")).unwrap_or_default();
     let flags = |flags: i32| if flags == 0 { String::new() } else { format!(" flags {flags}") };
     match kind {
@@ -108,7 +133,7 @@ fn list_words(list: &List<'_>) -> String {
     format!("[{}] origins [{}]", items.join(", "), origins.join(", "))
 }
 
-fn definitions(image: &Image<'_>, out: &mut impl Write) -> io::Result<()> {
+fn definitions(image: &Image<'_>, out: &mut dyn Write) -> io::Result<()> {
     for definition in image.definitions() {
         let items: Vec<_> = definition.items.iter().map(|(name, value)| format!("{}: {value}", quoted(name))).collect();
         writeln!(out, "list {}: {}", quoted(definition.name), items.join(", "))?;

@@ -1,8 +1,22 @@
-//! The same for other programs: one JSON object on a line.
+//! `json`: what the others say, for programs: one JSON object on a line.
 
+use crate::call::Call;
+use crate::depths::Depths;
+use crate::each::{Manner, Shown, each};
+use crate::end::{Fault, Status};
 use crate::explain::{answer, broken};
-use crate::library::{self, Definition, Divert, Image, Kind, List};
+use inspect::library::{self, Definition, Divert, Image, Kind, List};
 use std::io::{self, Write};
+
+pub const MORE: &str = "\
+Each object has `file`, `length`, `answer` and `number`. Of an accepted image `ink_version`, `nodes` (each with `node`,
+`parent`, `place`, `depth`, `kind` and what the kind holds; null is absent) and `definitions`; of a refused one `words` and
+`place` (`rule`, `section`, `entry`, `kind`, `field`, `byte`, `there`).
+";
+
+pub fn run(call: &Call) -> Result<Status, Fault> {
+    each(call, &Manner { show, named: false, refusals: true })
+}
 
 /// A JSON string.
 fn text(text: &str) -> String {
@@ -36,17 +50,17 @@ fn array(members: impl IntoIterator<Item = String>) -> String {
 }
 
 /// What a load says of the bytes; of a refusal its place, of an image its nodes and definitions.
-pub fn json(file: &str, bytes: &[u8], out: &mut impl Write) -> io::Result<()> {
-    let loaded = library::load(bytes);
-    write!(out, "{{\"file\":{},\"length\":{},\"answer\":{}", text(file), bytes.len(), text(&answer(&loaded)))?;
-    match loaded {
-        Ok(image) => accepted(&image, out)?,
-        Err(number) => refused(bytes, number, out)?,
+pub fn show(shown: &Shown<'_>, out: &mut dyn Write) -> io::Result<()> {
+    let (file, answer) = (text(shown.name), text(&answer(&shown.loaded)));
+    write!(out, "{{\"file\":{file},\"length\":{},\"answer\":{answer}", shown.bytes.len())?;
+    match &shown.loaded {
+        Ok(image) => accepted(image, out)?,
+        Err(number) => refused(shown.bytes, *number, out)?,
     }
     writeln!(out, "}}")
 }
 
-fn refused(bytes: &[u8], number: u32, out: &mut impl Write) -> io::Result<()> {
+fn refused(bytes: &[u8], number: u32, out: &mut dyn Write) -> io::Result<()> {
     write!(out, ",\"number\":{number},\"words\":{},\"place\":", text(library::words(number)))?;
     let Some(broken) = broken(bytes, number) else {
         return write!(out, "null");
@@ -58,24 +72,25 @@ fn refused(bytes: &[u8], number: u32, out: &mut impl Write) -> io::Result<()> {
     write!(out, ",\"field\":{},\"byte\":{},\"there\":{}}}", text(&place.field), place.byte, text(&broken.because))
 }
 
-fn accepted(image: &Image<'_>, out: &mut impl Write) -> io::Result<()> {
+fn accepted(image: &Image<'_>, out: &mut dyn Write) -> io::Result<()> {
     write!(out, ",\"number\":0,\"ink_version\":{},\"nodes\":[", image.ink_version())?;
+    let mut depths = Depths::new(image);
     for node in 0..image.node_count() {
         if node > 0 {
             write!(out, ",")?;
         }
-        node_object(image, node, out)?;
+        node_object(image, node, depths.of(image, node), out)?;
     }
     let definitions = array(image.definitions().iter().map(definition));
     write!(out, "],\"definitions\":{definitions}")
 }
 
-fn node_object(image: &Image<'_>, node: u32, out: &mut impl Write) -> io::Result<()> {
+fn node_object(image: &Image<'_>, node: u32, depth: Option<u32>, out: &mut dyn Write) -> io::Result<()> {
     let Some(view) = image.node(node) else {
         return write!(out, "null");
     };
     write!(out, "{{\"node\":{node},\"parent\":{},\"place\":{}", number(view.parent), number(view.place))?;
-    write!(out, ",\"depth\":{},{}", number(image.depth(node)), members(&view.kind))?;
+    write!(out, ",\"depth\":{},{}", number(depth), members(&view.kind))?;
     if matches!(view.kind, Kind::Container { .. }) {
         let named = image.named_children(node).into_iter();
         let named = array(named.map(|(name, child)| format!("{{\"name\":{},\"node\":{child}}}", text(name))));
