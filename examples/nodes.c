@@ -30,8 +30,7 @@ static int print_nodes(void) {
 /* A list item's line. The count is there also if there is no such item. */
 static void print_item(const char *name) {
     uint32_t item[STORY_IMAGE_LIST_ITEM_WORDS], searched;
-    uint32_t number =
-        story_image_find_list_item_in(&image, (const uint8_t *)name, strlen(name), item, &searched);
+    uint32_t number = story_image_find_list_item_in(&image, (const uint8_t *)name, strlen(name), item, &searched);
     printf("%s: ", name);
     if (number == 0)
         printf("%" PRId32, (int32_t)item[STORY_IMAGE_LIST_ITEM_VALUE]);

@@ -9,7 +9,8 @@
 
 #define NONE STORY_IMAGE_NONE
 
-enum { CONTAINER = 1, COMMAND = 3, DIVERT = 4, STRING = 11, NODES = 6, CHILDREN = 4, NAMED = 1, DEFINITIONS = 1, ITEMS = 2 };
+enum { CONTAINER = 1, COMMAND = 3, DIVERT = 4, STRING = 11 };
+enum { NODES = 6, CHILDREN = 4, NAMED = 1, DEFINITIONS = 1, ITEMS = 2 };
 
 /* Parent, place, tag, f0 to f6. What a kind lacks may be anything; texts are put in by `main`. Node numbers are free,
  * but for the root's: the writer numbers anew. */
