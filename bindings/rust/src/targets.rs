@@ -3,6 +3,7 @@
 use crate::builder::{BuildError, put};
 use crate::draft::Draft;
 use crate::ffi;
+use crate::names::kind;
 use crate::path::{PathText, STEP_WORDS, Step};
 use crate::refusal::Refusal;
 use crate::{NODE_WORDS, NONE};
@@ -67,8 +68,8 @@ fn word(number: usize) -> Result<u32, BuildError> {
 fn path_place(node: &[u32; NODE_WORDS]) -> Option<[u32; 2]> {
     let [_, _, tag, f0, f1, f2, f3, ..] = *node;
     let place = match tag {
-        2 | 4 | 13 => [f0, f1],
-        17 => [f2, f3],
+        kind::CHOICE | kind::DIVERT | kind::DIVERT_TARGET => [f0, f1],
+        kind::REFERENCE => [f2, f3],
         _ => return None,
     };
     (place != [NONE; 2]).then_some(place)

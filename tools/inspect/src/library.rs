@@ -1,7 +1,6 @@
 //! The proved library, as this program asks it: the one place that knows the binding.
 
-use crate::rules::names::{COMMANDS, OPERATORS};
-use story_image::{Refusal, ffi};
+use story_image::{CommandType, Op, Refusal, ffi, kind, kind_name};
 
 const NONE: u32 = u32::MAX;
 const VIEW_WORDS: usize = 17;
@@ -73,6 +72,32 @@ pub enum Kind<'a> {
         target: Option<u32>,
     },
     Void,
+}
+
+impl Kind<'_> {
+    /// Its name, the wrapper's.
+    pub fn name(&self) -> &'static str {
+        let number = match self {
+            Kind::Container { .. } => kind::CONTAINER,
+            Kind::Choice { .. } => kind::CHOICE,
+            Kind::Command(_) => kind::COMMAND,
+            Kind::Divert(_) => kind::DIVERT,
+            Kind::Glue => kind::GLUE,
+            Kind::Operator(_) => kind::OPERATOR,
+            Kind::Tag(_) => kind::TAG,
+            Kind::Bool(_) => kind::BOOL,
+            Kind::Int(_) => kind::INT,
+            Kind::Float(_) => kind::FLOAT,
+            Kind::String(_) => kind::STRING,
+            Kind::List(_) => kind::LIST,
+            Kind::DivertTarget(_) => kind::DIVERT_TARGET,
+            Kind::Pointer { .. } => kind::POINTER,
+            Kind::Assignment { .. } => kind::ASSIGNMENT,
+            Kind::Reference { .. } => kind::REFERENCE,
+            Kind::Void => kind::VOID,
+        };
+        kind_name(number).unwrap_or_default()
+    }
 }
 
 /// What names a node.
@@ -156,14 +181,14 @@ impl<'a> Image<'a> {
     }
 
     fn kind(&self, words: [u32; 10]) -> Option<Kind<'a>> {
-        let [_, _, kind, offset, length, variable, variable_length, target, value, flags] = words;
+        let [_, _, tag, offset, length, variable, variable_length, target, value, flags] = words;
         let text = self.text(offset, length);
         let target = optional(target);
-        Some(match kind {
-            1 => Kind::Container { name: text, flags: flags as i32 },
-            2 => Kind::Choice { target, flags: flags as i32 },
-            3 => Kind::Command(COMMANDS.get(value as usize)?),
-            4 => Kind::Divert(Divert {
+        Some(match tag {
+            kind::CONTAINER => Kind::Container { name: text, flags: flags as i32 },
+            kind::CHOICE => Kind::Choice { target, flags: flags as i32 },
+            kind::COMMAND => Kind::Command(CommandType::from_number(value)?.name()),
+            kind::DIVERT => Kind::Divert(Divert {
                 path: text,
                 target,
                 variable: self.text(variable, variable_length),
@@ -172,19 +197,21 @@ impl<'a> Image<'a> {
                 external: flags & 2 != 0,
                 pushes: pushed(flags),
             }),
-            5 => Kind::Glue,
-            6 => Kind::Operator(OPERATORS.get(value as usize)?),
-            7 => Kind::Tag(text?),
-            8 => Kind::Bool(value != 0),
-            9 => Kind::Int(value as i32),
-            10 => Kind::Float(value),
-            11 => Kind::String(text?),
-            12 => Kind::List(self.list(offset, length)?),
-            13 => Kind::DivertTarget(text?),
-            14 => Kind::Pointer { name: text?, context: value as i32 },
-            16 => Kind::Assignment { name: text?, global: flags & 1 != 0, new_declaration: flags & 2 != 0 },
-            17 => Kind::Reference { name: text?, target },
-            18 => Kind::Void,
+            kind::GLUE => Kind::Glue,
+            kind::OPERATOR => Kind::Operator(Op::from_number(value)?.name()),
+            kind::TAG => Kind::Tag(text?),
+            kind::BOOL => Kind::Bool(value != 0),
+            kind::INT => Kind::Int(value as i32),
+            kind::FLOAT => Kind::Float(value),
+            kind::STRING => Kind::String(text?),
+            kind::LIST => Kind::List(self.list(offset, length)?),
+            kind::DIVERT_TARGET => Kind::DivertTarget(text?),
+            kind::POINTER => Kind::Pointer { name: text?, context: value as i32 },
+            kind::ASSIGNMENT => {
+                Kind::Assignment { name: text?, global: flags & 1 != 0, new_declaration: flags & 2 != 0 }
+            }
+            kind::REFERENCE => Kind::Reference { name: text?, target },
+            kind::VOID => Kind::Void,
             _ => return None,
         })
     }
@@ -204,10 +231,10 @@ impl<'a> Image<'a> {
     pub fn target(&self, node: u32) -> Option<(By, u32)> {
         let [_, _, tag, _, _, f2, _, f4, ..] = self.slot(node)?;
         let (by, target) = match tag {
-            2 => (By::Choice, f2),
-            4 => (By::Divert, f2),
-            13 => (By::DivertTarget, f2),
-            17 => (By::ReadCount, f4),
+            kind::CHOICE => (By::Choice, f2),
+            kind::DIVERT => (By::Divert, f2),
+            kind::DIVERT_TARGET => (By::DivertTarget, f2),
+            kind::REFERENCE => (By::ReadCount, f4),
             _ => return None,
         };
         Some((by, optional(target)?))
@@ -216,7 +243,7 @@ impl<'a> Image<'a> {
     /// The path text of a choice, which its view leaves out.
     pub fn choice_path(&self, node: u32) -> Option<&'a str> {
         let [_, _, tag, offset, length, ..] = self.slot(node)?;
-        if tag == 2 { self.text(offset, length) } else { None }
+        if tag == kind::CHOICE { self.text(offset, length) } else { None }
     }
 
     pub fn child(&self, node: u32, index: u32) -> Option<u32> {

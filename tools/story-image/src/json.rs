@@ -102,46 +102,35 @@ fn node_object(image: &Image<'_>, node: u32, depth: Option<u32>, out: &mut dyn W
 
 /// The kind, and what it holds.
 fn members(kind: &Kind<'_>) -> String {
-    match kind {
-        Kind::Container { name, flags } => {
-            format!("\"kind\":\"container\",\"name\":{},\"flags\":{flags}", optional_text(*name))
-        }
-        Kind::Choice { target, flags } => {
-            format!("\"kind\":\"choice\",\"target\":{},\"flags\":{flags}", number(*target))
-        }
-        Kind::Command(name) => format!("\"kind\":\"command\",\"name\":{}", text(name)),
+    let held = match kind {
+        Kind::Container { name, flags } => format!(",\"name\":{},\"flags\":{flags}", optional_text(*name)),
+        Kind::Choice { target, flags } => format!(",\"target\":{},\"flags\":{flags}", number(*target)),
+        Kind::Command(name) | Kind::Operator(name) => format!(",\"name\":{}", text(name)),
         Kind::Divert(divert) => divert_members(divert),
-        Kind::Glue => "\"kind\":\"glue\"".to_owned(),
-        Kind::Operator(name) => format!("\"kind\":\"operator\",\"name\":{}", text(name)),
-        Kind::Tag(value) => format!("\"kind\":\"tag\",\"text\":{}", text(value)),
-        Kind::Bool(value) => format!("\"kind\":\"bool\",\"value\":{value}"),
-        Kind::Int(value) => format!("\"kind\":\"int\",\"value\":{value}"),
+        Kind::Glue | Kind::Void => String::new(),
+        Kind::Tag(value) | Kind::String(value) | Kind::DivertTarget(value) => format!(",\"text\":{}", text(value)),
+        Kind::Bool(value) => format!(",\"value\":{value}"),
+        Kind::Int(value) => format!(",\"value\":{value}"),
         Kind::Float(bits) => {
             let value = f32::from_bits(*bits);
             let value = if value.is_finite() { format!("{value:?}") } else { "null".to_owned() };
-            format!("\"kind\":\"float\",\"value\":{value},\"bits\":{bits}")
+            format!(",\"value\":{value},\"bits\":{bits}")
         }
-        Kind::String(value) => format!("\"kind\":\"string\",\"text\":{}", text(value)),
         Kind::List(list) => list_members(list),
-        Kind::DivertTarget(value) => format!("\"kind\":\"divert target\",\"text\":{}", text(value)),
-        Kind::Pointer { name, context } => {
-            format!("\"kind\":\"pointer\",\"name\":{},\"context\":{context}", text(name))
-        }
+        Kind::Pointer { name, context } => format!(",\"name\":{},\"context\":{context}", text(name)),
         Kind::Assignment { name, global, new_declaration } => {
-            format!("\"kind\":\"assignment\",\"name\":{},\"global\":{global},\"new\":{new_declaration}", text(name))
+            format!(",\"name\":{},\"global\":{global},\"new\":{new_declaration}", text(name))
         }
-        Kind::Reference { name, target } => {
-            format!("\"kind\":\"reference\",\"name\":{},\"target\":{}", text(name), number(*target))
-        }
-        Kind::Void => "\"kind\":\"void\"".to_owned(),
-    }
+        Kind::Reference { name, target } => format!(",\"name\":{},\"target\":{}", text(name), number(*target)),
+    };
+    format!("\"kind\":{}{held}", text(kind.name()))
 }
 
 fn divert_members(divert: &Divert<'_>) -> String {
     let texts = format!("\"path\":{},\"variable\":{}", optional_text(divert.path), optional_text(divert.variable));
     let numbers = format!("\"target\":{},\"arguments\":{}", number(divert.target), divert.arguments);
     let flags = format!("\"conditional\":{},\"external\":{}", divert.conditional, divert.external);
-    format!("\"kind\":\"divert\",{texts},{numbers},{flags},\"pushes\":{}", optional_text(divert.pushes))
+    format!(",{texts},{numbers},{flags},\"pushes\":{}", optional_text(divert.pushes))
 }
 
 fn list_members(list: &List<'_>) -> String {
@@ -149,7 +138,7 @@ fn list_members(list: &List<'_>) -> String {
         format!("{{\"origin\":{},\"name\":{},\"value\":{value}}}", optional_text(*origin), text(name))
     };
     let origins = array(list.origins.iter().map(|origin| text(origin)));
-    format!("\"kind\":\"list\",\"items\":{},\"origins\":{origins}", array(list.items.iter().map(item)))
+    format!(",\"items\":{},\"origins\":{origins}", array(list.items.iter().map(item)))
 }
 
 fn definition(definition: &Definition<'_>) -> String {

@@ -80,30 +80,27 @@ fn line(image: &Image<'_>, node: u32, by: &By<'_>, again: bool, out: &mut dyn Wr
 fn words(kind: &Kind<'_>) -> String {
     let target = |target: &Option<u32>| target.map(|node| format!(" -> {node}")).unwrap_or_default();
     let flags = |flags: i32| if flags == 0 { String::new() } else { format!(" flags {flags}") };
-    match kind {
+    let held = match kind {
         Kind::Container { name, flags: word } => {
-            format!("container{}{}", name.map(|name| format!(" {}", quoted(name))).unwrap_or_default(), flags(*word))
+            name.map(|name| format!(" {}", quoted(name))).unwrap_or_default() + &flags(*word)
         }
-        Kind::Choice { target: node, flags: word } => format!("choice{}{}", target(node), flags(*word)),
-        Kind::Command(name) => format!("command {name}"),
-        Kind::Divert(divert) => format!("divert{}{}", target(&divert.target), divert_words(divert)),
-        Kind::Glue => "glue".to_owned(),
-        Kind::Operator(name) => format!("operator {name}"),
-        Kind::Tag(text) => format!("tag {}", quoted(text)),
-        Kind::Bool(value) => format!("bool {value}"),
-        Kind::Int(value) => format!("int {value}"),
-        Kind::Float(bits) => format!("float {:?} (bits {bits:08x})", f32::from_bits(*bits)),
-        Kind::String(text) => format!("string {}", quoted(text)),
-        Kind::List(list) => format!("list {}", list_words(list)),
-        Kind::DivertTarget(text) => format!("divert target {}", quoted(text)),
-        Kind::Pointer { name, context } => format!("pointer {} context {context}", quoted(name)),
+        Kind::Choice { target: node, flags: word } => target(node) + &flags(*word),
+        Kind::Command(name) | Kind::Operator(name) => format!(" {name}"),
+        Kind::Divert(divert) => target(&divert.target) + &divert_words(divert),
+        Kind::Glue | Kind::Void => String::new(),
+        Kind::Tag(text) | Kind::String(text) | Kind::DivertTarget(text) => format!(" {}", quoted(text)),
+        Kind::Bool(value) => format!(" {value}"),
+        Kind::Int(value) => format!(" {value}"),
+        Kind::Float(bits) => format!(" {:?} (bits {bits:08x})", f32::from_bits(*bits)),
+        Kind::List(list) => format!(" {}", list_words(list)),
+        Kind::Pointer { name, context } => format!(" {} context {context}", quoted(name)),
         Kind::Assignment { name, global, new_declaration } => {
             let (global, new) = (if *global { " global" } else { "" }, if *new_declaration { " new" } else { "" });
-            format!("assignment {}{global}{new}", quoted(name))
+            format!(" {}{global}{new}", quoted(name))
         }
-        Kind::Reference { name, target: node } => format!("reference {}{}", quoted(name), target(node)),
-        Kind::Void => "void".to_owned(),
-    }
+        Kind::Reference { name, target: node } => format!(" {}{}", quoted(name), target(node)),
+    };
+    format!("{}{held}", kind.name())
 }
 
 fn divert_words(divert: &Divert<'_>) -> String {
