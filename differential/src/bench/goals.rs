@@ -1,5 +1,5 @@
-//! What the benchmark is held to, one table. A quick path that is never taken gives the same answers and meets the same
-//! contracts, so its goal lies between the time with it and the time without.
+//! What the benchmark is held to, one table. A quick path that is never taken gives the same answers, so its goal lies
+//! between the time with it and the time without.
 
 use super::{Line, PAGES};
 
