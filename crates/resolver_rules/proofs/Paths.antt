@@ -15,6 +15,7 @@ use Rattle.words.specs.Words.{NONE, isNone}
 use Rattle.image.specs.Entries.{nodeIn}
 use Rattle.image.specs.Sections.{Sections, nodeCount, tagOf, f, absent, inside}
 use Rattle.image.specs.Tags.{choiceTag, divertTag, targetTag, referenceTag}
+use Rattle.records.specs.Flags.{external}
 use Rattle.draft.specs.PathList.{pathEntryWords, pathCount, pathWord, pathOrigin, pathOf, listed, newOrigin, pathRight, listRight, plainDivert, mayFollow, follows}
 use Rattle.lookups.proofs.Plain.{last-some, last-none}
 use Rattle.walks.specs.Walk.{componentWords}
@@ -105,14 +106,14 @@ module _ (s : Sections) (i : ℕ) where
           → (a || b || c || d) ≡ true → MayFollow s i
       by true b c d x y z w h = inl (eqb-true (tagOf s i) choiceTag (sym x))
       by false true c d x y z w h =
-          let q = both-true (eqb (tagOf s i) divertTag && not (eqb (f s i 6 / 2 % 2) 1)) (absent (f s i 3) (f s i 4)) (sym y) in
-          let t = both-true (eqb (tagOf s i) divertTag) (not (eqb (f s i 6 / 2 % 2) 1)) (q .0) in
+          let q = both-true (eqb (tagOf s i) divertTag && not (external (nodeIn s i))) (absent (f s i 3) (f s i 4)) (sym y) in
+          let t = both-true (eqb (tagOf s i) divertTag) (not (external (nodeIn s i))) (q .0) in
           let v = both-true (isNone (f s i 3)) (isNone (f s i 4)) (q .1) in
           inr
           (inl
           (record {
             divert = eqb-true (tagOf s i) divertTag (t .0);
-            not-external = eqb-false (f s i 6 / 2 % 2) 1 (not-true (eqb (f s i 6 / 2 % 2) 1) (t .1));
+            not-external = not-true (external (nodeIn s i)) (t .1);
             no-variable = (eqb-true (f s i 3) NONE (v .0), eqb-true (f s i 4) NONE (v .1));
           }))
       by false false true d x y z w h = inr (inr (inl (eqb-true (tagOf s i) targetTag (sym z))))
@@ -125,7 +126,7 @@ module _ (s : Sections) (i : ℕ) where
   right-may (inr (inl d)) =
       rw (
         d .divert,
-        ne-eqb (f s i 6 / 2 % 2) 1 (d .not-external),
+        d .not-external,
         eq-eqb (f s i 3) NONE (d .no-variable .0),
         eq-eqb (f s i 4) NONE (d .no-variable .1),
       )

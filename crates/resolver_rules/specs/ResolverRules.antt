@@ -3,13 +3,16 @@
 use Prim.Native.Nat.{ℕ, _+_, _-_, _*_, _/_, _%_, _≤_, _<_}
 use mathlib.Core.Path.{_≡_}
 use mathlib.Core.Logic.{_≢_, _⊎_}
+use mathlib.Core.Bool.{false}
 use lib.ListN.{length, getD}
 use Rattle.words.specs.Words.{NONE}
+use Rattle.image.specs.Entries.{nodeIn}
 use Rattle.image.specs.Header.{firstInkVersion, lastInkVersion}
 use Rattle.image.specs.Refusals.{noTarget, noContainer}
 use Rattle.image.specs.Sections.{Sections, nodeCount, tagOf, f}
 use Rattle.image.specs.Tags.{containerTag, choiceTag, divertTag, targetTag, referenceTag}
 use Rattle.records.specs.Fields.{Field, targetBefore, noPlace}
+use Rattle.records.specs.Flags.{external}
 use Rattle.tree.specs.Reach.{Reached}
 use Rattle.draft.specs.Draft.{writeWords}
 use Rattle.draft.specs.PathList.{pathEntryWords, pathCount, pathWord, pathOrigin}
@@ -37,7 +40,7 @@ pub record ListRight (s : Sections) (p : PathList) : Type 0 where
 -- a divert that is neither external nor by variable
 pub record PlainDivert (s : Sections) (i : ℕ) : Type 0 where
   pub divert : tagOf s i ≡ divertTag
-  pub not-external : f s i 6 / 2 % 2 ≢ 1
+  pub not-external : external (nodeIn s i) ≡ false
   pub no-variable : (f s i 3 ≡ NONE) × (f s i 4 ≡ NONE)
 
 -- a choice, such a divert, a divert-target value, a reference: any other node is passed over

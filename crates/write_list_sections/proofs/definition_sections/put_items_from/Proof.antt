@@ -1,4 +1,4 @@
--- `write_list_sections::definitions::put_items_from` meets its contract.
+-- `write_list_sections::definition_sections::put_items_from` meets its contract.
 use Prim.Native.Nat.{_-_}
 use mathlib.Core.Path.{refl}
 use native.Mathlib.Omega.{arith}
@@ -6,8 +6,8 @@ use Rattle.words.proofs.EntryLoop.{Running, run-next, run-put}
 use Rattle.write_list_sections.specs.Entered.{itemWords}
 use Rattle.write_list_sections.proofs.DefinitionLoops.{items-start, items-room, item-words}
 use borrow.Author.Needs.{needs}
-use Rattle.write_list_sections.proofs.definitions.put_items_from.Statement.{statement}
-use Rattle.write_list_sections.proofs.definitions.put_items_from.Tie as tie
+use Rattle.write_list_sections.proofs.definition_sections.put_items_from.Statement.{statement}
+use Rattle.write_list_sections.proofs.definition_sections.put_items_from.Tie as tie
 
 abbrev Inv-loop : tie.InvT-loop
 Inv-loop items first count w text out₀ at start end place₀ i₀ out place i = Running at count (itemWords items w text first) out₀ out i place

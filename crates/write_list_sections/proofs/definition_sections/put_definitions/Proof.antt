@@ -1,13 +1,13 @@
--- `write_list_sections::definitions::put_definitions` meets its contract.
+-- `write_list_sections::definition_sections::put_definitions` meets its contract.
 use Prim.Native.Nat.{_-_, _/_}
 use mathlib.Core.Path.{refl}
 use native.Mathlib.Omega.{arith}
 use lib.ListN.{length}
 use Rattle.write_list_sections.proofs.DefinitionLoops.{Defining, define-start, define-room, define-next, define-end, pass-inside}
 use borrow.Author.Needs.{needs}
-use Rattle.write_list_sections.proofs.definitions.put_definitions.Statement.{statement}
+use Rattle.write_list_sections.proofs.definition_sections.put_definitions.Statement.{statement}
 use Rattle.image.specs.Sections.{definitionWords}
-use Rattle.write_list_sections.proofs.definitions.put_definitions.Tie as tie
+use Rattle.write_list_sections.proofs.definition_sections.put_definitions.Tie as tie
 
 abbrev Inv-loop : tie.InvT-loop
 Inv-loop definitions w offsets out₀ count k₀ at₀ d₀ out k at d = Defining definitions w offsets (length definitions / definitionWords) out₀ out k at d
