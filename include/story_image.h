@@ -744,8 +744,8 @@ static inline uint32_t story_image_find_list_item_in(const struct story_image *i
                                                      uint32_t searched[STORY_IMAGE_COUNT_WORDS]) {
     uint32_t none[1] = {0};
     return story_image_find_list_item(STORY_IMAGE_LENT_IMAGE, story_image_lent_bytes(name, name_length), name_length,
-                                      answer, STORY_IMAGE_LIST_ITEM_WORDS, searched == NULL ? none : searched,
-                                      searched == NULL ? 0 : STORY_IMAGE_COUNT_WORDS);
+                                      answer, STORY_IMAGE_LIST_ITEM_WORDS, searched ? searched : none,
+                                      searched ? STORY_IMAGE_COUNT_WORDS : 0);
 }
 
 static inline uint32_t story_image_resolve_path_in(const struct story_image *image, uint32_t origin, bool relative,

@@ -9,6 +9,7 @@ static void empty_image(void) {
     uint32_t slots[1] = {MARK}, answer[STORY_IMAGE_NODE_WORDS];
     struct asked asked = {0, 0, 0, 0, NULL, 0};
     memset(&image, 0, sizeof image);
+    CHECK(story_image_lent_bytes(NULL, 0) != NULL && story_image_lent_words(NULL, 0) != NULL, "no null is lent");
     CHECK(story_image_load_words_in(&image) == 0, "no bytes need no words");
     CHECK(story_image_load_in(&image, NULL, 0) == STORY_IMAGE_BAD_HEADER, "no bytes");
     for (int query = 0; query < QUERIES; query++)

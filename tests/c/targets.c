@@ -163,6 +163,21 @@ static void deeper_target(void) {
     CHECK(find_by(nodes, entry, 4) == 0 && nodes[NIGHT_TEXT][5] == NIGHT_TEXT, "from the parent of the node");
 }
 
+/* Names of components lie in the names beside the draft, not in its strings. */
+static void names_beside(void) {
+    static const uint32_t entry[] = {DIVERT_NODE, 0, 0, 1}, components[] = {STORY_IMAGE_STEP_NAME, 1, 5};
+    const struct story_image_paths right = {entry, SIZE(entry), components, 3, (const uint8_t *)"-night", 6};
+    const struct story_image_paths others = {entry, SIZE(entry), components, 3, (const uint8_t *)"nightseen", 9};
+    uint32_t nodes[STORY_NODES][10];
+    memcpy(nodes, story_nodes, sizeof nodes);
+    const struct story_image_draft draft = story_draft(nodes[0]);
+    for (uint32_t node = CHOICE_NODE; node <= REFERENCE_NODE; node++)
+        nodes[node][node == REFERENCE_NODE ? 7 : 5] = 0;
+    CHECK(find_targets(&draft, nodes[0], &others, 21, write_words(&draft)) == STORY_IMAGE_NO_TARGET, "no such name");
+    CHECK(find_targets(&draft, nodes[0], &right, 21, write_words(&draft)) == 0 && nodes[DIVERT_NODE][5] == NIGHT,
+          "a name in the names");
+}
+
 /* Numbers in their order; without paths the writer's number but for 22, whatever word is changed. */
 static void targets_as_written(void) {
     static const uint32_t list[] = {DIVERT_NODE, 0, 0, 1}, components[] = {3, 0, 0}, words[] = {0, 1, 5, 13, 99, NONE};
@@ -331,6 +346,7 @@ void test_targets(void) {
     targets();
     lists_of_paths();
     deeper_target();
+    names_beside();
     targets_as_written();
     unreached_targets();
     full_targets();

@@ -1,4 +1,4 @@
-//! The proved library, as this program asks it: the one place that knows the binding.
+//! The proved library, as this program asks it: the one place that calls it.
 
 use story_image::{CommandType, Op, Refusal, ffi, kind, kind_name};
 
