@@ -1,13 +1,13 @@
 -- The lines that FORMAT.md marks P, as one theorem.
-use Prim.Native.Nat.{ℕ, zero, suc}
+use Prim.Native.Nat.{ℕ}
 use mathlib.Core.Path.{_≡_, refl}
-use mathlib.Core.List.{List, [], _∷_}
-use mathlib.Core.Bool.{Bool, true, false}
+use mathlib.Core.List.{[], _∷_}
+use mathlib.Core.Bool.{true, false}
 use lib.IntN.{pos}
 use lib.ListN.{length}
 use Rattle.words.specs.Words.{NONE}
 use Rattle.texts.specs.Text.{ascii}
-use Rattle.image.specs.Sections.{Sections, textAt, partAt}
+use Rattle.image.specs.Sections.{textAt}
 use Rattle.image.specs.Encoding.{imageOf, encodings}
 use Rattle.index.specs.Paths.{fits}
 use Rattle.load.specs.Load.{loadRule, loads}

@@ -10,7 +10,6 @@ use Rattle.laws.proofs.Flags.{and-false}
 use Rattle.words.specs.Words.{isNone}
 use Rattle.image.specs.Sections.{Sections, childCount, tagOf, f, childWord, insideAmong, inside, isContainer, insideContainer}
 use Rattle.image.specs.Tags.{containerTag}
-use Rattle.views.specs.declared.Found.{Found}
 use Rattle.views.specs.declared.Found.the-variants.{Node, NotFound}
 use Rattle.views.specs.Children.{childQuery}
 use Rattle.lookups.specs.Lookup.{namedBy, findNamed}

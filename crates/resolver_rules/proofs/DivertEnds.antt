@@ -24,6 +24,7 @@ use Rattle.views.specs.declared.Found.the-variants.{Node, NotFound}
 use Rattle.lookups.specs.Lookup.{entryText, searched, foundAt, namedBy, findNamed}
 use Rattle.lookups.proofs.HalvingSearch.{found-there}
 use Rattle.walks.specs.Walk.{Component, Parent, Index, Name, Broken, indexKind, component, components, parentQuery, step, stepFrom, steps, resolve}
+use Rattle.walks.proofs.WalkEnds.{node-equal, nothing, found-if}
 use Rattle.written.specs.DraftRules.{ShapeRight}
 use Rattle.target_finding.specs.Targets.{PathList, pathComponents, pathEnd}
 use Rattle.resolver_rules.specs.ResolverRules.{ListRight, Follows, EndsInIndex, ContainerDue, NeverOfDivert}
@@ -95,17 +96,6 @@ part-other names lent first count few d = last-other names count (take (3 * coun
         ∙ sym (getD-take (3 * count) (drop (3 * first) lent) (3 * (count - 1)) 0 (omega arith) ∙ getD-drop (3 * first) lent (3 * (count - 1)) 0) ∙ q)
 
 -- ---- steps to containers, by rule 21
-
-node-equal : (m n : ℕ) → _≡_ {A = Found} (Node m) (Node n) → m ≡ n
-node-equal m n h = cc
-
-nothing : (n : ℕ) → _≡_ {A = Found} NotFound (Node n) → ⊥
-nothing n h = let z : _≡_ {A = ℕ} 0 1 = cc in omega arith
-
--- where a test decides what is found
-found-if : (b : Bool) (r : Found) (n : ℕ) → cond b r NotFound ≡ Node n → (b ≡ true) × (r ≡ Node n)
-found-if true r n h = (refl, h)
-found-if false r n h = absurd (nothing n h)
 
 module _ (s : Sections) (t : ShapeRight s) where
   -- what is found is a container

@@ -1,6 +1,6 @@
 -- What is asked of a draft whose targets are to be found from paths, and of the list of paths beside it, rule by rule in plain words. What is
 -- taken is exactly this (proofs/ResolverRules), and which node decides 25 and 26.
-use Prim.Native.Nat.{ℕ, _+_, _-_, _*_, _/_, _%_, _≤_, _<_}
+use Prim.Native.Nat.{ℕ, _+_, _-_, _*_, _%_, _≤_, _<_}
 use mathlib.Core.Path.{_≡_}
 use mathlib.Core.Logic.{_≢_, _⊎_}
 use mathlib.Core.Bool.{false}

@@ -32,14 +32,14 @@ pub record Closed (s : Sections) (P : ℕ → Type 0) : Type 0 where
 abbrev pub Ends : (ℕ → Type 0) → Found → Type 0
 Ends P r = (n : ℕ) → r ≡ Node n → P n
 
-node-equal : (m n : ℕ) → _≡_ {A = Found} (Node m) (Node n) → m ≡ n
+pub node-equal : (m n : ℕ) → _≡_ {A = Found} (Node m) (Node n) → m ≡ n
 node-equal m n h = cc
 
-nothing : (n : ℕ) → _≡_ {A = Found} NotFound (Node n) → ⊥
+pub nothing : (n : ℕ) → _≡_ {A = Found} NotFound (Node n) → ⊥
 nothing n h = let z : _≡_ {A = ℕ} 0 1 = cc in omega arith
 
 -- where a test decides what is found
-found-if : (b : Bool) (r : Found) (n : ℕ) → cond b r NotFound ≡ Node n → (b ≡ true) × (r ≡ Node n)
+pub found-if : (b : Bool) (r : Found) (n : ℕ) → cond b r NotFound ≡ Node n → (b ≡ true) × (r ≡ Node n)
 found-if true r n h = (refl, h)
 found-if false r n h = absurd (nothing n h)
 
