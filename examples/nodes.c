@@ -11,8 +11,7 @@
 /* A node's line. */
 static int print_node(uint32_t node) {
     uint32_t shown[STORY_IMAGE_NODE_WORDS], depth;
-    if (story_image_node_view(bytes, length, view, STORY_IMAGE_VIEW_WORDS, node, shown, STORY_IMAGE_NODE_WORDS) != 0 ||
-        story_image_depth(bytes, length, view, STORY_IMAGE_VIEW_WORDS, node, &depth, STORY_IMAGE_COUNT_WORDS) != 0)
+    if (story_image_node_view_in(&image, node, shown) != 0 || story_image_depth_in(&image, node, &depth) != 0)
         return 1;
     uint32_t parent = shown[STORY_IMAGE_NODE_PARENT], kind = shown[STORY_IMAGE_NODE_KIND];
     printf("%" PRIu32 " of %" PRId32 ", depth %" PRIu32 ": %" PRIu32, node, (int32_t)parent, depth, kind);
@@ -22,7 +21,7 @@ static int print_node(uint32_t node) {
 }
 
 static int print_nodes(void) {
-    for (uint32_t node = 0; node < view[STORY_IMAGE_NODES_COUNT]; node++)
+    for (uint32_t node = 0; node < image.view[STORY_IMAGE_NODES_COUNT]; node++)
         if (print_node(node) != 0)
             return 1;
     return 0;
@@ -31,15 +30,13 @@ static int print_nodes(void) {
 /* A list item's line. The count is there also if there is no such item. */
 static void print_item(const char *name) {
     uint32_t item[STORY_IMAGE_LIST_ITEM_WORDS], searched;
-    uint32_t number =
-        story_image_list_item(bytes, length, view, STORY_IMAGE_VIEW_WORDS, (const uint8_t *)name, strlen(name), item,
-                              STORY_IMAGE_LIST_ITEM_WORDS, &searched, STORY_IMAGE_COUNT_WORDS);
+    uint32_t number = story_image_find_list_item_in(&image, (const uint8_t *)name, strlen(name), item, &searched);
     printf("%s: ", name);
     if (number == 0)
         printf("%" PRId32, (int32_t)item[STORY_IMAGE_LIST_ITEM_VALUE]);
     else
         printf("no such item");
-    printf(", %" PRIu32 " of %" PRIu32 " definitions searched\n", searched, view[STORY_IMAGE_DEFINITIONS_COUNT]);
+    printf(", %" PRIu32 " of %" PRIu32 " definitions searched\n", searched, image.view[STORY_IMAGE_DEFINITIONS_COUNT]);
 }
 
 int main(int count, char **arguments) {

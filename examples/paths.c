@@ -32,19 +32,32 @@ static const uint32_t components[][STORY_IMAGE_STEP_WORDS] = {
 static const uint32_t paths[][STORY_IMAGE_PATH_WORDS] = {{1, 1, 0, 2}, {2, 0, 1, 2}};
 
 static uint32_t work[WORK];
-static uint8_t image[ROOM];
+static uint8_t output[ROOM];
 
-/* No definitions, items and list values: any pointer that is not null. */
-static uint32_t find_targets(void) {
-    return story_image_resolve_static_targets(21, nodes[0], NODES * 10, children, CHILDREN, named[0], NAMED * 3,
-                                              children, 0, children, 0, strings, 0, strings, STRINGS, paths[0],
-                                              sizeof paths / 4, components[0], sizeof components / 4, strings, STRINGS,
-                                              work, WORK);
+/* No definitions, items and list values: they stay empty. */
+static struct story_image_draft lent_draft(void) {
+    struct story_image_draft draft = {0};
+    draft.ink_version = 21;
+    draft.nodes = nodes[0];
+    draft.nodes_length = NODES * 10;
+    draft.children = children;
+    draft.children_length = CHILDREN;
+    draft.named = named[0];
+    draft.named_length = NAMED * 3;
+    draft.strings = strings;
+    draft.strings_length = STRINGS;
+    return draft;
 }
 
-static uint32_t put_image(uint32_t *length) {
-    return story_image_write(21, nodes[0], NODES * 10, children, CHILDREN, named[0], NAMED * 3, children, 0, children,
-                             0, strings, 0, strings, STRINGS, work, WORK, image, ROOM, length, 1);
+static struct story_image_paths lent_paths(void) {
+    struct story_image_paths beside = {0};
+    beside.paths = paths[0];
+    beside.paths_length = sizeof paths / 4;
+    beside.components = components[0];
+    beside.components_length = sizeof components / 4;
+    beside.names = strings;
+    beside.names_length = STRINGS;
+    return beside;
 }
 
 static int refused(uint32_t number) {
@@ -53,19 +66,23 @@ static int refused(uint32_t number) {
 }
 
 int main(void) {
-    uint32_t length = 0, view[STORY_IMAGE_VIEW_WORDS], node[STORY_IMAGE_NODE_WORDS];
-    uint32_t number = find_targets();
+    struct story_image_draft draft = lent_draft();
+    struct story_image_paths beside = lent_paths();
+    struct story_image image = {0};
+    uint32_t length = 0, node[STORY_IMAGE_NODE_WORDS];
+    uint32_t number = story_image_draft_resolve(&draft, &beside, work, WORK);
     if (number != 0)
         return refused(number);
-    number = put_image(&length);
+    number = story_image_draft_write(&draft, work, WORK, output, ROOM, &length);
     if (number != 0)
         return refused(number);
-    number = story_image_load(image, length, work, WORK, view, STORY_IMAGE_VIEW_WORDS);
+    image.bytes = output;
+    image.length = length;
+    number = story_image_load_in(&image, work, WORK);
     if (number != 0)
         return refused(number);
-    for (uint32_t n = 0; n < view[STORY_IMAGE_NODES_COUNT]; n++)
-        if (story_image_node_view(image, length, view, STORY_IMAGE_VIEW_WORDS, n, node, STORY_IMAGE_NODE_WORDS) == 0 &&
-            node[STORY_IMAGE_NODE_TARGET] != NONE)
+    for (uint32_t n = 0; n < image.view[STORY_IMAGE_NODES_COUNT]; n++)
+        if (story_image_node_view_in(&image, n, node) == 0 && node[STORY_IMAGE_NODE_TARGET] != NONE)
             printf("%" PRIu32 " leads to %" PRIu32 "\n", n, node[STORY_IMAGE_NODE_TARGET]);
     return 0;
 }

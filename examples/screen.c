@@ -22,8 +22,7 @@ static void print_slot(uint32_t number, const uint32_t *slot) {
         return;
     }
     printf("%" PRIu32 " %s of %" PRId32, number, kinds[kind], (int32_t)slot[STORY_IMAGE_SLOT_PARENT]);
-    if (story_image_slot_view(bytes, length, view, STORY_IMAGE_VIEW_WORDS, slot, STORY_IMAGE_SLOT_WORDS, node,
-                              STORY_IMAGE_NODE_WORDS) == 0)
+    if (story_image_slot_view_in(&image, slot, node) == 0)
         print_text(node);
     putchar('\n');
 }
@@ -41,8 +40,7 @@ int main(int count, char **arguments) {
     uint32_t numbers[SHOWN], slots[SHOWN][STORY_IMAGE_SLOT_WORDS];
     for (uint32_t k = 0; k < SHOWN; k++)
         numbers[k] = (uint32_t)first + k;
-    if (story_image_page(bytes, length, view, STORY_IMAGE_VIEW_WORDS, numbers, SHOWN, slots[0],
-                         SHOWN * STORY_IMAGE_SLOT_WORDS) != 0)
+    if (story_image_page_in(&image, numbers, SHOWN, slots[0], SHOWN * STORY_IMAGE_SLOT_WORDS) != 0)
         return 1;
     for (uint32_t k = 0; k < SHOWN; k++)
         print_slot(numbers[k], slots[k]);

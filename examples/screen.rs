@@ -8,29 +8,6 @@ use story_image::{Image, NodeKindView as Kind, Refusal, Slot, ValueView as Value
 const MOST: usize = 65_536;
 const SHOWN: usize = 40;
 
-/// By number; there is no kind 0 and no 15.
-const KINDS: [&str; 19] = [
-    "",
-    "container",
-    "choice",
-    "command",
-    "divert",
-    "glue",
-    "operator",
-    "tag",
-    "bool",
-    "int",
-    "float",
-    "string",
-    "list",
-    "divert target",
-    "pointer",
-    "",
-    "assignment",
-    "reference",
-    "void",
-];
-
 /// The text that a node has, if it has one, in quotes.
 fn text(kind: Kind<'_>) -> String {
     let text = match kind {
@@ -51,12 +28,12 @@ fn draw(bytes: &[u8], first: u32) -> Result<(), Refusal> {
     let numbers: [u32; SHOWN] = std::array::from_fn(|k| first + k as u32);
     let mut slots = [Slot::default(); SHOWN];
     let page = image.page(&numbers, &mut slots)?;
-    for ((number, node), slot) in page.nodes().zip(page.slots()) {
+    for (number, node) in page.nodes() {
         match node {
             None => println!("{number} -"),
             Some(node) => {
                 let parent = node.parent.map_or(-1, i64::from);
-                println!("{number} {} of {parent}{}", KINDS[slot.kind() as usize], text(node.kind));
+                println!("{number} {} of {parent}{}", node.kind.name(), text(node.kind));
             }
         }
     }

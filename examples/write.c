@@ -9,10 +9,8 @@
 
 #define NONE STORY_IMAGE_NONE
 
-enum { CONTAINER = 1, COMMAND = 3, DIVERT = 4, STRING = 11, NODES = 6, CHILDREN = 4, NAMED = 1, DEFINITIONS = 1, ITEMS = 2 };
-
-/* 16 a node, 4 for each child, named entry, definition, item and payload byte. */
-enum { WORK = 16 * NODES + 4 * (CHILDREN + NAMED + DEFINITIONS + ITEMS) };
+enum { CONTAINER = 1, COMMAND = 3, DIVERT = 4, STRING = 11 };
+enum { NODES = 6, CHILDREN = 4, NAMED = 1, DEFINITIONS = 1, ITEMS = 2 };
 
 /* Parent, place, tag, f0 to f6. What a kind lacks may be anything; texts are put in by `main`. Node numbers are free,
  * but for the root's: the writer numbers anew. */
@@ -31,7 +29,6 @@ static uint32_t named[NAMED][3] = {{0, 0, 3}};
 static uint32_t definitions[DEFINITIONS][4] = {{0, 0, 0, ITEMS}};
 static uint32_t items[ITEMS][3] = {{0, 0, 1}, {0, 0, 4}};
 
-static uint32_t work[WORK];
 static uint8_t strings[128];
 static size_t strings_length;
 
@@ -56,12 +53,23 @@ static void put_texts(void) {
     put_text(&items[1][0], "clip");
 }
 
-/* Writes the image, or says with STORY_IMAGE_NO_ROOM how long it is. No list values, so no payload: any pointer that is
- * not null. */
-static uint32_t put_image(uint8_t *image, size_t room, uint32_t *length) {
-    return story_image_write(21, nodes[0], NODES * 10, children, CHILDREN, named[0], NAMED * 3, definitions[0],
-                             DEFINITIONS * 4, items[0], ITEMS * 3, strings, 0, strings, strings_length, work, WORK,
-                             image, room, length, 1);
+/* All slices of the draft. There are no list values, so no payload: it stays empty. */
+static struct story_image_draft lent_draft(void) {
+    struct story_image_draft draft = {0};
+    draft.ink_version = 21;
+    draft.nodes = nodes[0];
+    draft.nodes_length = NODES * 10;
+    draft.children = children;
+    draft.children_length = CHILDREN;
+    draft.named = named[0];
+    draft.named_length = NAMED * 3;
+    draft.definitions = definitions[0];
+    draft.definitions_length = DEFINITIONS * 4;
+    draft.items = items[0];
+    draft.items_length = ITEMS * 3;
+    draft.strings = strings;
+    draft.strings_length = strings_length;
+    return draft;
 }
 
 static int refused(uint32_t number) {
@@ -69,32 +77,42 @@ static int refused(uint32_t number) {
     return 1;
 }
 
+static int no_memory(void) {
+    fprintf(stderr, "write: no memory\n");
+    return 2;
+}
+
 int main(int count, char **arguments) {
-    uint32_t length = 0, view[STORY_IMAGE_VIEW_WORDS];
-    uint8_t none;
     if (count != 2) {
         fprintf(stderr, "usage: write IMAGE\n");
         return 2;
     }
     put_texts();
-    uint32_t number = put_image(&none, 0, &length);
+    struct story_image_draft draft = lent_draft();
+    size_t words = story_image_draft_write_words(&draft);
+    uint32_t *work = malloc(4 * words), length = 0;
+    if (work == NULL)
+        return no_memory();
+    /* no output: refused with STORY_IMAGE_NO_ROOM and the length, or with another number and none */
+    uint32_t number = story_image_draft_write(&draft, work, words, NULL, 0, &length);
     if (length == 0)
         return refused(number);
-    uint8_t *image = malloc(length);
-    if (image == NULL) {
-        fprintf(stderr, "write: no memory\n");
-        return 2;
-    }
-    number = put_image(image, length, &length);
+    uint8_t *output = malloc(length);
+    if (output == NULL)
+        return no_memory();
+    number = story_image_draft_write(&draft, work, words, output, length, &length);
     if (number != 0)
         return refused(number);
     printf("%" PRIu32 " bytes\n", length);
-    number = story_image_load(image, length, work, WORK, view, STORY_IMAGE_VIEW_WORDS);
+    struct story_image image = {0};
+    image.bytes = output;
+    image.length = length;
+    number = story_image_load_in(&image, work, words);
     if (number != 0)
         return refused(number);
-    printf("ok %" PRIu32 " %" PRIu32 "\n", view[STORY_IMAGE_INK_VERSION], view[STORY_IMAGE_NODES_COUNT]);
+    printf("ok %" PRIu32 " %" PRIu32 "\n", image.view[STORY_IMAGE_INK_VERSION], image.view[STORY_IMAGE_NODES_COUNT]);
     FILE *file = fopen(arguments[1], "wb");
-    if (file == NULL || fwrite(image, 1, length, file) != length || fclose(file) != 0) {
+    if (file == NULL || fwrite(output, 1, length, file) != length || fclose(file) != 0) {
         fprintf(stderr, "write: %s cannot be written\n", arguments[1]);
         return 2;
     }

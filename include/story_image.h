@@ -10,19 +10,24 @@
  *
  * In short:
  *
- *     uint32_t view[STORY_IMAGE_VIEW_WORDS], node[STORY_IMAGE_NODE_WORDS], part[STORY_IMAGE_TEXT_WORDS];
- *     size_t words = story_image_load_words(bytes, length); // at most length / 4
+ *     struct story_image image = {0}; // in C++ {}
+ *     uint32_t node[STORY_IMAGE_NODE_WORDS], part[STORY_IMAGE_TEXT_WORDS];
+ *     image.bytes = bytes;
+ *     image.length = length;
+ *     size_t words = story_image_load_words_in(&image); // at most length / 4
  *     uint32_t *work = malloc(4 * words + 4);
- *     uint32_t number = story_image_load(bytes, length, work, words, view, STORY_IMAGE_VIEW_WORDS);
+ *     uint32_t number = story_image_load_in(&image, work, words);
  *     if (number != STORY_IMAGE_OK) return refused(number);
- *     for (uint32_t n = 0; n < view[STORY_IMAGE_NODES_COUNT]; n++) {
- *         story_image_node_view(bytes, length, view, STORY_IMAGE_VIEW_WORDS, n, node, STORY_IMAGE_NODE_WORDS);
+ *     for (uint32_t n = 0; n < image.view[STORY_IMAGE_NODES_COUNT]; n++) {
+ *         story_image_node_view_in(&image, n, node);
  *         if (node[STORY_IMAGE_NODE_KIND] == STORY_IMAGE_KIND_STRING) {
- *             story_image_text(bytes, length, view, STORY_IMAGE_VIEW_WORDS, node[STORY_IMAGE_NODE_TEXT],
- *                              node[STORY_IMAGE_NODE_TEXT_LENGTH], part, STORY_IMAGE_TEXT_WORDS);
+ *             story_image_text_in(&image, node[STORY_IMAGE_NODE_TEXT], node[STORY_IMAGE_NODE_TEXT_LENGTH], part);
  *             fwrite(bytes + part[STORY_IMAGE_TEXT_START], 1, part[STORY_IMAGE_TEXT_LENGTH], stdout);
  *         }
  *     }
+ *
+ * The functions of the library lend each slice by itself. At the end of this file stand calls over three structs, an
+ * image, a draft and the paths beside it; they are the same functions with fewer arguments.
  */
 #ifndef STORY_IMAGE_H
 #define STORY_IMAGE_H
@@ -52,7 +57,8 @@ extern "C" {
 #define STORY_IMAGE_FIRST_INK_VERSION 18
 #define STORY_IMAGE_LAST_INK_VERSION 21
 
-/* Numbers that a function returns: the first rule that is broken, in the fixed order of docs/FORMAT.md. */
+/* Numbers that a function returns: the first rule that is broken, in the fixed order of docs/FORMAT.md. Which of them a
+ * function can return is said at each; that it returns no other is proved (docs/PROMISES.md, `ExportNumbers`). */
 enum {
     STORY_IMAGE_OK = 0,              /* nothing is refused */
     /* of a load */
@@ -324,7 +330,7 @@ enum { /* story_image_definition_item */
     STORY_IMAGE_DEFINITION_ITEM_VALUE,
     STORY_IMAGE_DEFINITION_ITEM_WORDS
 };
-enum { /* story_image_list_item */
+enum { /* story_image_find_list_item */
     STORY_IMAGE_LIST_ITEM_DEFINITION,
     STORY_IMAGE_LIST_ITEM_ITEM,
     STORY_IMAGE_LIST_ITEM_VALUE,
@@ -375,7 +381,7 @@ uint32_t story_image_load(const uint8_t *bytes, size_t length, uint32_t *work, s
                           size_t view_length);
 
 /* Queries. Each returns 0 and writes its words at the start of the answer, or returns 18 and leaves the answer as it
- * was; story_image_page, which has slots for its answer, also gives 24. The view is lent as the words that
+ * was; story_image_page, which has slots for its answer, returns 0, 18 or 24. The view is lent as the words that
  * story_image_load wrote. A view of fewer than STORY_IMAGE_VIEW_WORDS words, or an answer too short for the query's
  * words, gives 18, as 'no such node' does: story_image_view_whole tells the first apart, and how many words an answer
  * has is fixed for each query. Any bytes and any view may be asked: a section outside the bytes counts as empty, and an
@@ -384,8 +390,8 @@ uint32_t story_image_load(const uint8_t *bytes, size_t length, uint32_t *work, s
  * A text is an offset and a length in the strings; story_image_text gives its place in the bytes. A signed value is
  * handed over as its 32 bits: (int32_t)word. A float's bits are copied into one with memcpy. */
 
-/* Whether a view has at least STORY_IMAGE_VIEW_WORDS words. Under such a view, and with an answer that holds the
- * query's words, a query returns 18 only if there is nothing to answer. */
+/* Whether a view has at least STORY_IMAGE_VIEW_WORDS words. On accepted bytes, under the view that their load wrote,
+ * and with an answer that holds the query's words, a query returns 18 only if there is nothing to answer. */
 bool story_image_view_whole(const uint32_t *view, size_t view_length);
 
 /* STORY_IMAGE_NODE_WORDS words: the view of a node. */
@@ -473,7 +479,7 @@ uint32_t story_image_definition_item(const uint8_t *bytes, size_t length, const 
                                      uint32_t index, uint32_t item, uint32_t *answer, size_t answer_length);
 
 /* STORY_IMAGE_COUNT_WORDS words: the number, among the items of all definitions, of a definition's first item. What
- * story_image_list_item gives, less this, is the item's index in its definition. */
+ * story_image_find_list_item gives, less this, is the item's index in its definition. */
 uint32_t story_image_definition_first_item(const uint8_t *bytes, size_t length, const uint32_t *view,
                                            size_t view_length, uint32_t index, uint32_t *answer, size_t answer_length);
 
@@ -485,16 +491,17 @@ uint32_t story_image_definition_first_item(const uint8_t *bytes, size_t length, 
  * what stands before the first dot is the name of a definition, else 0; 0 for a name that is empty or White_Space
  * alone. A definition without items counts as searched. Where no word is lent no count is written. Under a view of too
  * few words 18, and neither answer nor count is written. */
-uint32_t story_image_list_item(const uint8_t *bytes, size_t length, const uint32_t *view, size_t view_length,
-                               const uint8_t *name, size_t name_length, uint32_t *answer, size_t answer_length,
-                               uint32_t *searched, size_t searched_length);
+uint32_t story_image_find_list_item(const uint8_t *bytes, size_t length, const uint32_t *view, size_t view_length,
+                                    const uint8_t *name, size_t name_length, uint32_t *answer, size_t answer_length,
+                                    uint32_t *searched, size_t searched_length);
 
 /* STORY_IMAGE_FOUND_WORDS words: the node at the end of a path of STORY_IMAGE_STEP_WORDS words a component. Not
  * relative: the walk starts at the root, and `origin` is not looked at. Relative: the walk starts at `origin` if that
  * is a container. From any other node it starts at that node's parent, and the first component is skipped without
  * being read: a relative path of such a node begins with the step up to its parent. Then each component leads on: to
  * the parent (18 at the root), to the ordered child at an index, to the named child that bears a name. An unknown
- * kind, a name outside the lent names, or one or two words left over at the end give 18 when the walk comes to them. */
+ * kind, a name outside the lent names, or one or two words left over at the end give 18 when the walk comes to them. On
+ * accepted bytes the node is below the node count. */
 uint32_t story_image_resolve_path(const uint8_t *bytes, size_t length, const uint32_t *view, size_t view_length,
                                   uint32_t origin, bool relative, const uint32_t *path, size_t path_length,
                                   const uint8_t *names, size_t names_length, uint32_t *answer, size_t answer_length);
@@ -542,8 +549,8 @@ uint32_t story_image_write(uint32_t ink_version, const uint32_t *nodes, size_t n
  * 20; 21; then of the first node in number order that fails 25 (no node at its path) or 26 (no container, where a
  * choice, a reference, or a divert whose last component is no index needs one). Work words as for story_image_write:
  * numbers 3, 19 and 7 leave them, else as many as are needed are 0 on return. Following takes time by the components
- * of all paths, each path's counted. The tests go over the draft once where the nodes of `paths` rise; in another
- * order 19 looks for each node in the whole list. */
+ * of all paths, each path's counted. The tests go over the draft once; where the nodes of `paths` do not rise, 19 also
+ * goes over `paths` twice for each 32,768 nodes, and has 4,096 bytes of the stack for it. */
 uint32_t story_image_resolve_static_targets(uint32_t ink_version, uint32_t *nodes, size_t nodes_length,
                                             const uint32_t *children, size_t children_length, const uint32_t *named,
                                             size_t named_length, const uint32_t *definitions,
@@ -553,6 +560,233 @@ uint32_t story_image_resolve_static_targets(uint32_t ink_version, uint32_t *node
                                             const uint32_t *components, size_t components_length,
                                             const uint8_t *names, size_t names_length, uint32_t *work,
                                             size_t work_length);
+
+/* ---- The same calls over structs
+ *
+ * story_image_X_in(image, ..) is story_image_X with the image's bytes and view in front and, where it has an answer,
+ * as many words for it as it needs: the answer is lent by its pointer alone. story_image_draft_write, _write_words and
+ * _resolve are story_image_write, story_image_write_words and story_image_resolve_static_targets with a draft's slices.
+ * Numbers, answers and what a refusal leaves are those of the function that is called. All of them are defined here,
+ * in C; the library exports none, and no function that it exports ends in _in or begins with story_image_draft_ or
+ * story_image_lent_.
+ *
+ * A struct is all zero at first, `= {0}` in C and `{}` in C++, and then its fields are set. Later versions may add
+ * fields, whose 0 means what is done without them. The pointer of a slice of length 0 may be null in a struct and in
+ * these calls. */
+
+/* An image, lent. A load sets its view; under a view of zeros there is no node. */
+struct story_image {
+    const uint8_t *bytes;
+    size_t length;
+    uint32_t view[STORY_IMAGE_VIEW_WORDS];
+};
+
+/* A draft, lent: lengths of nodes, children, named entries, definitions and items count words, those of payload and
+ * strings bytes. Only story_image_draft_resolve writes nodes. */
+struct story_image_draft {
+    uint32_t ink_version;
+    uint32_t *nodes;
+    size_t nodes_length;
+    const uint32_t *children;
+    size_t children_length;
+    const uint32_t *named;
+    size_t named_length;
+    const uint32_t *definitions;
+    size_t definitions_length;
+    const uint32_t *items;
+    size_t items_length;
+    const uint8_t *payload;
+    size_t payload_length;
+    const uint8_t *strings;
+    size_t strings_length;
+};
+
+/* Paths beside a draft, lent: STORY_IMAGE_PATH_WORDS words a path, STORY_IMAGE_STEP_WORDS words a component, and the
+ * bytes of names. */
+struct story_image_paths {
+    const uint32_t *paths;
+    size_t paths_length;
+    const uint32_t *components;
+    size_t components_length;
+    const uint8_t *names;
+    size_t names_length;
+};
+
+/* For the calls below alone: a pointer that is not null for a slice of length 0, and what is lent of a struct. */
+static inline const uint8_t *story_image_lent_bytes(const uint8_t *bytes, size_t length) {
+    static const uint8_t none[1] = {0};
+    return length == 0 ? none : bytes;
+}
+static inline const uint32_t *story_image_lent_words(const uint32_t *words, size_t length) {
+    static const uint32_t none[1] = {0};
+    return length == 0 ? none : words;
+}
+
+#define STORY_IMAGE_LENT_BYTES(of, slice) story_image_lent_bytes(of->slice, of->slice##_length), of->slice##_length
+#define STORY_IMAGE_LENT_WORDS(of, slice) story_image_lent_words(of->slice, of->slice##_length), of->slice##_length
+#define STORY_IMAGE_LENT_IMAGE \
+    story_image_lent_bytes(image->bytes, image->length), image->length, image->view, STORY_IMAGE_VIEW_WORDS
+#define STORY_IMAGE_LENT_TABLES \
+    STORY_IMAGE_LENT_WORDS(draft, children), STORY_IMAGE_LENT_WORDS(draft, named), \
+    STORY_IMAGE_LENT_WORDS(draft, definitions), STORY_IMAGE_LENT_WORDS(draft, items), \
+    STORY_IMAGE_LENT_BYTES(draft, payload)
+
+static inline size_t story_image_load_words_in(const struct story_image *image) {
+    return story_image_load_words(story_image_lent_bytes(image->bytes, image->length), image->length);
+}
+
+/* The view is the image's own: where nothing is refused it is set, else it stays. */
+static inline uint32_t story_image_load_in(struct story_image *image, uint32_t *work, size_t work_length) {
+    uint32_t none[1] = {0};
+    return story_image_load(story_image_lent_bytes(image->bytes, image->length), image->length,
+                            work_length == 0 ? none : work, work_length, image->view, STORY_IMAGE_VIEW_WORDS);
+}
+
+static inline uint32_t story_image_node_view_in(const struct story_image *image, uint32_t node,
+                                                uint32_t answer[STORY_IMAGE_NODE_WORDS]) {
+    return story_image_node_view(STORY_IMAGE_LENT_IMAGE, node, answer, STORY_IMAGE_NODE_WORDS);
+}
+
+static inline uint32_t story_image_page_in(const struct story_image *image, const uint32_t *numbers,
+                                           size_t numbers_length, uint32_t *slots, size_t slots_length) {
+    uint32_t none[1] = {0};
+    return story_image_page(STORY_IMAGE_LENT_IMAGE, story_image_lent_words(numbers, numbers_length), numbers_length,
+                            slots_length == 0 ? none : slots, slots_length);
+}
+
+/* Of a slot of a page. */
+static inline uint32_t story_image_slot_view_in(const struct story_image *image,
+                                                const uint32_t slot[STORY_IMAGE_SLOT_WORDS],
+                                                uint32_t answer[STORY_IMAGE_NODE_WORDS]) {
+    return story_image_slot_view(STORY_IMAGE_LENT_IMAGE, slot, STORY_IMAGE_SLOT_WORDS, answer, STORY_IMAGE_NODE_WORDS);
+}
+
+static inline uint32_t story_image_text_in(const struct story_image *image, uint32_t offset, uint32_t text_length,
+                                           uint32_t answer[STORY_IMAGE_TEXT_WORDS]) {
+    return story_image_text(STORY_IMAGE_LENT_IMAGE, offset, text_length, answer, STORY_IMAGE_TEXT_WORDS);
+}
+
+static inline uint32_t story_image_depth_in(const struct story_image *image, uint32_t node,
+                                            uint32_t answer[STORY_IMAGE_COUNT_WORDS]) {
+    return story_image_depth(STORY_IMAGE_LENT_IMAGE, node, answer, STORY_IMAGE_COUNT_WORDS);
+}
+
+static inline uint32_t story_image_child_count_in(const struct story_image *image, uint32_t node,
+                                                  uint32_t answer[STORY_IMAGE_COUNT_WORDS]) {
+    return story_image_child_count(STORY_IMAGE_LENT_IMAGE, node, answer, STORY_IMAGE_COUNT_WORDS);
+}
+
+static inline uint32_t story_image_named_child_count_in(const struct story_image *image, uint32_t node,
+                                                        uint32_t answer[STORY_IMAGE_COUNT_WORDS]) {
+    return story_image_named_child_count(STORY_IMAGE_LENT_IMAGE, node, answer, STORY_IMAGE_COUNT_WORDS);
+}
+
+static inline uint32_t story_image_child_at_in(const struct story_image *image, uint32_t node, uint32_t index,
+                                               uint32_t answer[STORY_IMAGE_FOUND_WORDS]) {
+    return story_image_child_at(STORY_IMAGE_LENT_IMAGE, node, index, answer, STORY_IMAGE_FOUND_WORDS);
+}
+
+static inline uint32_t story_image_named_child_at_in(const struct story_image *image, uint32_t node, uint32_t index,
+                                                     uint32_t answer[STORY_IMAGE_NAMED_CHILD_WORDS]) {
+    return story_image_named_child_at(STORY_IMAGE_LENT_IMAGE, node, index, answer, STORY_IMAGE_NAMED_CHILD_WORDS);
+}
+
+static inline uint32_t story_image_find_named_child_in(const struct story_image *image, uint32_t node,
+                                                       const uint8_t *name, size_t name_length,
+                                                       uint32_t answer[STORY_IMAGE_FOUND_WORDS]) {
+    return story_image_find_named_child(STORY_IMAGE_LENT_IMAGE, node, story_image_lent_bytes(name, name_length),
+                                        name_length, answer, STORY_IMAGE_FOUND_WORDS);
+}
+
+static inline uint32_t story_image_list_payload_in(const struct story_image *image, uint32_t node,
+                                                   uint32_t answer[STORY_IMAGE_LIST_PAYLOAD_WORDS]) {
+    return story_image_list_payload(STORY_IMAGE_LENT_IMAGE, node, answer, STORY_IMAGE_LIST_PAYLOAD_WORDS);
+}
+
+static inline uint32_t story_image_list_counts_in(const struct story_image *image, uint32_t node,
+                                                  uint32_t answer[STORY_IMAGE_LIST_COUNTS_WORDS]) {
+    return story_image_list_counts(STORY_IMAGE_LENT_IMAGE, node, answer, STORY_IMAGE_LIST_COUNTS_WORDS);
+}
+
+static inline uint32_t story_image_node_list_entry_in(const struct story_image *image, uint32_t node, uint32_t index,
+                                                      uint32_t answer[STORY_IMAGE_LIST_ENTRY_WORDS]) {
+    return story_image_node_list_entry(STORY_IMAGE_LENT_IMAGE, node, index, answer, STORY_IMAGE_LIST_ENTRY_WORDS);
+}
+
+static inline uint32_t story_image_node_list_origin_in(const struct story_image *image, uint32_t node, uint32_t index,
+                                                       uint32_t answer[STORY_IMAGE_LIST_ORIGIN_WORDS]) {
+    return story_image_node_list_origin(STORY_IMAGE_LENT_IMAGE, node, index, answer, STORY_IMAGE_LIST_ORIGIN_WORDS);
+}
+
+static inline uint32_t story_image_definition_count_in(const struct story_image *image,
+                                                       uint32_t answer[STORY_IMAGE_COUNT_WORDS]) {
+    return story_image_definition_count(STORY_IMAGE_LENT_IMAGE, answer, STORY_IMAGE_COUNT_WORDS);
+}
+
+static inline uint32_t story_image_definition_in(const struct story_image *image, uint32_t index,
+                                                 uint32_t answer[STORY_IMAGE_DEFINITION_WORDS]) {
+    return story_image_definition(STORY_IMAGE_LENT_IMAGE, index, answer, STORY_IMAGE_DEFINITION_WORDS);
+}
+
+static inline uint32_t story_image_definition_item_in(const struct story_image *image, uint32_t index, uint32_t item,
+                                                      uint32_t answer[STORY_IMAGE_DEFINITION_ITEM_WORDS]) {
+    return story_image_definition_item(STORY_IMAGE_LENT_IMAGE, index, item, answer, STORY_IMAGE_DEFINITION_ITEM_WORDS);
+}
+
+static inline uint32_t story_image_definition_first_item_in(const struct story_image *image, uint32_t index,
+                                                            uint32_t answer[STORY_IMAGE_COUNT_WORDS]) {
+    return story_image_definition_first_item(STORY_IMAGE_LENT_IMAGE, index, answer, STORY_IMAGE_COUNT_WORDS);
+}
+
+/* Without a count where `searched` is null. */
+static inline uint32_t story_image_find_list_item_in(const struct story_image *image, const uint8_t *name,
+                                                     size_t name_length, uint32_t answer[STORY_IMAGE_LIST_ITEM_WORDS],
+                                                     uint32_t searched[STORY_IMAGE_COUNT_WORDS]) {
+    uint32_t none[1] = {0};
+    return story_image_find_list_item(STORY_IMAGE_LENT_IMAGE, story_image_lent_bytes(name, name_length), name_length,
+                                      answer, STORY_IMAGE_LIST_ITEM_WORDS, searched ? searched : none,
+                                      searched ? STORY_IMAGE_COUNT_WORDS : 0);
+}
+
+static inline uint32_t story_image_resolve_path_in(const struct story_image *image, uint32_t origin, bool relative,
+                                                   const uint32_t *path, size_t path_length, const uint8_t *names,
+                                                   size_t names_length, uint32_t answer[STORY_IMAGE_FOUND_WORDS]) {
+    return story_image_resolve_path(STORY_IMAGE_LENT_IMAGE, origin, relative, story_image_lent_words(path, path_length),
+                                    path_length, story_image_lent_bytes(names, names_length), names_length, answer,
+                                    STORY_IMAGE_FOUND_WORDS);
+}
+
+static inline size_t story_image_draft_write_words(const struct story_image_draft *draft) {
+    return story_image_write_words(STORY_IMAGE_LENT_WORDS(draft, nodes), STORY_IMAGE_LENT_TABLES);
+}
+
+/* One word is written for the length. No output, of length 0, asks for it. */
+static inline uint32_t story_image_draft_write(const struct story_image_draft *draft, uint32_t *work,
+                                               size_t work_length, uint8_t *output, size_t output_length,
+                                               uint32_t written[STORY_IMAGE_COUNT_WORDS]) {
+    uint32_t no_work[1] = {0};
+    uint8_t no_output[1] = {0};
+    return story_image_write(draft->ink_version, STORY_IMAGE_LENT_WORDS(draft, nodes), STORY_IMAGE_LENT_TABLES,
+                             STORY_IMAGE_LENT_BYTES(draft, strings), work_length == 0 ? no_work : work, work_length,
+                             output_length == 0 ? no_output : output, output_length, written, STORY_IMAGE_COUNT_WORDS);
+}
+
+/* Sets targets in the draft's nodes. */
+static inline uint32_t story_image_draft_resolve(struct story_image_draft *draft,
+                                                 const struct story_image_paths *beside, uint32_t *work,
+                                                 size_t work_length) {
+    uint32_t no_nodes[1] = {0}, no_work[1] = {0};
+    return story_image_resolve_static_targets(
+        draft->ink_version, draft->nodes_length == 0 ? no_nodes : draft->nodes, draft->nodes_length,
+        STORY_IMAGE_LENT_TABLES, STORY_IMAGE_LENT_BYTES(draft, strings), STORY_IMAGE_LENT_WORDS(beside, paths),
+        STORY_IMAGE_LENT_WORDS(beside, components), STORY_IMAGE_LENT_BYTES(beside, names),
+        work_length == 0 ? no_work : work, work_length);
+}
+
+#undef STORY_IMAGE_LENT_BYTES
+#undef STORY_IMAGE_LENT_WORDS
+#undef STORY_IMAGE_LENT_IMAGE
+#undef STORY_IMAGE_LENT_TABLES
 
 #ifdef __cplusplus
 }

@@ -1,5 +1,5 @@
 //! Copies the published files, unchanged, beside our stand-ins and names them as modules of this crate.
-//! They are read from the folder STORY_IMAGE_REFERENCE, by default ../shared/docs/src beside the repository.
+//! They are read from the folder STORY_IMAGE_REFERENCE, by default ../blade-ink-rs beside the repository.
 
 use std::{env, fs, path::Path, path::PathBuf};
 
@@ -67,7 +67,7 @@ fn main() {
     let root = here.join("../..");
     let source = match env::var_os("STORY_IMAGE_REFERENCE") {
         Some(folder) => root.join(folder),
-        None => root.join("../shared/docs/src"),
+        None => root.join("../blade-ink-rs"),
     };
     let published = source.join("runtime/src");
     let tree = PathBuf::from(env::var_os("OUT_DIR").unwrap()).join("published");

@@ -1,18 +1,19 @@
 //! Both sides measured in one process, in turns, by processor time: load, node views, depths, walks and list look-ups,
-//! writing; pages against lone calls; targets from paths; then the leaves by themselves, and the size of the library.
+//! writing; pages against lone calls; targets from paths; texts that a draft's rules test; then the leaves by
+//! themselves, and the size of the library. At the end the goals, which stand in `goals`.
 
 mod archive;
+mod goals;
 mod inputs;
 mod leaves;
 #[cfg(feature = "queries")]
 mod pages;
 mod targets;
+mod texts;
 
 #[cfg(not(feature = "queries"))]
 mod pages {
-    pub fn run(_: &super::Input, _: super::Duration) -> u64 {
-        0
-    }
+    pub fn run(_: &super::Input, _: &mut super::Sheet) {}
 }
 
 pub use inputs::lapped_chain;
@@ -23,8 +24,9 @@ use reference::Walk;
 use std::hint::black_box;
 use std::time::{Duration, Instant};
 
-/// At most so many rounds, and at least three.
+/// At most so many rounds, and at least three, but none is begun after this time.
 const ROUNDS: usize = 15;
+const LONGEST: Duration = Duration::from_secs(10);
 
 /// The sides of all but the leaves and pages: the other, and ours.
 const PUBLISHED: [&str; 2] = ["published", OURS];
@@ -34,75 +36,91 @@ const OURS: &str = "ours";
 const PAGES: &str = "pages";
 
 /// Measures each thing for so many seconds, or until all rounds are done; of the inputs, those with the words in their
-/// name, or pages alone.
+/// name, or pages alone. Whether a goal was missed.
 pub fn run(seconds: u64, words: &str) -> bool {
-    let long = Duration::from_secs(seconds);
+    let mut sheet = Sheet { long: Duration::from_secs(seconds), input: "", lines: vec![] };
     let mut random = Random::new(5);
     println!("median of up to {ROUNDS} rounds; ratio of ours to the published Rust: median (lowest to highest)");
-    println!("pages: ratio of one call to forty, which shall be at most 0.7");
-    println!("items in the last of sixty definitions: ratio to the published Rust, which shall be at most 0.2");
-    println!("targets of 200,000 mixed nodes with paths: ratio to the published Rust, which shall be at most 1");
-    let (mut measured, pages_alone) = (0, words == PAGES);
+    let pages_alone = words == PAGES;
     for make in inputs::ALL {
         let input = make(&mut random);
         if !(if pages_alone { input.asked } else { input.name.contains(words) }) {
             continue;
         }
         println!("{}: {} bytes, {} nodes", input.name, input.image.len(), input.nodes());
+        sheet.input = input.name;
         if !pages_alone {
-            measured += measure(&input, long);
+            measure(&input, &mut sheet);
         }
         if input.asked {
-            measured += pages::run(&input, long);
+            pages::run(&input, &mut sheet);
         }
     }
     if !pages_alone {
-        measured += targets::run(long, words);
+        targets::run(words, &mut sheet);
+        texts::run(words, &mut sheet);
     }
     if words.is_empty() {
-        measured += leaves::run(long, &mut random) + archive::run();
+        leaves::run(&mut random, &mut sheet);
+        archive::run();
     }
-    println!("{measured} passed, 0 failed");
-    false
+    println!("{} lines", sheet.lines.len());
+    goals::held(&sheet.lines, words)
 }
 
-/// Times of both sides, taken in turns.
-fn duel(
-    name: &str,
-    [other, one]: [&str; 2],
+/// The lines that were measured; what is measured now, and for how long.
+struct Sheet {
     long: Duration,
-    mut theirs: impl FnMut() -> Duration,
-    mut ours: Option<impl FnMut() -> Duration>,
-) -> u64 {
-    let (mut their, mut our, mut ratios) = (vec![], vec![], vec![]);
-    let start = Instant::now();
-    for round in 0..ROUNDS {
-        if round >= 3 && start.elapsed() > long {
-            break;
+    input: &'static str,
+    lines: Vec<Line>,
+}
+
+/// The median of a line's ratios, where ours was measured.
+struct Line {
+    input: &'static str,
+    name: String,
+    ratio: Option<f64>,
+}
+
+impl Sheet {
+    /// Times of both sides, taken in turns.
+    fn duel(
+        &mut self,
+        name: &str,
+        [other, one]: [&str; 2],
+        mut theirs: impl FnMut() -> Duration,
+        mut ours: Option<impl FnMut() -> Duration>,
+    ) {
+        let (mut their, mut our, mut ratios) = (vec![], vec![], vec![]);
+        let start = Instant::now();
+        for round in 0..ROUNDS {
+            if start.elapsed() > if round < 3 { LONGEST } else { self.long } {
+                break;
+            }
+            let time = theirs();
+            their.push(time);
+            if let Some(ours) = &mut ours {
+                let mine = ours();
+                our.push(mine);
+                ratios.push(mine.as_secs_f64() / time.as_secs_f64());
+            }
         }
-        let time = theirs();
-        their.push(time);
-        if let Some(ours) = &mut ours {
-            let mine = ours();
-            our.push(mine);
-            ratios.push(mine.as_secs_f64() / time.as_secs_f64());
+        their.sort();
+        our.sort();
+        ratios.sort_by(f64::total_cmp);
+        let middle = their.len() / 2;
+        match our.get(middle) {
+            Some(mine) => println!(
+                "    {name:16} {other} {:>12.3?} {one} {mine:>12.3?} ratio {:.2} ({:.2} to {:.2})",
+                their[middle],
+                ratios[middle],
+                ratios[0],
+                ratios[ratios.len() - 1]
+            ),
+            None => println!("    {name:16} {other} {:>12.3?}", their[middle]),
         }
+        self.lines.push(Line { input: self.input, name: name.to_owned(), ratio: ratios.get(middle).copied() });
     }
-    their.sort();
-    our.sort();
-    ratios.sort_by(f64::total_cmp);
-    let middle = their.len() / 2;
-    match our.get(middle) {
-        Some(mine) => println!(
-            "    {name:16} {other} {:>12.3?} {one} {mine:>12.3?} ratio {:.2} ({:.2} to {:.2})",
-            their[middle],
-            ratios[middle],
-            ratios[0],
-            ratios[ratios.len() - 1]
-        ),
-        None => println!("    {name:16} {other} {:>12.3?}", their[middle]),
-    }
-    1
 }
 
 #[repr(C)]
@@ -134,27 +152,26 @@ fn timed<T>(work: impl FnOnce() -> T) -> Duration {
     processor_time() - start
 }
 
-fn measure(input: &Input, long: Duration) -> u64 {
+fn measure(input: &Input, sheet: &mut Sheet) {
     let image = &input.image[..];
     let ours = ours::Measured::new(input);
     let load = || timed(|| reference::load(black_box(image)).is_ok());
-    let mut measured = duel("load", PUBLISHED, long, load, ours.load());
+    sheet.duel("load", PUBLISHED, load, ours.load());
     if input.asked {
-        measured += ask(input, &ours, long);
+        ask(input, &ours, sheet);
     }
-    measured += look_up(input, &ours, long);
+    look_up(input, &ours, sheet);
     if let Some(draft) = &input.draft {
         let write = || {
             let story = reference::Story::new(draft).expect("a story");
             timed(|| reference::write_story(21, story))
         };
-        measured += duel("write", PUBLISHED, long, write, ours.write());
+        sheet.duel("write", PUBLISHED, write, ours.write());
     }
-    measured
 }
 
 /// What a player asks of a loaded image.
-fn ask(input: &Input, ours: &ours::Measured, long: Duration) -> u64 {
+fn ask(input: &Input, ours: &ours::Measured, sheet: &mut Sheet) {
     let theirs = inputs::view(&input.image);
     let walks: Vec<(u32, Walk)> =
         input.walks.iter().map(|(origin, relative, steps)| (*origin, Walk::new(*relative, steps))).collect();
@@ -162,21 +179,19 @@ fn ask(input: &Input, ours: &ours::Measured, long: Duration) -> u64 {
     let depths =
         || timed(|| (0..input.nodes()).filter_map(|node| theirs.steps_to_root(node)).map(u64::from).sum::<u64>());
     let walked = || timed(|| walks.iter().filter_map(|(origin, walk)| theirs.walk(*origin, walk)).count());
-    duel("node views", PUBLISHED, long, views, ours.views())
-        + duel("views as enums", PUBLISHED, long, views, ours.enums())
-        + duel("depths", PUBLISHED, long, depths, ours.depths())
-        + duel("walks", PUBLISHED, long, walked, ours.walks())
+    sheet.duel("node views", PUBLISHED, views, ours.views());
+    sheet.duel("views as enums", PUBLISHED, views, ours.enums());
+    sheet.duel("depths", PUBLISHED, depths, ours.depths());
+    sheet.duel("walks", PUBLISHED, walked, ours.walks());
 }
 
 /// List items by name.
-fn look_up(input: &Input, ours: &ours::Measured, long: Duration) -> u64 {
-    let mut measured = 0;
+fn look_up(input: &Input, ours: &ours::Measured, sheet: &mut Sheet) {
     for LookUps { name, items } in &input.look_ups {
         let theirs = inputs::view(&input.image);
         let looked = || timed(|| items.iter().filter(|name| theirs.has_list_item(name)).count());
-        measured += duel(name, PUBLISHED, long, looked, ours.items(items));
+        sheet.duel(name, PUBLISHED, looked, ours.items(items));
     }
-    measured
 }
 
 #[cfg(not(feature = "ours"))]

@@ -12,6 +12,10 @@ mod guide;
 mod images;
 mod library;
 mod lists;
+// the wrapper's own file: without our library there is no wrapper
+#[allow(dead_code)]
+#[path = "../../bindings/rust/src/names.rs"]
+mod names;
 #[cfg(feature = "ours")]
 mod ours;
 mod pages;

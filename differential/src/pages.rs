@@ -83,9 +83,9 @@ impl<'a> Nodes<'a> {
         let named = |names: &[&str]| text.is_some_and(|text| names.iter().any(|name| name.as_bytes() == text));
         match tag {
             1 | 2 | 5 | 8..=10 | 18 => true,
-            3 => named(&COMMANDS),
+            3 => named(COMMANDS),
             4 => f6 / 8 <= 2,
-            6 => named(&OPERATORS),
+            6 => named(OPERATORS),
             7 | 11 | 13 | 14 | 16 | 17 => text.is_some(),
             12 => end <= self.payload,
             _ => false,

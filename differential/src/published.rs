@@ -34,13 +34,18 @@ pub enum Mistake {
     DepthRoot,
     DepthBound,
     DepthCircle,
+    ChildCount,
     ChildAt,
+    NamedCount,
     NamedAt,
     FindNamed,
     Text,
     ListValue,
     ListOrigin,
+    DefinitionCount,
     Definition,
+    DefinitionItem,
+    DefinitionItemPast,
     FirstListItem,
     SearchCompared,
     SearchOn,
@@ -50,6 +55,8 @@ pub enum Mistake {
     SearchOutside,
     SearchPlain,
     RelativeSkip,
+    AbsoluteOrigin,
+    AbsoluteTested,
     WrittenByte,
     PastOutput,
     NoTwentyThree,
@@ -61,6 +68,7 @@ pub enum Mistake {
     TargetKept,
     TargetText,
     TargetSkip,
+    TargetAbsolute,
     TargetTwice,
     TargetExternal,
     TargetTested,
@@ -68,7 +76,7 @@ pub enum Mistake {
     TargetEmpty,
 }
 
-pub const MISTAKES: [Mistake; 51] = [
+pub const MISTAKES: [Mistake; 59] = [
     Mistake::Number,
     Mistake::WorkLeft,
     Mistake::NoSeven,
@@ -88,13 +96,18 @@ pub const MISTAKES: [Mistake; 51] = [
     Mistake::DepthRoot,
     Mistake::DepthBound,
     Mistake::DepthCircle,
+    Mistake::ChildCount,
     Mistake::ChildAt,
+    Mistake::NamedCount,
     Mistake::NamedAt,
     Mistake::FindNamed,
     Mistake::Text,
     Mistake::ListValue,
     Mistake::ListOrigin,
+    Mistake::DefinitionCount,
     Mistake::Definition,
+    Mistake::DefinitionItem,
+    Mistake::DefinitionItemPast,
     Mistake::FirstListItem,
     Mistake::SearchCompared,
     Mistake::SearchOn,
@@ -104,6 +117,8 @@ pub const MISTAKES: [Mistake; 51] = [
     Mistake::SearchOutside,
     Mistake::SearchPlain,
     Mistake::RelativeSkip,
+    Mistake::AbsoluteOrigin,
+    Mistake::AbsoluteTested,
     Mistake::WrittenByte,
     Mistake::PastOutput,
     Mistake::NoTwentyThree,
@@ -115,6 +130,7 @@ pub const MISTAKES: [Mistake; 51] = [
     Mistake::TargetKept,
     Mistake::TargetText,
     Mistake::TargetSkip,
+    Mistake::TargetAbsolute,
     Mistake::TargetTwice,
     Mistake::TargetExternal,
     Mistake::TargetTested,
@@ -276,8 +292,11 @@ impl Queries for Published {
         }
     }
 
+    /// The mistake: named children are counted too.
     fn child_count(&self, bytes: &[u8], _: &View, node: u32) -> Option<u32> {
-        image(bytes)?.child_count(node).map(|count| count as u32)
+        let image = image(bytes)?;
+        let named = if self.has(Mistake::ChildCount) { image.named_child_count(node)? } else { 0 };
+        image.child_count(node).map(|count| (count + named) as u32)
     }
 
     fn child_at(&self, bytes: &[u8], _: &View, node: u32, index: u32) -> Option<u32> {
@@ -285,8 +304,11 @@ impl Queries for Published {
         image(bytes)?.child_at(node, index as usize)
     }
 
+    /// The mistake: a node that is no container has 0.
     fn named_child_count(&self, bytes: &[u8], _: &View, node: u32) -> Option<u32> {
-        image(bytes)?.named_child_count(node).map(|count| count as u32)
+        let image = image(bytes)?;
+        let none = || image.node_view(node).filter(|_| self.has(Mistake::NamedCount)).map(|_| 0);
+        image.named_child_count(node).map(|count| count as u32).or_else(none)
     }
 
     fn named_child_at(&self, bytes: &[u8], _: &View, node: u32, index: u32) -> Option<Named> {
@@ -322,8 +344,12 @@ impl Queries for Published {
         Some(place_of(bytes, entries(bytes, list)?.origins.get(index as usize)?))
     }
 
+    /// The mistake: definitions without items are not counted.
     fn definition_count(&self, bytes: &[u8], _: &View) -> Option<u32> {
-        Some(image(bytes)?.definition_count() as u32)
+        let image = image(bytes)?;
+        let has_items = |index: &usize| image.definition(*index).is_some_and(|(_, items)| items > 0);
+        let counted = |index: &usize| !self.has(Mistake::DefinitionCount) || has_items(index);
+        Some((0..image.definition_count()).filter(counted).count() as u32)
     }
 
     fn definition(&self, bytes: &[u8], _: &View, index: u32) -> Option<(Place, u32)> {
@@ -331,8 +357,16 @@ impl Queries for Published {
         Some((name, items as u32 + u32::from(self.has(Mistake::Definition))))
     }
 
+    /// The mistakes: the item behind the one that is asked for, where there is one; behind the last, the first of the next
+    /// definition.
     fn definition_item(&self, bytes: &[u8], _: &View, index: u32, item: u32) -> Option<(Place, i32)> {
-        image(bytes)?.definition_item(index as usize, item as usize)
+        let (image, index, item) = (image(bytes)?, index as usize, item as usize);
+        let found = image.definition_item(index, item);
+        match self.0 {
+            Mistake::DefinitionItem => image.definition_item(index, item + 1).filter(|_| found.is_some()).or(found),
+            Mistake::DefinitionItemPast if image.definition(index)?.1 == item => image.definition_item(index + 1, 0),
+            _ => found,
+        }
     }
 
     /// By the image's words: the published Rust does not tell it.
@@ -365,7 +399,12 @@ impl Queries for Published {
         if self.has(Mistake::RelativeSkip) && relative && !container() {
             return image.resolve_path(image.node_view(origin)?.parent?, true, steps);
         }
-        image.resolve_path(origin, relative, steps)
+        match self.0 {
+            // an absolute walk that begins at its origin, if this is a container; that asks for an origin inside
+            Mistake::AbsoluteOrigin => image.resolve_path(origin, relative || container(), steps),
+            Mistake::AbsoluteTested if !relative && image.node_view(origin).is_none() => None,
+            _ => image.resolve_path(origin, relative, steps),
+        }
     }
 
     fn resolve_components(&self, _: &[u8], _: &View, _: u32, _: bool, _: &[u32], _: &[u8]) -> Option<u32> {

@@ -2,6 +2,7 @@
 
 use crate::depths;
 use crate::library::{Found, Queries, View, header_view};
+use crate::names::{kind, kind_name};
 use crate::pages;
 use crate::parts::NONE;
 use crate::random::Random;
@@ -69,7 +70,7 @@ impl Asking<'_> {
         let image = self.image;
         let view = image.node_view(node);
         if let Some(view) = &view {
-            *self.tally.kinds.entry(kind_name(&view.kind)).or_default() += 1;
+            *self.tally.kinds.entry(name_of(&view.kind)).or_default() += 1;
             self.texts(view);
             if let Kind::List(list) = view.kind {
                 self.list(node, list);
@@ -292,44 +293,26 @@ fn named_step(name: &str) -> Step {
     if name == "^" { Step::Parent } else { Step::Name(name.to_owned()) }
 }
 
-pub const KINDS: [&str; 17] = [
-    "container",
-    "choice",
-    "command",
-    "divert",
-    "glue",
-    "operator",
-    "tag",
-    "bool",
-    "int",
-    "float",
-    "string",
-    "list",
-    "divert target",
-    "pointer",
-    "assignment",
-    "reference",
-    "void",
-];
-
-fn kind_name(kind: &Kind) -> &'static str {
-    KINDS[match kind {
-        Kind::Container { .. } => 0,
-        Kind::Choice { .. } => 1,
-        Kind::Command(_) => 2,
-        Kind::Divert { .. } => 3,
-        Kind::Glue => 4,
-        Kind::Operator(_) => 5,
-        Kind::Tag(_) => 6,
-        Kind::Bool(_) => 7,
-        Kind::Int(_) => 8,
-        Kind::Float(_) => 9,
-        Kind::String(_) => 10,
-        Kind::List(_) => 11,
-        Kind::DivertTarget(_) => 12,
-        Kind::Pointer { .. } => 13,
-        Kind::Assignment { .. } => 14,
-        Kind::Reference { .. } => 15,
-        Kind::Void => 16,
-    }]
+/// The name of a kind that the published Rust shows.
+fn name_of(kind: &Kind) -> &'static str {
+    let number = match kind {
+        Kind::Container { .. } => kind::CONTAINER,
+        Kind::Choice { .. } => kind::CHOICE,
+        Kind::Command(_) => kind::COMMAND,
+        Kind::Divert { .. } => kind::DIVERT,
+        Kind::Glue => kind::GLUE,
+        Kind::Operator(_) => kind::OPERATOR,
+        Kind::Tag(_) => kind::TAG,
+        Kind::Bool(_) => kind::BOOL,
+        Kind::Int(_) => kind::INT,
+        Kind::Float(_) => kind::FLOAT,
+        Kind::String(_) => kind::STRING,
+        Kind::List(_) => kind::LIST,
+        Kind::DivertTarget(_) => kind::DIVERT_TARGET,
+        Kind::Pointer { .. } => kind::POINTER,
+        Kind::Assignment { .. } => kind::ASSIGNMENT,
+        Kind::Reference { .. } => kind::REFERENCE,
+        Kind::Void => kind::VOID,
+    };
+    kind_name(number).expect("a kind")
 }

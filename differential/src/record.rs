@@ -23,6 +23,9 @@
 //! | 18 list item | number, definition, item among all, value, name's length, name |
 //! | 19 walk | origin, relative, number, node, number of components, three words each, names' length, names |
 //! | 20 draft | ink version, number, lengths of nodes, children, named, definitions, items (in words), payload, strings, image (in bytes), then all of these; no image where the number is not 0; the number 21 says that the Rust refuses, and that only refusal is compared |
+//! | 21 targets | ink version, number, lengths of nodes, children, named, definitions, items (in words), payload, strings (in bytes), of the paths' entries, components (in words) and names (in bytes), then all of these, and the nodes after the call, unchanged where the number is not 0 |
+
+mod targets;
 
 use crate::damage;
 use crate::drafts;
@@ -59,6 +62,7 @@ struct Recorder {
     reasons: HashMap<String, u64>,
     /// What is met in the indexes of images that the published Rust accepts.
     index: [u64; path_index::CASES.len()],
+    targets: targets::Met,
 }
 
 pub fn run(file: &str) -> bool {
@@ -67,6 +71,7 @@ pub fn run(file: &str) -> bool {
     recorder.stories(&mut random);
     recorder.rare(&mut random);
     recorder.drafts(&mut random);
+    recorder.targets(&mut random);
     recorder.words[2] = recorder.records;
     let counts = Counts::of(&recorder.words);
     counts.print();
@@ -76,6 +81,7 @@ pub fn run(file: &str) -> bool {
     println!("{right} right records, {wrong} wrong ones, {reasons} reasons, {} bytes in {file}", bytes.len());
     let mut failures = counts.missing();
     failures.extend(recorder.missing_of_index());
+    failures.extend(recorder.targets.missing());
     failures.extend(std::fs::write(file, bytes).err().map(|error| format!("{file}: {error}")));
     for failure in &failures {
         println!("failed: {failure}");

@@ -3,7 +3,7 @@
 use std::collections::BTreeMap;
 
 /// Kinds of records and their names; of a query, where its number stands among the words.
-const KINDS: [(u32, &str, Option<usize>); 15] = [
+const KINDS: [(u32, &str, Option<usize>); 16] = [
     (1, "image", None),
     (2, "word", None),
     (3, "bit", None),
@@ -19,6 +19,7 @@ const KINDS: [(u32, &str, Option<usize>); 15] = [
     (18, "list item", Some(0)),
     (19, "walk", Some(2)),
     (20, "draft", None),
+    (21, "targets", None),
 ];
 
 #[derive(Default)]
@@ -29,8 +30,9 @@ pub struct Counts {
     found: BTreeMap<&'static str, [u64; 2]>,
     /// Views by kind of node.
     nodes: BTreeMap<u32, u64>,
-    /// Drafts by number.
+    /// Drafts by number, and those with paths.
     drafts: BTreeMap<u32, u64>,
+    targets: BTreeMap<u32, u64>,
 }
 
 impl Counts {
@@ -53,6 +55,7 @@ impl Counts {
             10 if words[1] == 0 => *self.nodes.entry(words[4]).or_default() += 1,
             19 => self.query(["absolute walk", "relative walk"][words[1] as usize], words[2]),
             20 => *self.drafts.entry(words[1]).or_default() += 1,
+            21 => *self.targets.entry(words[1]).or_default() += 1,
             _ => {}
         }
         for (_, name, number) in KINDS.iter().filter(|known| known.0 == kind) {
@@ -75,7 +78,9 @@ impl Counts {
         let queries = names.filter(|name| self.found.get(name).is_none_or(|found| found.contains(&0)));
         let numbers = [0, 20, 21, 22].into_iter().filter(|number| !self.drafts.contains_key(number));
         let drafts = numbers.map(|number| format!("draft {number}"));
-        rows.chain(tags).chain(queries.map(str::to_owned)).chain(drafts).collect()
+        let numbers = [0, 25, 26].into_iter().filter(|number| !self.targets.contains_key(number));
+        let targets = numbers.map(|number| format!("targets {number}"));
+        rows.chain(tags).chain(queries.map(str::to_owned)).chain(drafts).chain(targets).collect()
     }
 
     pub fn print(&self) {
@@ -86,6 +91,7 @@ impl Counts {
         print("loads by row", &self.rows);
         print("views by kind of node", &self.nodes);
         print("drafts by number", &self.drafts);
+        print("targets by number", &self.targets);
         println!("queries: found, nothing");
         for (name, [found, nothing]) in &self.found {
             println!("    {name:20} {found:>8} {nothing:>8}");

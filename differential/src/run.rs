@@ -5,10 +5,10 @@ use crate::depths;
 use crate::drafts::Case;
 use crate::images::image;
 use crate::library::Library;
+use crate::names::KINDS;
 use crate::pages;
 use crate::path_index;
 use crate::published::{MISTAKES, Mistake, Published};
-use crate::queries::KINDS;
 use crate::random::Random;
 use crate::rows::{REASONS, RESOLVER, WRITER, row_of};
 use crate::searched;
@@ -83,7 +83,7 @@ fn coverage(ours: Option<&dyn Library>, tally: &mut Tally) {
         need(tally.reasons.contains_key(reason) == reachable, format!("reason {reason}, reachable: {reachable}"));
     }
     index_met(tally, &mut need);
-    for kind in KINDS {
+    for (_, kind) in KINDS {
         need(tally.kinds.contains_key(kind), format!("kind {kind}"));
     }
     for (name, [found, nothing]) in &tally.queries {

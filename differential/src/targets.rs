@@ -65,9 +65,9 @@ pub const MET: [&str; 17] = [
 const RESOLVED: &str = "resolved";
 
 /// The number and the words of the nodes that are due.
-struct Due {
-    number: u32,
-    nodes: Vec<u32>,
+pub struct Due {
+    pub number: u32,
+    pub nodes: Vec<u32>,
 }
 
 pub fn compare(case: &Case, ours: Option<&dyn Library>, random: &mut Random, tally: &mut Tally) {
@@ -102,7 +102,7 @@ pub fn teller(ours: Option<&dyn Library>) -> Option<&dyn Writer> {
 }
 
 /// What the published function gives, and that the definition gives the same.
-fn published(case: &Case, model: &Model, tally: &mut Tally) -> Due {
+pub fn published(case: &Case, model: &Model, tally: &mut Tally) -> Due {
     let (number, nodes) = match reference::resolve(&case.draft) {
         Resolved::Nodes(nodes) => (0, nodes),
         Resolved::Refused(message) => {

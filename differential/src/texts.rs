@@ -1,70 +1,11 @@
 //! Texts for generated stories, and the strings section that they are put into.
 
+use crate::names::{CommandType, Op};
 use crate::parts::NONE;
 use crate::random::Random;
 
-pub const COMMANDS: [&str; 26] = [
-    "ev",
-    "out",
-    "/ev",
-    "du",
-    "pop",
-    "~ret",
-    "->->",
-    "str",
-    "/str",
-    "nop",
-    "choiceCnt",
-    "turn",
-    "turns",
-    "readc",
-    "rnd",
-    "srnd",
-    "visit",
-    "seq",
-    "thread",
-    "done",
-    "end",
-    "listInt",
-    "range",
-    "lrnd",
-    "#",
-    "/#",
-];
-
-pub const OPERATORS: [&str; 31] = [
-    "+",
-    "-",
-    "/",
-    "*",
-    "%",
-    "_",
-    "==",
-    ">",
-    "<",
-    ">=",
-    "<=",
-    "!=",
-    "!",
-    "&&",
-    "||",
-    "MIN",
-    "MAX",
-    "POW",
-    "FLOOR",
-    "CEILING",
-    "INT",
-    "FLOAT",
-    "?",
-    "!?",
-    "^",
-    "LIST_MIN",
-    "LIST_MAX",
-    "LIST_ALL",
-    "LIST_COUNT",
-    "LIST_VALUE",
-    "LIST_INVERT",
-];
+pub const COMMANDS: &[&str] = CommandType::NAMES;
+pub const OPERATORS: &[&str] = Op::NAMES;
 
 const NAMES: [&str; 40] = [
     "a",

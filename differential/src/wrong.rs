@@ -3,8 +3,10 @@
 //! Behind the first record of each kind, and of each answer of a query and each number of a draft, stand copies with one
 //! word of the answer changed: a query that found something is said to have found nothing, and one word after another is
 //! another one; a query that found nothing is said to have found zeros. A load's row is another one. A draft's number is
-//! another one, its image has another byte, one byte less, or one more. Besides, a record of no known kind, a query of an
-//! image that is refused, and a walk of more components than are replayed.
+//! another one, its image has another byte, one byte less, or one more. Of a draft with paths the number is another one,
+//! 0 where it is refused and refused where it is not; a word that was set in a node is as it was, or another one; the
+//! last word of the nodes is another one, also where the draft is refused. Besides, a record of no known kind, a query of an image that is refused, and a walk
+//! of more components than are replayed.
 
 use std::collections::HashSet;
 
@@ -58,10 +60,28 @@ fn of_draft(words: &[u32]) -> Vec<Vec<u32>> {
     [another(words, words.len() - 1), with(words, 9, words[9] - 1), longer].into_iter().chain(numbers).collect()
 }
 
+/// Of a draft with paths, the words that are other ones after the call: what they were, and where they stand. The nodes
+/// stand behind twelve words, and after the call at the end; their length is the third of the twelve.
+fn set_words(words: &[u32]) -> impl Iterator<Item = (usize, u32)> {
+    let length = words[2] as usize;
+    let (before, end) = (&words[12..][..length], words.len() - length);
+    before.iter().enumerate().map(move |(k, word)| (end + k, *word)).filter(|(at, word)| words[*at] != *word)
+}
+
+fn of_targets(words: &[u32]) -> Vec<Vec<u32>> {
+    let numbers = [0, 25, 26].into_iter().filter(|number| *number != words[1]).map(|number| with(words, 1, number));
+    // as a rule the path text and the target of one node
+    let set: Vec<(usize, u32)> = set_words(words).take(3).collect();
+    let left = set.iter().map(|(at, word)| with(words, *at, *word));
+    let changed = set.iter().map(|(at, _)| *at).chain([words.len() - 1]).map(|at| another(words, at));
+    numbers.chain(left).chain(changed).collect()
+}
+
 fn wrong(kind: u32, words: &[u32]) -> Vec<Vec<u32>> {
     match (kind, answer(kind)) {
         (_, Some((at, count))) => of_query(words, at, count),
         (20, _) => of_draft(words),
+        (21, _) => of_targets(words),
         _ => vec![another(words, 0)],
     }
 }
@@ -81,6 +101,8 @@ fn sort_of(kind: u32, words: &[u32]) -> (u32, u32) {
     match (kind, answer(kind)) {
         (_, Some((at, _))) => (kind, words[at]),
         (20, _) => (kind, words[1]),
+        // of a resolved draft, whether a word was set
+        (21, _) => (kind, words[1] + u32::from(set_words(words).next().is_some())),
         _ => (kind, u32::from(words[0] != 0)),
     }
 }

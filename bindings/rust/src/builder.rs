@@ -1,7 +1,7 @@
 //! A draft made node by node in lent slices.
 
 use crate::draft::Draft;
-use crate::names::{CommandType, Op};
+use crate::names::{CommandType, Op, kind};
 use crate::node::PushPopType;
 use crate::targets::OpenDraft;
 use crate::{NODE_WORDS, NONE};
@@ -232,8 +232,8 @@ impl<'a> DraftBuilder<'a> {
     pub fn set_target(&mut self, node: u32, target: u32) -> Result<(), BuildError> {
         let at = self.place_of(node).ok_or(BuildError::NoTarget(node))?;
         let field = match self.room.nodes[at + TAG] {
-            2 | 4 | 13 => 2,
-            17 => 4,
+            kind::CHOICE | kind::DIVERT | kind::DIVERT_TARGET => 2,
+            kind::REFERENCE => 4,
             _ => return Err(BuildError::NoTarget(node)),
         };
         self.room.nodes[at + F + field] = target;
@@ -289,7 +289,7 @@ impl<'a> DraftBuilder<'a> {
         let Room { nodes, children, named, definitions, items, payload, strings } = self.room;
         let (records, _) = nodes[..self.nodes].as_chunks_mut::<NODE_WORDS>();
         let (mut child_start, mut named_start) = (0, 0);
-        for record in records.iter_mut().filter(|record| record[TAG] == 1) {
+        for record in records.iter_mut().filter(|record| record[TAG] == kind::CONTAINER) {
             (record[F + 3], record[F + 5]) = (child_start, named_start);
             (child_start, named_start) = (child_start + record[F + 4], named_start + record[F + 6]);
         }
@@ -333,7 +333,7 @@ impl<'a> DraftBuilder<'a> {
     }
 
     fn container(&self, node: u32) -> Result<usize, BuildError> {
-        let at = self.place_of(node).filter(|at| self.room.nodes[at + TAG] == 1);
+        let at = self.place_of(node).filter(|at| self.room.nodes[at + TAG] == kind::CONTAINER);
         at.ok_or(BuildError::NoContainer(node))
     }
 
@@ -374,13 +374,13 @@ impl<'a> DraftBuilder<'a> {
         match kind {
             NodeKind::Container { name, count_flags } => {
                 let [f0, f1] = self.optional(name)?;
-                Ok((1, [f0, f1, count_flags as u32, 0, 0, 0, 0]))
+                Ok((kind::CONTAINER, [f0, f1, count_flags as u32, 0, 0, 0, 0]))
             }
             NodeKind::ChoicePoint { path, target, flags } => {
                 let [f0, f1] = self.optional(path)?;
-                Ok((2, [f0, f1, target, flags as u32, NONE, NONE, NONE]))
+                Ok((kind::CHOICE, [f0, f1, target, flags as u32, NONE, NONE, NONE]))
             }
-            NodeKind::ControlCommand(command) => self.text_and(3, command.name(), NONE),
+            NodeKind::ControlCommand(command) => self.text_and(kind::COMMAND, command.name(), NONE),
             NodeKind::Divert {
                 path,
                 target,
@@ -397,27 +397,29 @@ impl<'a> DraftBuilder<'a> {
                     | u32::from(external) << 1
                     | u32::from(pushes_to_stack) << 2
                     | (stack_push_type as u32) << 3;
-                Ok((4, [f0, f1, target.unwrap_or(NONE), f3, f4, external_args, flags]))
+                Ok((kind::DIVERT, [f0, f1, target.unwrap_or(NONE), f3, f4, external_args, flags]))
             }
-            NodeKind::Glue => one(5, NONE),
-            NodeKind::NativeFunction(op) => self.text_and(6, op.name(), NONE),
-            NodeKind::Tag(text) => self.text_and(7, text, NONE),
-            NodeKind::Bool(value) => one(8, u32::from(value)),
-            NodeKind::Int(value) => one(9, value as u32),
-            NodeKind::Float(value) => one(10, value.to_bits()),
-            NodeKind::String(text) => self.text_and(11, text, NONE),
+            NodeKind::Glue => one(kind::GLUE, NONE),
+            NodeKind::NativeFunction(op) => self.text_and(kind::OPERATOR, op.name(), NONE),
+            NodeKind::Tag(text) => self.text_and(kind::TAG, text, NONE),
+            NodeKind::Bool(value) => one(kind::BOOL, u32::from(value)),
+            NodeKind::Int(value) => one(kind::INT, value as u32),
+            NodeKind::Float(value) => one(kind::FLOAT, value.to_bits()),
+            NodeKind::String(text) => self.text_and(kind::STRING, text, NONE),
             NodeKind::List { items, origins } => self.list(items, origins),
-            NodeKind::DivertTarget { path, target } => self.text_and(13, path, target),
-            NodeKind::VariablePointer { name, context_index } => self.text_and(14, name, context_index as u32),
+            NodeKind::DivertTarget { path, target } => self.text_and(kind::DIVERT_TARGET, path, target),
+            NodeKind::VariablePointer { name, context_index } => {
+                self.text_and(kind::POINTER, name, context_index as u32)
+            }
             NodeKind::VariableAssignment { name, global, new_declaration } => {
-                self.text_and(16, name, u32::from(global) | u32::from(new_declaration) << 1)
+                self.text_and(kind::ASSIGNMENT, name, u32::from(global) | u32::from(new_declaration) << 1)
             }
             NodeKind::VariableReference { name, count_path, count_target } => {
                 let [f0, f1] = self.text(name)?;
                 let [f2, f3] = self.optional(count_path)?;
-                Ok((17, [f0, f1, f2, f3, count_target.unwrap_or(NONE), NONE, NONE]))
+                Ok((kind::REFERENCE, [f0, f1, f2, f3, count_target.unwrap_or(NONE), NONE, NONE]))
             }
-            NodeKind::Void => one(18, NONE),
+            NodeKind::Void => one(kind::VOID, NONE),
         }
     }
 
@@ -437,7 +439,7 @@ impl<'a> DraftBuilder<'a> {
             self.words(&text)?;
         }
         let length = (self.payload - start) as u32;
-        Ok((12, [start as u32, length, NONE, NONE, NONE, NONE, NONE]))
+        Ok((kind::LIST, [start as u32, length, NONE, NONE, NONE, NONE, NONE]))
     }
 
     /// Words at the end of the payload.

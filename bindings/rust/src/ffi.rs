@@ -224,7 +224,7 @@ unsafe extern "C" {
     ) -> u32;
 
     /// The count goes into the first word of `searched`, with 18 too.
-    pub fn story_image_list_item(
+    pub fn story_image_find_list_item(
         bytes: *const u8,
         length: usize,
         view: *const u32,

@@ -28,7 +28,7 @@ pub use builder::{BuildError, DraftBuilder, ListEntry, NodeKind, Room};
 pub use draft::{Draft, WriteError, write};
 pub use image::{Image, NamedChildView, NodeKindView, NodeView, ValueView, load_words};
 pub use lists::{DefinitionView, ListEntryView, ListView};
-pub use names::{CommandType, Op};
+pub use names::{CommandType, KINDS, Op, kind, kind_name};
 pub use node::{NodeKindOf, NodeViewOf, PushPopType, ValueOf};
 pub use page::{Page, Slot};
 pub use path::{PathText, Step};

@@ -1,4 +1,52 @@
-//! The 26 commands and 31 operators, by number and by name.
+//! The kinds of nodes, the 26 commands and the 31 operators, by number and by name. The tools of the repository take
+//! them from here; this file stands alone, so that what is built without the library can have it too.
+
+/// Kinds of nodes, each with its number and its name.
+macro_rules! kinds {
+    ($($number:literal $case:ident $name:literal)*) => {
+        /// Kinds of nodes by number: the tags of an image. There is no 0 and no 15.
+        pub mod kind {
+            $(#[doc = concat!("`", $name, "`")] pub const $case: u32 = $number;)*
+        }
+
+        /// Number and name of each kind of node, in rising order.
+        pub const KINDS: &[(u32, &str)] = &[$((kind::$case, $name)),*];
+
+        /// The name of a kind of node by its number; nothing for a number that is none.
+        ///
+        /// ```
+        /// use story_image::{kind, kind_name};
+        ///
+        /// assert_eq!((kind_name(kind::DIVERT), kind_name(15)), (Some("divert"), None));
+        /// ```
+        pub const fn kind_name(number: u32) -> Option<&'static str> {
+            match number {
+                $(kind::$case => Some($name),)*
+                _ => None,
+            }
+        }
+    };
+}
+
+kinds! {
+    1 CONTAINER "container"
+    2 CHOICE "choice"
+    3 COMMAND "command"
+    4 DIVERT "divert"
+    5 GLUE "glue"
+    6 OPERATOR "operator"
+    7 TAG "tag"
+    8 BOOL "bool"
+    9 INT "int"
+    10 FLOAT "float"
+    11 STRING "string"
+    12 LIST "list"
+    13 DIVERT_TARGET "divert target"
+    14 POINTER "pointer"
+    16 ASSIGNMENT "assignment"
+    17 REFERENCE "reference"
+    18 VOID "void"
+}
 
 /// An enum whose cases are numbered from 0, each with the text by which an image names it.
 macro_rules! named {
@@ -12,6 +60,9 @@ macro_rules! named {
         impl $kind {
             /// All of them, by number.
             pub const ALL: &[$kind] = &[$($kind::$case),*];
+
+            /// The names of all of them, by number.
+            pub const NAMES: &[&'static str] = &[$($name),*];
 
             /// By its number, where there is one.
             #[inline]

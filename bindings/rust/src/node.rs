@@ -1,7 +1,7 @@
 //! A node's view as an enum, made of the ten words that the library writes.
 
 use crate::NONE;
-use crate::names::{CommandType, Op};
+use crate::names::{CommandType, Op, kind, kind_name};
 
 /// A node: parent, index among its parent's ordered children, kind.
 ///
@@ -52,6 +52,36 @@ pub enum NodeKindOf<T, L> {
         count_target: Option<u32>,
     },
     Void,
+}
+
+impl<T, L> NodeKindOf<T, L> {
+    /// Its number, the tag of an image: a constant of [`kind`].
+    pub const fn number(&self) -> u32 {
+        match self {
+            NodeKindOf::Container { .. } => kind::CONTAINER,
+            NodeKindOf::ChoicePoint { .. } => kind::CHOICE,
+            NodeKindOf::ControlCommand(_) => kind::COMMAND,
+            NodeKindOf::Divert { .. } => kind::DIVERT,
+            NodeKindOf::Glue => kind::GLUE,
+            NodeKindOf::NativeFunction(_) => kind::OPERATOR,
+            NodeKindOf::Tag(_) => kind::TAG,
+            NodeKindOf::Value(ValueOf::Bool(_)) => kind::BOOL,
+            NodeKindOf::Value(ValueOf::Int(_)) => kind::INT,
+            NodeKindOf::Value(ValueOf::Float(_)) => kind::FLOAT,
+            NodeKindOf::Value(ValueOf::String(_)) => kind::STRING,
+            NodeKindOf::Value(ValueOf::List(_)) => kind::LIST,
+            NodeKindOf::Value(ValueOf::DivertTarget(_)) => kind::DIVERT_TARGET,
+            NodeKindOf::Value(ValueOf::VariablePointer { .. }) => kind::POINTER,
+            NodeKindOf::VariableAssignment { .. } => kind::ASSIGNMENT,
+            NodeKindOf::VariableReference { .. } => kind::REFERENCE,
+            NodeKindOf::Void => kind::VOID,
+        }
+    }
+
+    /// Its name: `container`, `divert target`.
+    pub const fn name(&self) -> &'static str {
+        kind_name(self.number()).unwrap()
+    }
 }
 
 /// A value.
@@ -121,10 +151,12 @@ pub(crate) fn view_of<P: Parts>(node: u32, words: &[u32; WORDS], parts: &P) -> O
     let view = |kind| Some(NodeViewOf { parent: optional(parent), child_index: optional(place), kind });
     let text = || parts.text(offset, length);
     match tag {
-        1 => view(NodeKindOf::Container { count_flags: flags as i32, name: optional_text(parts, offset, length) }),
-        2 => view(NodeKindOf::ChoicePoint { flags: flags as i32, target: optional(target) }),
-        3 => view(NodeKindOf::ControlCommand(CommandType::from_number(value)?)),
-        4 => view(NodeKindOf::Divert {
+        kind::CONTAINER => {
+            view(NodeKindOf::Container { count_flags: flags as i32, name: optional_text(parts, offset, length) })
+        }
+        kind::CHOICE => view(NodeKindOf::ChoicePoint { flags: flags as i32, target: optional(target) }),
+        kind::COMMAND => view(NodeKindOf::ControlCommand(CommandType::from_number(value)?)),
+        kind::DIVERT => view(NodeKindOf::Divert {
             path: optional_text(parts, offset, length),
             target: optional(target),
             variable_name: optional_text(parts, variable, variable_length),
@@ -134,23 +166,25 @@ pub(crate) fn view_of<P: Parts>(node: u32, words: &[u32; WORDS], parts: &P) -> O
             pushes_to_stack: flags & 4 != 0,
             stack_push_type: PushPopType::from_number(flags >> 3)?,
         }),
-        5 => view(NodeKindOf::Glue),
-        6 => view(NodeKindOf::NativeFunction(Op::from_number(value)?)),
-        7 => view(NodeKindOf::Tag(text())),
-        8 => view(NodeKindOf::Value(ValueOf::Bool(value != 0))),
-        9 => view(NodeKindOf::Value(ValueOf::Int(value as i32))),
-        10 => view(NodeKindOf::Value(ValueOf::Float(f32::from_bits(value)))),
-        11 => view(NodeKindOf::Value(ValueOf::String(text()))),
-        12 => view(NodeKindOf::Value(ValueOf::List(parts.list(node, offset, length)?))),
-        13 => view(NodeKindOf::Value(ValueOf::DivertTarget(text()))),
-        14 => view(NodeKindOf::Value(ValueOf::VariablePointer { name: text(), context_index: value as i32 })),
-        16 => view(NodeKindOf::VariableAssignment {
+        kind::GLUE => view(NodeKindOf::Glue),
+        kind::OPERATOR => view(NodeKindOf::NativeFunction(Op::from_number(value)?)),
+        kind::TAG => view(NodeKindOf::Tag(text())),
+        kind::BOOL => view(NodeKindOf::Value(ValueOf::Bool(value != 0))),
+        kind::INT => view(NodeKindOf::Value(ValueOf::Int(value as i32))),
+        kind::FLOAT => view(NodeKindOf::Value(ValueOf::Float(f32::from_bits(value)))),
+        kind::STRING => view(NodeKindOf::Value(ValueOf::String(text()))),
+        kind::LIST => view(NodeKindOf::Value(ValueOf::List(parts.list(node, offset, length)?))),
+        kind::DIVERT_TARGET => view(NodeKindOf::Value(ValueOf::DivertTarget(text()))),
+        kind::POINTER => {
+            view(NodeKindOf::Value(ValueOf::VariablePointer { name: text(), context_index: value as i32 }))
+        }
+        kind::ASSIGNMENT => view(NodeKindOf::VariableAssignment {
             name: text(),
             global: flags & 1 != 0,
             new_declaration: flags & 2 != 0,
         }),
-        17 => view(NodeKindOf::VariableReference { name: text(), count_target: optional(target) }),
-        18 => view(NodeKindOf::Void),
+        kind::REFERENCE => view(NodeKindOf::VariableReference { name: text(), count_target: optional(target) }),
+        kind::VOID => view(NodeKindOf::Void),
         _ => None,
     }
 }

@@ -339,7 +339,7 @@ impl<'a> Queries<'a> {
         // SAFETY: the slices live through the call, and answer and count, which alone are written, are ours.
         let item = ask(
             |answer, length| unsafe {
-                ffi::story_image_list_item(
+                ffi::story_image_find_list_item(
                     bytes.as_ptr(),
                     bytes.len(),
                     view.as_ptr(),

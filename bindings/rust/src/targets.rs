@@ -3,6 +3,7 @@
 use crate::builder::{BuildError, put};
 use crate::draft::Draft;
 use crate::ffi;
+use crate::names::kind;
 use crate::path::{PathText, STEP_WORDS, Step};
 use crate::refusal::Refusal;
 use crate::{NODE_WORDS, NONE};
@@ -11,8 +12,8 @@ use crate::{NODE_WORDS, NONE};
 #[derive(Clone, Copy, Debug, Default, PartialEq, Eq)]
 pub struct Paths<'a> {
     /// Four words each: node, 0 for an absolute path or 1 for a relative one, first component, number of components.
-    /// Following takes time by the components, in any order of the nodes; the test of 19 takes nodes times paths if the
-    /// nodes do not rise.
+    /// In any order: following takes time by the components, and if the nodes do not rise, the test of 19 goes over the
+    /// entries twice for each 32,768 nodes of the draft.
     pub entries: &'a [u32],
     /// Three words each: 0, 0, 0 for the parent; 1, index, 0; 2, offset and length of a name in `names`.
     pub components: &'a [u32],
@@ -67,8 +68,8 @@ fn word(number: usize) -> Result<u32, BuildError> {
 fn path_place(node: &[u32; NODE_WORDS]) -> Option<[u32; 2]> {
     let [_, _, tag, f0, f1, f2, f3, ..] = *node;
     let place = match tag {
-        2 | 4 | 13 => [f0, f1],
-        17 => [f2, f3],
+        kind::CHOICE | kind::DIVERT | kind::DIVERT_TARGET => [f0, f1],
+        kind::REFERENCE => [f2, f3],
         _ => return None,
     };
     (place != [NONE; 2]).then_some(place)

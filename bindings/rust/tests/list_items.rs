@@ -277,7 +277,7 @@ fn lent(name: &str, view: usize, answer: usize, searched: usize) -> (u32, [u32; 
     assert!(view <= words.len() && answer <= answers.len() && searched <= counts.len());
     // SAFETY: the slices live through the call, and answers and counts, which alone are written, are ours.
     let number = unsafe {
-        ffi::story_image_list_item(
+        ffi::story_image_find_list_item(
             bytes.as_ptr(),
             bytes.len(),
             words.as_ptr(),

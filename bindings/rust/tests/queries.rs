@@ -1,9 +1,10 @@
 //! Queries on samples of the repository, and what they leave of an answer.
 
+use std::collections::BTreeSet;
 use story_image::raw::{self, TextPlace};
 use story_image::{
-    CommandType, Image, ItemSearch, ListItem, NONE, NodeKindOf, NodeKindView, Op, Refusal, Section, Step, ValueOf,
-    ValueView, View, ffi, load_words,
+    CommandType, Image, ItemSearch, KINDS, ListItem, NONE, NodeKindOf, NodeKindView, Op, Refusal, Section, Step,
+    ValueOf, ValueView, View, ffi, kind_name, load_words,
 };
 
 const STEP: &[u8] = include_bytes!("../../../samples/step.image");
@@ -57,6 +58,20 @@ fn texts_are_parts() {
             }
         }
     }
+}
+
+/// A kind's number is the tag of its node, and its name that number's.
+#[test]
+fn kinds() {
+    let image = image(GUIDE);
+    let mut seen = BTreeSet::new();
+    for node in 0..image.node_count() {
+        let (kind, words) = (image.node_view(node).unwrap().kind, image.raw().node_words(node).unwrap());
+        assert_eq!((kind.number(), Some(kind.name())), (words[2], kind_name(words[2])));
+        seen.insert((kind.number(), kind.name()));
+    }
+    assert!(seen.iter().eq(KINDS), "every kind is in the guide, and the table rises: {seen:?}");
+    assert_eq!([0, 15, 19, NONE].map(kind_name), [None; 4]);
 }
 
 /// The names of commands and operators are the texts by which the image names them.

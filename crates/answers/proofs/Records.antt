@@ -27,6 +27,7 @@ use Rattle.names.proofs.Commands.{commandsNumbered}
 use Rattle.names.proofs.Operators.{operatorsNumbered}
 use Rattle.image.specs.declared.NodeRecord.{NodeRecord}
 use Rattle.records.specs.Fields.{kinds, kindOf}
+use Rattle.records.specs.Flags.{odd}
 use Rattle.views.specs.declared.Span.{Span}
 use Rattle.views.specs.declared.OptionalText.{OptionalText}
 use Rattle.views.specs.declared.OptionalWord.the-variants as word
@@ -38,7 +39,7 @@ use Rattle.views.specs.declared.KindAnswer.{KindAnswer}
 use Rattle.views.specs.declared.KindAnswer.the-variants as kindly
 use Rattle.views.specs.declared.NodeAnswer.{NodeAnswer}
 use Rattle.views.specs.declared.NodeAnswer.the-variants as node
-use Rattle.views.specs.View.{signed, odd, span, optionalText, optionalWord, pushType, ofCommand, ofOperator, withText, kindView, withKind, recordView}
+use Rattle.views.specs.View.{signed, span, optionalText, optionalWord, pushType, ofCommand, ofOperator, withText, kindView, withKind, recordView}
 use Rattle.views.specs.Shown.{containerView, divertView, commandView, operatorView, listView, withName, textKind}
 use Rattle.answers.specs.declared.node.KindWords.{KindWords}
 use Rattle.answers.specs.declared.node.KindFound.{KindFound}

@@ -14,6 +14,8 @@ use Rattle.image.proofs.Tests.{inside-true}
 use Rattle.tree.specs.Reach.{climb}
 use Rattle.views.specs.declared.Count.{Count}
 use Rattle.views.specs.declared.Count.the-variants as count
+use Rattle.views.specs.Answers.{ofCount}
+use Rattle.views.proofs.Given.{count-given, count-refused}
 use Rattle.depth.specs.Depth.{oneMore, depthFrom, depthOf, StepsToRoot, DepthExact}
 
 none-of : (d : ℕ) → count.NotFound ≡ count.Of d → ⊥
@@ -153,11 +155,11 @@ module _ (s : Sections) where
   unfolding depthOf
   depth-exact i =
       record {
-        answered = λ d e. answered (nodeCount s) i d e;
-        counted = λ d t. depth-counted i d t;
+        answered = λ d e. answered (nodeCount s) i d (count-given (depthOf s i) d e);
+        counted = λ d t. ap ofCount (depth-counted i d t);
         few = λ d t. few i d t;
-        refused = λ e d t. none-of d (sym e ∙ depth-counted i d t);
-        missing = λ h. by (depthOf s i) refl h;
+        missed = λ e d t. none-of d (sym (count-refused (depthOf s i) e) ∙ depth-counted i d t);
+        missing = λ h. ap ofCount (by (depthOf s i) refl h);
       }
     where
       by : (c : Count) → depthOf s i ≡ c → ((d : ℕ) → StepsToRoot s i d → ⊥) → c ≡ count.NotFound

@@ -3,10 +3,12 @@ use Prim.Native.Nat.{ℕ, zero, suc, _≤_, _<_}
 use mathlib.Core.Path.{_≡_}
 use mathlib.Core.Bool.{true, cond}
 use lib.Dec.{eqb}
+use Rattle.image.specs.Refusals.{notFound}
 use Rattle.image.specs.Sections.{Sections, nodeCount, parentOf, inside, sections}
 use Rattle.tree.specs.Reach.{climb}
 use Rattle.views.specs.declared.Count.{Count}
 use Rattle.views.specs.declared.Count.the-variants as count
+use Rattle.views.specs.Answers.{given, refused, ofCount}
 
 abbrev pub oneMore : Count → Count
 oneMore (count.Of n) = count.Of (suc n)
@@ -31,14 +33,14 @@ pub record StepsToRoot (s : Sections) (i d : ℕ) : Type 0 where
   pub before : (k : ℕ) → k < d → climb s k i ≡ 0 → ⊥
   pub nodes : (k : ℕ) → k ≤ d → inside s (climb s k i) ≡ true
 
--- whatever the sections: d is answered exactly if so many steps lead to node 0, which are then fewer than the nodes; and nothing is
--- answered exactly if no number of steps does
+-- whatever the sections: d is answered exactly if so many steps lead to node 0, which are then fewer than the nodes; and the answer is 18
+-- exactly if no number of steps does
 pub record DepthExact (s : Sections) (i : ℕ) : Type 0 where
-  pub answered : (d : ℕ) → depthOf s i ≡ count.Of d → StepsToRoot s i d
-  pub counted : (d : ℕ) → StepsToRoot s i d → depthOf s i ≡ count.Of d
+  pub answered : (d : ℕ) → ofCount (depthOf s i) ≡ given d → StepsToRoot s i d
+  pub counted : (d : ℕ) → StepsToRoot s i d → ofCount (depthOf s i) ≡ given d
   pub few : (d : ℕ) → StepsToRoot s i d → d < nodeCount s
-  pub refused : depthOf s i ≡ count.NotFound → (d : ℕ) → StepsToRoot s i d → ⊥
-  pub missing : ((d : ℕ) → StepsToRoot s i d → ⊥) → depthOf s i ≡ count.NotFound
+  pub missed : ofCount (depthOf s i) .number ≡ notFound → (d : ℕ) → StepsToRoot s i d → ⊥
+  pub missing : ((d : ℕ) → StepsToRoot s i d → ⊥) → ofCount (depthOf s i) ≡ refused notFound
 
 -- names on an `unfolding` line what a computation with this module needs
 unfoldable pub depths : Unit {0}

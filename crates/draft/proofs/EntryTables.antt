@@ -19,7 +19,7 @@ use Rattle.image.specs.Sections.{Sections, nodeWords, textEntryWords, definitio
 use Rattle.image.specs.Entries.{textEntryOf, definitionOf, definitionIn}
 use Rattle.image.proofs.Entries.{named-entry, item-entry, definition-entry}
 use Rattle.records.specs.Shown.{startsNext}
-use Rattle.index.specs.Definitions.{firstItem, numberOfItems, itemsBefore, itemsUsedUp}
+use Rattle.definitions.specs.Definitions.{firstItem, numberOfItems, itemsBefore, itemsUsedUp}
 use Rattle.draft.specs.Source.{draftOf}
 use Rattle.draft.specs.Draft.{draftChildRule, draftNamedRule, draftDefinitionRule, draftItemRule}
 

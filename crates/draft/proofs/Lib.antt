@@ -10,3 +10,4 @@ pub mod Runs
 pub mod Relations
 pub mod Row21
 pub mod PathLists
+pub mod Windows

@@ -1,9 +1,9 @@
 -- The loop over a draft's nodes: what it is told of each node, and what it has shown when it has passed some.
 use Prim.Native.Nat.{ℕ, zero, suc, _+_, _≤_, _<_}
-use mathlib.Core.Path.{_≡_, refl, sym, ap, _∙_}
+use mathlib.Core.Path.{_≡_, refl, sym, ap, ap₂, _∙_}
 use mathlib.Core.Logic.{inl}
 use mathlib.Core.List.{List, []}
-use mathlib.Core.Bool.{Bool, true, false, cond, not, _||_}
+use mathlib.Core.Bool.{Bool, true, false, cond, _||_}
 use native.Mathlib.Omega.{arith}
 use native.Mathlib.Numerals.{add-one}
 use lib.Dec.{eqb}
@@ -11,7 +11,7 @@ use borrow.Author.Tests.{eq-eqb, ne-eqb}
 use Rattle.laws.specs.Refusal.{unless, countsAs, passes, _▸_, firstOf}
 use Rattle.laws.specs.Counted.{sumOf}
 use Rattle.laws.proofs.First.{both, second, pass, fail, as-zero, first-next}
-use Rattle.laws.proofs.Chains.{stop, go, refused, first-broken, first-done}
+use Rattle.laws.proofs.Chains.{refused, first-broken, first-done}
 use Rattle.image.specs.declared.EntryCounts.{EntryCounts}
 use Rattle.image.specs.declared.NodeRecord.{NodeRecord}
 use Rattle.image.specs.Sections.{Sections, nodeCount, nodeWord, parentOf, inside, insideAmong, isContainer}
@@ -26,7 +26,7 @@ use Rattle.records.proofs.PassedRules.{first-sums}
 use Rattle.draft.specs.Needs.{draftCounts}
 use Rattle.draft.specs.Source.{NodesFrom, draftOf}
 use Rattle.draft.specs.PathList.{follows, pathFieldsRule, pathNodeRule}
-use Rattle.draft.specs.PathEntries.{followerRight}
+use Rattle.draft.specs.PathEntries.{followerRight, recordRight}
 use Rattle.draft.proofs.Runs.{as-passes}
 use Rattle.draft.proofs.PathTables.{followed, path-fields-free, path-fields-own, follower-fields}
 
@@ -54,44 +54,50 @@ module _ {v : ℕ} (s : Sections) (ns ps ts : List ℕ) (counts : EntryCounts) (
         }
 
     -- whether its fields are right, by whether it follows a path
-    pub fields-free : (entries : List ℕ) → follows s entries i ≡ true → (b : Bool) → b ≡ followerRight r ts → b ≡ passes (pathFieldsRule s entries i)
-    fields-free entries h b e =
-        e ∙ (λ j. followerRight (node j) (sym (g .strings-are) j)) ∙ follower-fields s i (followed s entries i h) ∙ ap passes (sym (path-fields-free s entries i h))
+    fields-free : (entries : List ℕ) → follows s entries i ≡ true → followerRight r ts ≡ passes (pathFieldsRule s entries i)
+    fields-free entries h =
+        (λ j. followerRight (node j) (sym (g .strings-are) j)) ∙ follower-fields s i (followed s entries i h) ∙ ap passes (sym (path-fields-free s entries i h))
 
-    pub fields-own : (entries : List ℕ) (sums : Sums) → sums ≡ sumsBefore s i → follows s entries i ≡ false → (x : ℕ)
-        → x ≡ fieldsBy (kindOf (r .tag)) r counts sums (tagIn (draftOf v ns [] [] [] [] [] []) (targetIn r (kindOf (r .tag)))) ps ts
-        → passes x ≡ passes (pathFieldsRule s entries i)
-    fields-own entries sums u h x e =
-        ap passes (e ∙ shown-fields s i r counts sums _ ps ts (fields-told sums _ u refl) ∙ sym (path-fields-own s entries i h))
+    abbrev tag : ℕ
+    tag = tagIn (draftOf v ns [] [] [] [] [] []) (targetIn r (kindOf (r .tag)))
 
-    parent-told : (b : Bool) → b ≡ insideAmong (counts .nodes) (r .parent) → b ≡ inside s (parentOf s i)
-    parent-told b e =
-        e ∙ ap (λ (n : ℕ). insideAmong n (r .parent)) count-is ∙ ap (λ (x : NodeRecord). insideAmong (nodeCount s) (x .parent)) node
+    fields-own : (entries : List ℕ) (sums : Sums) → sums ≡ sumsBefore s i → follows s entries i ≡ false
+        → passes (fieldsBy (kindOf (r .tag)) r counts sums tag ps ts) ≡ passes (pathFieldsRule s entries i)
+    fields-own entries sums u h = ap passes (shown-fields s i r counts sums _ ps ts (fields-told sums _ u refl) ∙ sym (path-fields-own s entries i h))
 
-    -- ---- the rules of node i by the answers of their tests
+    fields-are : (entries : List ℕ) (sums : Sums) → sums ≡ sumsBefore s i → (follow : Bool) → follow ≡ follows s entries i
+        → recordRight follow r counts sums tag ps ts ≡ passes (pathFieldsRule s entries i)
+    fields-are entries sums u true h = fields-free entries (sym h)
+    fields-are entries sums u false h = fields-own entries sums u (sym h)
 
-    module _ (entries : List ℕ) (a : Bool) (e : a ≡ passes (pathFieldsRule s entries i)) where
-      pub fields-wrong : not a ≡ true → 19 ≡ pathNodeRule s entries i
-      unfolding pathNodeRule
-      fields-wrong q = rw (as-passes 19 (pathFieldsRule s entries i)) (stop (passes (pathFieldsRule s entries i)) a 19 _ refl e q)
+    parent-is : (eqb i 0 || insideAmong (counts .nodes) (r .parent)) ≡ (eqb i 0 || inside s (parentOf s i))
+    parent-is = ap (λ (n : ℕ). eqb i 0 || insideAmong n (r .parent)) count-is ∙ ap (λ (x : NodeRecord). eqb i 0 || insideAmong (nodeCount s) (x .parent)) node
 
-      module _ (q : not a ≡ false) where
-        past-fields : (x : ℕ) → x ≡ unless (eqb i 0 || inside s (parentOf s i)) 19 → x ≡ pathNodeRule s entries i
-        unfolding pathNodeRule
-        past-fields x h = rw (as-passes 19 (pathFieldsRule s entries i)) (go (passes (pathFieldsRule s entries i)) a 19 _ x e q h)
+    -- the rules of its record are those of node i
+    pub node-rules : (entries : List ℕ) (sums : Sums) → sums ≡ sumsBefore s i → (follow : Bool) → follow ≡ follows s entries i
+        → (x : ℕ) → x ≡ (unless (recordRight follow r counts sums tag ps ts) 19 ▸ unless (eqb i 0 || insideAmong (counts .nodes) (r .parent)) 19)
+        → x ≡ pathNodeRule s entries i
+    unfolding pathNodeRule
+    node-rules entries sums u follow h x e =
+        e ∙ ap₂ (λ (a b : Bool). unless a 19 ▸ unless b 19) (fields-are entries sums u follow h) parent-is
+        ∙ ap (λ (a : ℕ). a ▸ unless (eqb i 0 || inside s (parentOf s i)) 19) (sym (as-passes 19 (pathFieldsRule s entries i)))
 
-        pub root-passes : i ≡ 0 → 0 ≡ pathNodeRule s entries i
-        root-passes z = past-fields 0 (sym (pass (eqb i 0 || inside s (parentOf s i)) 19 (rw (eq-eqb i 0 z) refl)))
+-- ---- the rules of a record by the answers of their tests
 
-        module _ (d : i ≡ 0 → ⊥) (b : Bool) (p : b ≡ insideAmong (counts .nodes) (r .parent)) where
-          by-parent : (eqb i 0 || inside s (parentOf s i)) ≡ b
-          by-parent = rw (ne-eqb i 0 d) (sym (parent-told b p))
+-- whether a parent is due and inside
+module _ (i : ℕ) (t : Bool) where
+  pub parent-root : i ≡ 0 → 0 ≡ unless (eqb i 0 || t) 19
+  parent-root z = sym (pass (eqb i 0 || t) 19 (rw (eq-eqb i 0 z) refl))
 
-          pub parent-passes : b ≡ true → 0 ≡ pathNodeRule s entries i
-          parent-passes k = past-fields 0 (sym (pass (eqb i 0 || inside s (parentOf s i)) 19 (by-parent ∙ k)))
+  module _ (d : i ≡ 0 → ⊥) (b : Bool) (e : b ≡ t) where
+    by-parent : (eqb i 0 || t) ≡ b
+    by-parent = rw (ne-eqb i 0 d) (sym e)
 
-          pub parent-wrong : b ≡ false → 19 ≡ pathNodeRule s entries i
-          parent-wrong k = past-fields 19 (sym (fail (eqb i 0 || inside s (parentOf s i)) 19 (by-parent ∙ k)))
+    pub parent-inside : b ≡ true → 0 ≡ unless (eqb i 0 || t) 19
+    parent-inside k = sym (pass (eqb i 0 || t) 19 (by-parent ∙ k))
+
+    pub parent-outside : b ≡ false → 19 ≡ unless (eqb i 0 || t) 19
+    parent-outside k = sym (fail (eqb i 0 || t) 19 (by-parent ∙ k))
 
 -- ---- the rules that ask for the tag of a target
 

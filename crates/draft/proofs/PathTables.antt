@@ -1,5 +1,5 @@
 -- Row 19 with a list of paths: the nodes that follow a path, the tests of their other fields, and what a draft that passes has.
-use Prim.Native.Nat.{ℕ, suc, _/_, _%_}
+use Prim.Native.Nat.{ℕ, suc}
 use mathlib.Core.Path.{_≡_, refl, sym, ap, _∙_}
 use mathlib.Core.Logic.{_⊎_, inl, inr}
 use mathlib.Core.List.{List, []}
@@ -15,16 +15,15 @@ use Rattle.image.specs.Entries.{nodeIn}
 use Rattle.image.specs.Sections.{Sections, tagOf, f, isContainer, absent, goodIn, optionalIn}
 use Rattle.records.specs.declared.Sums.{Sums}
 use Rattle.records.specs.Fields.{kinds, fields}
+use Rattle.records.specs.Flags.{external}
 use Rattle.records.specs.Records.{fieldsAt, fieldRule, firstField, fieldsRule}
 use Rattle.records.specs.Shown.{sumsBefore, sumsAfter}
 use Rattle.records.proofs.ByKind.{after-other}
 use Rattle.records.proofs.PassedRules.{sums-other, shown-sums}
 use Rattle.tree.specs.Parts.{Fit}
-use Rattle.draft.specs.declared.path_list.PathPlace.{PathPlace}
-use Rattle.draft.specs.declared.path_list.PathPlace.the-variants.{At, Nowhere}
 use Rattle.draft.specs.Draft.{draftNodeRule, tablesRule}
 use Rattle.draft.specs.PathList.{pathOf, listed, mayFollow, plainDivert, follows, withoutTarget, pathFieldsRule, pathNodeRule, pathTablesRule}
-use Rattle.draft.specs.PathEntries.{foundPath, followerRight}
+use Rattle.draft.specs.PathEntries.{followerRight}
 use Rattle.draft.specs.Shown.{TablesPassed}
 use Rattle.draft.proofs.Rules.{Entries, TablesBy, tables-by, whole-by, tables-fit}
 use Rattle.draft.proofs.Row21.{tables-passed}
@@ -47,7 +46,7 @@ follow-tag r h = go _ _ _ _ refl refl refl refl h
   where
     go : (a b c d : Bool) → a ≡ eqb (r .tag) 2 → b ≡ plainDivert r → c ≡ eqb (r .tag) 13 → d ≡ eqb (r .tag) 17 → (a || b || c || d) ≡ true → FollowTag (r .tag)
     go true b c d p q x y h = inl (eqb-true (r .tag) 2 (sym p))
-    go false true c d p q x y h = inr (inl (eqb-true (r .tag) 4 (both-true (eqb (r .tag) 4) _ (both-true (eqb (r .tag) 4 && not (eqb (r .f6 / 2 % 2) 1)) _ (sym q) .0) .0)))
+    go false true c d p q x y h = inr (inl (eqb-true (r .tag) 4 (both-true (eqb (r .tag) 4) _ (both-true (eqb (r .tag) 4 && not (external r)) _ (sym q) .0) .0)))
     go false false true d p q x y h = inr (inr (inl (eqb-true (r .tag) 13 (sym x))))
     go false false false true p q x y h = inr (inr (inr (eqb-true (r .tag) 17 (sym y))))
     go false false false false p q x y h = absurd (true≢false (sym h))
@@ -102,14 +101,6 @@ module _ (s : Sections) (entries : List ℕ) (i : ℕ) where
           let o : r .tag ≡ 12 → ⊥ = λ e. no-list _ t (sym tag-is ∙ e) in
           sym (after-other u r d o) ∙ sums-other s i u r q n d o
       by false h = shown-sums s i u r q n (sym (path-fields-own h) ∙ p)
-
--- whether it follows, by what the search for its entry has found
-module _ (entries : List ℕ) (i : ℕ) (place : PathPlace) (e : foundPath place ≡ pathOf entries i) (node : NodeRecord) where
-  pub follows-found : (k : ℕ) → place ≡ At k → (b : Bool) → b ≡ mayFollow node → b ≡ (listed entries i && mayFollow node)
-  follows-found k p b h = rw (← e, p) h
-
-  pub follows-nowhere : place ≡ Nowhere → false ≡ (listed entries i && mayFollow node)
-  follows-nowhere p = rw (← e, p) refl
 
 -- ---- the fields of a node that follows a path, the target aside, by the tests that the code makes
 
@@ -168,7 +159,7 @@ flags-pass false b c e = refl
 -- a divert that may follow a path has no variable
 no-variable : (r : NodeRecord) → mayFollow r ≡ true → r .tag ≡ 4 → absent (r .f3) (r .f4) ≡ true
 unfolding mayFollow
-no-variable r h e = go (not (eqb (r .f6 / 2 % 2) 1)) (absent (r .f3) (r .f4)) (rw e at h)
+no-variable r h e = go (not (external r)) (absent (r .f3) (r .f4)) (rw e at h)
   where
     go : (a b : Bool) → (a && b || false || false) ≡ true → b ≡ true
     go true true q = refl

@@ -1,5 +1,5 @@
 -- The rules of row 21 by the tests that the code makes.
-use Prim.Native.Nat.{ℕ, _+_, _*_, _-_, _/_, _≤_, _<_}
+use Prim.Native.Nat.{ℕ, _+_, _*_, _/_, _≤_, _<_}
 use mathlib.Core.Path.{_≡_, refl, sym, ap, _∙_}
 use mathlib.Core.List.{List, []}
 use mathlib.Core.Bool.{Bool, true, false, cond, not, _&&_}
@@ -24,7 +24,7 @@ use Rattle.image.proofs.Entries.{IsNode, is-node, named-entry, item-entry, defi
 use Rattle.records.specs.Records.{numberOfChildren, numberOfNamed, parentRule}
 use Rattle.records.specs.Shown.{ShowsParent, tagIn}
 use Rattle.tree.specs.Tree.{childAt, namedAt, namedText, rightChild, childRule, namedRule, entriesRule}
-use Rattle.index.specs.Definitions.{definitionText, itemText, itemTextOf, firstItem, numberOfItems}
+use Rattle.definitions.specs.Definitions.{definitionText, itemText, itemTextOf, firstItem, numberOfItems}
 use Rattle.draft.specs.Source.{draftOf, wordOf}
 use Rattle.draft.specs.Draft.{relationRule, orderRule}
 use Rattle.draft.specs.Shown.{rightContainer, namedRight, TreePassed, ListsPassed}

@@ -8,7 +8,7 @@ use Rattle.laws.proofs.First.{second}
 use Rattle.laws.proofs.Chains.{stop, go, refused}
 use Rattle.image.specs.Sections.{Sections, nodeCount, childCount, namedCount, definitionCount, itemCount, childWord, namedWord, definitionWord, itemWord}
 use Rattle.records.specs.Records.{usedUp}
-use Rattle.index.specs.Definitions.{itemsUsedUp}
+use Rattle.definitions.specs.Definitions.{itemsUsedUp}
 use Rattle.draft.specs.Source.{draftOf}
 use Rattle.draft.specs.Draft.{wholeEntries, draftChildRule, draftNamedRule, draftDefinitionRule, draftItemRule}
 use Rattle.draft.specs.PathList.{pathNodeRule, pathTablesRule}

@@ -19,7 +19,7 @@ use Rattle.records.proofs.PassedRules.{Node, node-of, ranges as fields-ranges}
 use Rattle.tree.specs.Tree.{childAt, namedAt, entryNodes, entriesRule}
 use Rattle.tree.specs.Parts.{EntriesOwned, Fit}
 use Rattle.tree.proofs.Entries.{entry-each, child-container, named-container, counts}
-use Rattle.index.specs.Definitions.{goodDefinition, goodItem, firstItem, numberOfItems, itemsBefore, itemsRight, itemsUsedUp, definitionText, itemTextOf}
+use Rattle.definitions.specs.Definitions.{goodDefinition, goodItem, firstItem, numberOfItems, itemsBefore, itemsRight, itemsUsedUp, definitionText, itemTextOf}
 use Rattle.draft.specs.Draft.{wholeEntries, draftNodeRule, draftChildRule, draftNamedRule, draftDefinitionRule, draftItemRule, entryTablesRule, tablesRule, relationRule, orderRule, shapeRule}
 
 -- ---- 19
@@ -158,14 +158,14 @@ module _ (s : Sections) {rule : ℕ → ℕ} (t : TablesBy s rule) where
   -- ---- the entries of container i
 
   module _ (i : ℕ) (h : i < nodeCount s) where
-    child-in : (j : ℕ) → j < numberOfChildren s i → f s i 3 + j < childCount s
+    pub child-in : (j : ℕ) → j < numberOfChildren s i → f s i 3 + j < childCount s
     unfolding numberOfChildren
     child-in j k = go (child-container s i j k) k
       where
         go : isContainer s i ≡ true → j < numberOfChildren s i → f s i 3 + j < childCount s
         go c q = let l : j < f s i 4 = rw c at q in omega (arith, tables-fit .ranges i h c .children)
 
-    named-in : (j : ℕ) → j < numberOfNamed s i → f s i 5 + j < namedCount s
+    pub named-in : (j : ℕ) → j < numberOfNamed s i → f s i 5 + j < namedCount s
     unfolding numberOfNamed
     named-in j k = go (named-container s i j k) k
       where

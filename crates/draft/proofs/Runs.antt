@@ -2,11 +2,12 @@
 use Prim.Native.Nat.{ℕ, zero, suc, _+_, _≤_, _<_}
 use mathlib.Core.Path.{_≡_, refl, sym, _∙_}
 use mathlib.Core.List.{List}
-use mathlib.Core.Bool.{Bool, true, false, not, _&&_}
+use mathlib.Core.Bool.{Bool, true, false, not, _&&_, true≢false}
 use native.Mathlib.Omega.{arith}
-use borrow.Author.Tests.{not-true, not-false, ne-eqb}
+use borrow.Author.Tests.{not-true, not-false, eq-eqb, ne-eqb}
 use Rattle.laws.specs.Refusal.{unless, countsAs, passes, _▸_, firstOf}
 use Rattle.laws.specs.Counted.{allOf}
+use Rattle.laws.proofs.First.{first-all}
 use Rattle.laws.proofs.Flags.{all-next, all-fails}
 use Rattle.texts.specs.Text.{rising}
 
@@ -47,6 +48,10 @@ pub passes-all : (n : ℕ) (t : ℕ → Bool) (f : ℕ → ℕ) → ((j : ℕ) �
 unfolding allOf firstOf
 passes-all zero t f e = refl
 passes-all (suc n) t f e = rw (passes-all n t f (λ j h. e j (omega arith)), e n (omega arith)) (sym (passes-both (firstOf n f) (f n)))
+
+-- a loop that stops at n, before m, with a rule that is broken
+pub passes-stops : (m n : ℕ) (f : ℕ → ℕ) (b : Bool) → n < m → b ≡ passes (f n) → not b ≡ true → false ≡ passes (firstOf m f)
+passes-stops m n f b h e q = sym (ne-eqb (firstOf m f) 0 (λ z. true≢false (sym (e ∙ eq-eqb (f n) 0 (first-all m f z n h)) ∙ not-true b q)))
 
 pub unless-both : (a b : Bool) (k : ℕ) → (unless a (suc k) ▸ unless b (suc k)) ≡ unless (a && b) (suc k)
 unfolding unless _▸_

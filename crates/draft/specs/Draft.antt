@@ -1,18 +1,17 @@
 -- The rules of a draft, numbers 19 to 22: sections without an index, in any numbering with root 0.
-use Prim.Native.Nat.{ℕ, zero, suc, _%_}
-use mathlib.Core.List.{List}
-use mathlib.Core.Bool.{Bool, true, false, _&&_, _||_, not}
+use Prim.Native.Nat.{ℕ, _%_}
+use mathlib.Core.Bool.{Bool, _&&_, _||_, not}
 use lib.ListN.{length}
 use lib.Dec.{eqb}
 use Rattle.laws.specs.Refusal.{unless, countsAs, _▸_, firstOf, refusals}
 use Rattle.laws.specs.Counted.{allOf, counted}
-use Rattle.texts.specs.Text.{same, rising, before, texts}
-use Rattle.image.specs.Sections.{Sections, nodeWords, textEntryWords, definitionWords, nodeCount, childCount, namedCount, definitionCount, itemCount, nodeWord, parentOf, tagOf, childWord, namedWord, goodText, inside, isContainer}
+use Rattle.texts.specs.Text.{same, rising, texts}
+use Rattle.image.specs.Sections.{Sections, nodeWords, textEntryWords, definitionWords, nodeCount, childCount, namedCount, definitionCount, itemCount, parentOf, childWord, namedWord, goodText, inside, isContainer}
 use Rattle.image.specs.Refusals.{badDraft, draftUnreached, draftShape, draftPaths}
 use Rattle.records.specs.Records.{fieldsRule, parentRule, rootRight, usedUp, records}
-use Rattle.tree.specs.Tree.{entriesRule, readWalk, allSeen, Walked, trees}
+use Rattle.tree.specs.Tree.{entriesRule, readWalk, allSeen, trees}
 use Rattle.index.specs.Paths.{canonicalPath, nameOrPlace, paths}
-use Rattle.index.specs.Definitions.{goodDefinition, goodItem, itemsRight, numberOfItems, itemsUsedUp, definitionText, itemTextOf, definitions}
+use Rattle.definitions.specs.Definitions.{goodDefinition, goodItem, itemsRight, numberOfItems, itemsUsedUp, definitionText, itemTextOf, definitions}
 use Rattle.draft.specs.Needs.{draftCounts, wordsFor}
 
 -- ---- 19: the tables

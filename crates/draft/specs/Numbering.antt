@@ -6,7 +6,7 @@ use lib.ListN.{getD}
 use Rattle.laws.specs.Lists.{placeIn, lists}
 use Rattle.words.specs.Words.{NONE, isNone}
 use Rattle.image.specs.Sections.{Sections}
-use Rattle.tree.specs.Tree.{readWalk, Walked, trees}
+use Rattle.tree.specs.Tree.{readWalk, trees}
 
 -- the draft's numbers, in the order of the image's: node, ordered children, named children
 unfoldable pub numbering : Sections → List ℕ

@@ -15,6 +15,7 @@ use Rattle.image.specs.Refusals.{badDraft}
 use Rattle.image.specs.Sections.{Sections, nodeCount, parentOf, absent, inside, insideAmong}
 use Rattle.image.specs.Tags.{choiceTag, divertTag, targetTag, referenceTag}
 use Rattle.records.specs.Fields.{Field, targetBefore, noPlace}
+use Rattle.records.specs.Flags.{external}
 use Rattle.records.specs.Records.{fieldsAt, firstField, fieldsRule}
 use Rattle.draft.specs.Draft.{wholeEntries, entryTablesRule, drafts}
 
@@ -61,7 +62,7 @@ listRight nodes components entries =
 
 -- a divert that is neither external nor by variable
 abbrev pub plainDivert : NodeRecord → Bool
-plainDivert r = eqb (r .tag) divertTag && not (eqb (r .f6 / 2 % 2) 1) && absent (r .f3) (r .f4)
+plainDivert r = eqb (r .tag) divertTag && not (external r) && absent (r .f3) (r .f4)
 
 -- a choice, a divert that is neither external nor by variable, a divert-target value, a reference
 unfoldable pub mayFollow : NodeRecord → Bool

@@ -8,7 +8,7 @@ use Rattle.texts.specs.Text.{rising}
 use Rattle.image.specs.Sections.{Sections, nodeCount, namedCount, definitionCount, itemCount, parentOf, namedWord, goodText, isContainer, insideContainer}
 use Rattle.image.specs.Entries.{textEntryOf, entryTextFrom}
 use Rattle.tree.specs.Parts.{Ranges}
-use Rattle.index.specs.Definitions.{firstItem, numberOfItems}
+use Rattle.definitions.specs.Definitions.{firstItem, numberOfItems}
 use Rattle.draft.specs.Source.{draftOf}
 
 -- ---- named entries

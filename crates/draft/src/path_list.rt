@@ -1,12 +1,15 @@
 // The paths lent beside a draft: the entries of the list, the entry of a node, and the nodes that follow a path.
 ghost use mathlib.Core.Path.{_≡_};
-ghost use mathlib.Core.Bool.{_&&_, not};
-ghost use Prim.Native.Nat.{_+_, _/_, _%_, _<_};
+ghost use mathlib.Core.Bool.{_&&_, _||_, not};
+ghost use Prim.Native.Nat.{ℕ, _+_, _/_, _%_, _≤_, _<_};
+ghost use lib.ListN.{length};
 ghost use lib.Dec.{ltb, eqb};
+ghost use Rattle.laws.specs.Counted.{allOf};
 ghost use Rattle.image.specs.Sections.{absent};
-ghost use Rattle.draft.specs.PathList.{pathCount, pathOrigin, pathOf};
-ghost use Rattle.draft.specs.PathEntries.{pathEntry, foundPath, pathsRise, Hinted};
-ghost use Rattle.draft.specs.PathList.{listed, newOrigin, pathRight, listRight, mayFollow};
+ghost use Rattle.records.specs.Flags.{external};
+ghost use Rattle.draft.specs.PathList.{pathCount, pathOrigin, listed, newOrigin, listRight, mayFollow};
+ghost use Rattle.draft.specs.PathEntries.{pathEntry, pathsRise, Hinted, entryRight};
+ghost use Rattle.draft.specs.PathWindows.{windowNodes, windowWords, marked, Marks, Windowed, Ready, onceWithin, maskIn};
 use image::NONE;
 use image::NodeRecord;
 use image::tag;
@@ -14,18 +17,17 @@ use image::tag;
 // Words an entry.
 pub const PATH_ENTRY_WORDS: usize = 4;
 
+// Nodes of a window: a bit for each in so many words.
+const WINDOW_NODES: usize = 32768;
+
+pub const WINDOW_WORDS: usize = 1024;
+
 // An entry of the list: the node whose path it is, 0 for an absolute path or 1 for a relative one, the first component, how many components.
 pub struct PathEntry {
     pub node: u32,
     pub relative: u32,
     pub first: u32,
     pub count: u32,
-}
-
-// The entry of a node, or that it has none.
-pub enum PathPlace {
-    At(usize),
-    Nowhere,
 }
 
 // Whether the nodes of the entries rise; if they do, the first entry that is not of an earlier node.
@@ -99,32 +101,75 @@ fn is_of(entries: &[u32], k: usize, i: usize) -> bool
     }
 }
 
-// The entry of node `i`, among all of them.
-fn search_all(entries: &[u32], i: usize) -> PathPlace
-    ensures { λ r. ⌜ foundPath r ≡ pathOf (now (entries .entry)) i ⌝ }
+// The bit of a node in its word, where the node is one of the window of this number; else none.
+fn mask_in(number: usize, node: u32) -> u32
+    ensures { λ r. ⌜ r ≡ maskIn number node ⌝ }
 {
-    let mut left = path_count(entries);
-    while 0 < left {
-        left -= 1;
-        if origin_at(entries, left) as usize == i {
-            return PathPlace::At(left);
-        }
+    if node as usize / WINDOW_NODES == number {
+        1 << (node % 32)
+    } else {
+        0
     }
-    PathPlace::Nowhere
 }
 
-// The entry of node `i`: the hinted one or none, where the nodes rise.
-fn path_of(entries: &[u32], i: usize, hint: Hint) -> PathPlace
-    requires { ⌜ Hinted (now entries) i hint ⌝ }
-    ensures { λ r. ⌜ foundPath r ≡ pathOf (now (entries .entry)) i ⌝ }
+// Marks a node, if it is one of the window of this number; 0 if it is none of them, or was not marked.
+fn mark(window: &mut [u32], number: usize, node: u32) -> u32
+    requires { ⌜ windowWords ≤ length (now window) ⌝ }
+    ensures { λ r. ⌜ eqb r 0 ≡ not (eqb (node / windowNodes) number && marked (now (window .entry)) node) ⌝ }
+    ensures { λ r. ⌜ ((i : ℕ) → i / windowNodes ≡ number → marked (now (window .exit)) i ≡ (marked (now (window .entry)) i || eqb node i)) ⌝ }
 {
-    if !hint.rises {
-        return search_all(entries, i);
+    let mask = mask_in(number, node);
+    let at = node as usize % WINDOW_NODES / 32;
+    let word = window[at];
+    window[at] = word | mask;
+    word & mask
+}
+
+// Marks those nodes of the window of this number that have an entry; whether none of them has two.
+fn fill_window(entries: &[u32], number: usize, window: &mut [u32; WINDOW_WORDS]) -> bool
+    ensures { λ r. ⌜ r ≡ onceWithin number (now (entries .entry)) ⌝ }
+    ensures { λ r. ⌜ Marks (now (entries .entry)) number (now (window .exit)) ⌝ }
+{
+    tree::clear(window, WINDOW_WORDS);
+    let count = path_count(entries);
+    let mut twice = 0;
+    let mut k = 0;
+    while k < count {
+        twice = twice | mark(window, number, origin_at(entries, k));
+        k += 1;
     }
-    if is_of(entries, hint.next, i) {
-        PathPlace::At(hint.next)
+    twice == 0
+}
+
+// The window for node `i`: where the nodes of the list do not rise, it is filled at its first node.
+pub fn window_for(entries: &[u32], i: usize, rises: bool, window: &mut [u32; WINDOW_WORDS])
+    requires { ⌜ Ready (now entries) i rises (now window) ⌝ }
+    ensures { λ r. ⌜ Windowed (now (entries .entry)) i rises (now (window .exit)) ⌝ }
+{
+    if rises {
+        return;
+    }
+    if i % WINDOW_NODES == 0 {
+        fill_window(entries, i / WINDOW_NODES, window);
+    }
+}
+
+// Whether node `i` is marked in the window that has it.
+fn is_marked(window: &[u32; WINDOW_WORDS], i: usize) -> bool
+    ensures { λ r. ⌜ r ≡ marked (now (window .entry)) i ⌝ }
+{
+    (window[i % WINDOW_NODES / 32] >> (i % 32)) % 2 == 1
+}
+
+// Whether node `i` has an entry: where the nodes rise, the hinted one or none.
+fn is_listed(entries: &[u32], i: usize, hint: Hint, window: &[u32; WINDOW_WORDS]) -> bool
+    requires { ⌜ Hinted (now entries) i hint × Windowed (now entries) i (hint .rises) (now window) ⌝ }
+    ensures { λ r. ⌜ r ≡ listed (now (entries .entry)) i ⌝ }
+{
+    if hint.rises {
+        is_of(entries, hint.next, i)
     } else {
-        PathPlace::Nowhere
+        is_marked(window, i)
     }
 }
 
@@ -145,9 +190,9 @@ pub fn next_hint(entries: &[u32], i: usize, hint: Hint) -> usize
 
 // Whether a divert is neither external nor by variable.
 fn is_plain(node: NodeRecord) -> bool
-    ensures { λ r. ⌜ r ≡ (not (eqb (node .f6 / 2 % 2) 1) && absent (node .f3) (node .f4)) ⌝ }
+    ensures { λ r. ⌜ r ≡ (not (external node) && absent (node .f3) (node .f4)) ⌝ }
 {
-    if node.f6 / 2 % 2 == 1 {
+    if node.f6 / 2 % 2 != 0 {
         return false;
     }
     if node.f3 != NONE {
@@ -169,45 +214,47 @@ pub fn may_follow(node: NodeRecord) -> bool
 }
 
 // Whether node `i`, of which the record is, follows a path of the list.
-pub fn follows(entries: &[u32], i: usize, hint: Hint, node: NodeRecord) -> bool
-    requires { ⌜ Hinted (now entries) i hint ⌝ }
+pub fn follows(
+    entries: &[u32],
+    i: usize,
+    hint: Hint,
+    window: &[u32; WINDOW_WORDS],
+    node: NodeRecord,
+) -> bool
+    requires { ⌜ Hinted (now entries) i hint × Windowed (now entries) i (hint .rises) (now window) ⌝ }
     ensures { λ r. ⌜ r ≡ (listed (now (entries .entry)) i && mayFollow node) ⌝ }
 {
-    match path_of(entries, i, hint) {
-        PathPlace::At(_) => may_follow(node),
-        PathPlace::Nowhere => false,
+    if is_listed(entries, i, hint, window) {
+        may_follow(node)
+    } else {
+        false
     }
 }
 
-// Whether no entry before entry `k` is of the same node. Where the nodes rise, none is.
-fn is_new(entries: &[u32], k: usize, rises: bool) -> bool
-    requires { ⌜ (k < pathCount (now entries)) × (rises ≡ pathsRise (now entries)) ⌝ }
-    ensures { λ r. ⌜ r ≡ newOrigin (now (entries .entry)) k ⌝ }
+// Whether no two entries are of one node, where all are of nodes below `nodes`: window by window.
+fn none_twice(entries: &[u32], nodes: usize) -> bool
+    requires { ⌜ ((k : ℕ) → k < pathCount (now entries) → pathOrigin (now entries) k < nodes) ⌝ }
+    ensures { λ r. ⌜ r ≡ allOf (pathCount (now (entries .entry))) (newOrigin (now (entries .entry))) ⌝ }
 {
-    if rises {
-        return true;
-    }
-    let node = origin_at(entries, k);
-    let mut j = 0;
-    while j < k {
-        if origin_at(entries, j) == node {
+    let mut window = [0; WINDOW_WORDS];
+    let windows = nodes / WINDOW_NODES + 1;
+    let mut number = 0;
+    while number < windows {
+        if !fill_window(entries, number, &mut window) {
             return false;
         }
-        j += 1;
+        number += 1;
     }
     true
 }
 
-// Whether entry `k` is right, among so many nodes and components.
-fn entry_right(entries: &[u32], nodes: usize, components: usize, k: usize, rises: bool) -> bool
-    requires { ⌜ (k < pathCount (now entries)) × (rises ≡ pathsRise (now entries)) ⌝ }
-    ensures { λ r. ⌜ r ≡ pathRight nodes components (now (entries .entry)) k ⌝ }
+// Whether entry `k` is right among so many nodes and components, whatever the others are.
+fn entry_right(entries: &[u32], nodes: usize, components: usize, k: usize) -> bool
+    requires { ⌜ k < pathCount (now entries) ⌝ }
+    ensures { λ r. ⌜ r ≡ entryRight nodes components (now (entries .entry)) k ⌝ }
 {
     let entry = entry_at(entries, k);
     if !image::is_inside(nodes, entry.node) {
-        return false;
-    }
-    if !is_new(entries, k, rises) {
         return false;
     }
     if 1 < entry.relative {
@@ -216,21 +263,26 @@ fn entry_right(entries: &[u32], nodes: usize, components: usize, k: usize, rises
     entry.first as usize + entry.count as usize <= components
 }
 
-// Whether the list is whole entries, each right, among so many nodes and components.
+// Whether the list is whole entries, each right, among so many nodes and components. More entries than nodes name one twice, or one outside.
 pub fn list_right(entries: &[u32], nodes: usize, components: usize) -> bool
     ensures { λ r. ⌜ r ≡ listRight nodes components (now (entries .entry)) ⌝ }
 {
     if entries.len() % PATH_ENTRY_WORDS != 0 {
         return false;
     }
-    let rises = paths_rise(entries);
     let count = path_count(entries);
+    if nodes < count {
+        return false;
+    }
     let mut k = 0;
     while k < count {
-        if !entry_right(entries, nodes, components, k, rises) {
+        if !entry_right(entries, nodes, components, k) {
             return false;
         }
         k += 1;
     }
-    true
+    if paths_rise(entries) {
+        return true;
+    }
+    none_twice(entries, nodes)
 }

@@ -1,8 +1,7 @@
 // Row 21: the root, the parents, the tree's entries, the order of definitions and items. Row 19 has passed: texts are good and ranges are inside.
 ghost use mathlib.Core.Path.{_≡_};
 ghost use mathlib.Core.List.{[]};
-ghost use mathlib.Core.Bool.{true};
-ghost use Prim.Native.Nat.{ℕ, _+_, _*_, _≤_, _<_};
+ghost use Prim.Native.Nat.{_+_, _*_, _≤_, _<_};
 ghost use lib.ListN.{length, getD};
 ghost use Rattle.laws.specs.Refusal.{passes, firstOf};
 ghost use Rattle.laws.specs.Counted.{allOf};
@@ -201,7 +200,7 @@ fn node_entries_right(
     )
 }
 
-// Whether the entries of every node are right. Nothing is said of a draft for which the answer is false.
+// Whether the entries of every node are right.
 pub fn entries_right(
     nodes: &[u32],
     children: &[u32],
@@ -211,7 +210,7 @@ pub fn entries_right(
 ) -> bool
     requires { ⌜ TreePassed (draftOf (source .version) (now nodes) (now children) (now named) [] [] [] (now strings)) ⌝ }
     ensures { λ r. ⌜ (let s = draftOf (source .version) (now (nodes .entry)) (now (children .entry)) (now (named .entry)) [] [] [] (now (strings .entry)) in
-        r ≡ true → (i : ℕ) → i < nodeCount s → entriesRule s i ≡ 0) ⌝ }
+        r ≡ passes (firstOf (nodeCount s) (entriesRule s))) ⌝ }
 {
     let count = source::node_count(nodes, source);
     let mut i = 0;

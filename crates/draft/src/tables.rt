@@ -1,23 +1,23 @@
 // Row 19: a draft's tables. Every record rule holds, every text is good, and every number that should be a node's is one. The strings are tested as
 // a whole first: `whole` says that they are good, and the texts of nodes and named entries are then tested by their ends.
 ghost use mathlib.Core.Path.{_≡_};
-ghost use mathlib.Core.List.{List, []};
-ghost use mathlib.Core.Bool.{true};
-ghost use Prim.Native.Nat.{ℕ, _<_};
-ghost use Rattle.laws.specs.Refusal.{unless, passes, _▸_, firstOf};
-ghost use Rattle.image.specs.Sections.{Sections, insideAmong, nodeCount, childCount, namedCount, definitionCount, itemCount, goodBytes, goodIn};
-ghost use Rattle.image.specs.Entries.{nodeIn};
+ghost use mathlib.Core.List.{[]};
+ghost use mathlib.Core.Bool.{true, _||_};
+ghost use lib.Dec.{eqb};
+ghost use Rattle.laws.specs.Refusal.{unless, _▸_, firstOf};
+ghost use Rattle.image.specs.Sections.{insideAmong, nodeCount, childCount, namedCount, definitionCount, itemCount, goodBytes, goodIn};
 ghost use Rattle.image.specs.Refusals.{badDraft};
 ghost use Rattle.records.specs.Fields.{kindOf};
 ghost use Rattle.records.specs.Records.{targetIn, usedUp};
-ghost use Rattle.records.specs.Shown.{sumsBefore, tagIn, startsNext, fieldsBy};
-ghost use Rattle.index.specs.Definitions.{itemsUsedUp};
-ghost use Rattle.draft.specs.Source.{NodesFrom, draftOf};
+ghost use Rattle.records.specs.Shown.{tagIn, startsNext, fieldsBy};
+ghost use Rattle.definitions.specs.Definitions.{itemsUsedUp};
+ghost use Rattle.draft.specs.Source.{draftOf};
 ghost use Rattle.draft.specs.Draft.{wholeEntries, draftChildRule, draftNamedRule, draftDefinitionRule, draftItemRule};
-ghost use Rattle.draft.specs.PathList.{follows, pathFieldsRule, pathNodeRule, pathTablesRule};
-ghost use Rattle.draft.specs.PathEntries.{followerRight};
+ghost use Rattle.draft.specs.PathList.{pathNodeRule, pathTablesRule};
+ghost use Rattle.draft.specs.PathEntries.{followerRight, recordRight};
 use crate::entry_counts;
 use crate::path_list;
+use crate::path_list::WINDOW_WORDS;
 use crate::source;
 use crate::source::Source;
 use image::Definition;
@@ -141,9 +141,9 @@ fn fields_right(
     whole: bool,
 ) -> bool
     requires { ⌜ (whole ≡ true → goodBytes (now strings) ≡ true) ⌝ }
-    ensures { λ r. ⌜ ((s : Sections) → NodesFrom s (source .version) (now (nodes .entry)) (now (payload .entry)) (now (strings .entry)) counts
-        → (i : ℕ) → sums ≡ sumsBefore s i → node ≡ nodeIn s i → (entries : List ℕ) → follow ≡ follows s entries i
-        → r ≡ passes (pathFieldsRule s entries i)) ⌝ }
+    ensures { λ r. ⌜ r ≡ recordRight follow node counts sums
+        (tagIn (draftOf (source .version) (now (nodes .entry)) [] [] [] [] [] []) (targetIn node (kindOf (node .tag))))
+        (now (payload .entry)) (now (strings .entry)) ⌝ }
 {
     if follow {
         return follower_right(node, strings, whole);
@@ -165,9 +165,10 @@ fn node_rule(
     whole: bool,
 ) -> u32
     requires { ⌜ (whole ≡ true → goodBytes (now strings) ≡ true) ⌝ }
-    ensures { λ r. ⌜ ((s : Sections) → NodesFrom s (source .version) (now (nodes .entry)) (now (payload .entry)) (now (strings .entry)) counts
-        → i < nodeCount s → sums ≡ sumsBefore s i → node ≡ nodeIn s i → (entries : List ℕ) → follow ≡ follows s entries i
-        → r ≡ pathNodeRule s entries i) ⌝ }
+    ensures { λ r. ⌜ r ≡ (unless (recordRight follow node counts sums
+        (tagIn (draftOf (source .version) (now (nodes .entry)) [] [] [] [] [] []) (targetIn node (kindOf (node .tag))))
+        (now (payload .entry)) (now (strings .entry))) badDraft
+        ▸ unless (eqb i 0 || insideAmong (counts .nodes) (node .parent)) badDraft) ⌝ }
 {
     if !fields_right(
         nodes,
@@ -218,10 +219,12 @@ fn nodes_rule(
         containers: 0,
     };
     let mut hint = path_list::first_hint(paths);
+    let mut window = [0; WINDOW_WORDS];
     let mut i = 0;
     while i < counts.nodes {
+        path_list::window_for(paths, i, hint.rises, &mut window);
         let node = source::node_at(nodes, i, source);
-        let follow = path_list::follows(paths, i, hint, node);
+        let follow = path_list::follows(paths, i, hint, &window, node);
         if node_rule(
             nodes,
             payload,

@@ -6,7 +6,7 @@ use native.Mathlib.Omega.{arith}
 use Rattle.laws.specs.Refusal.{unless, countsAs, _▸_, firstOf}
 use Rattle.image.specs.Sections.{Sections, nodeCount, childCount, namedCount, definitionCount, itemCount}
 use Rattle.draft.specs.Draft.{draftNodeRule, draftChildRule, draftNamedRule, draftDefinitionRule, draftItemRule, tablesRule, reachRule, relationRule, orderRule, shapeRule, pathRule, pathsRule}
-use Rattle.index.specs.Definitions.{numberOfItems}
+use Rattle.definitions.specs.Definitions.{numberOfItems}
 use Rattle.draft_image.specs.Encode.{draftRule, untouched}
 
 -- P holds of 0 and of k

@@ -13,7 +13,7 @@ use Rattle.records.specs.Fields.{Field, text, optional, command, operator, node
 use Rattle.records.specs.Records.{fieldsAt, numberOfNamed, listItems, listOrigins, listWord, listItemWord, listOriginWord, records}
 use Rattle.tree.specs.Tree.{namedText, namedAt}
 use Rattle.index.specs.Paths.{canonicalPath, pathFrom, paths}
-use Rattle.index.specs.Definitions.{definitionText, numberOfItems, itemTextOf, definitions}
+use Rattle.definitions.specs.Definitions.{definitionText, numberOfItems, itemTextOf, definitions}
 use Rattle.draft.specs.Numbering.{oldOf}
 
 -- ---- containers by their paths

@@ -13,7 +13,7 @@ use Rattle.image.specs.Tags.{listTag}
 use Rattle.records.specs.Fields.{Field, text, optional, command, operator, node, optionalNode, container, optionalContainer, plain, atMost, children, named, payload, wrong}
 use Rattle.records.specs.Records.{fieldsAt, numberOfChildren, numberOfNamed, payloadLengthOf, listItems, listOrigins, listWord, listItemWord, listOriginWord}
 use Rattle.tree.specs.Tree.{childAt, namedAt, namedText}
-use Rattle.index.specs.Definitions.{definitionText, itemText}
+use Rattle.definitions.specs.Definitions.{definitionText, itemText}
 use Rattle.draft.specs.Numbering.{numbering, oldOf, newOf, numberings}
 use Rattle.draft_image.specs.Strings.{byPath, pathOf, storedTexts, offsetOf, textWords, optionalWords, strings}
 

@@ -1,24 +1,28 @@
--- A draft whose tables pass and whose tree stands keeps 20, and 21 where its definitions are in order.
-use Prim.Native.Nat.{ℕ, _+_, _<_}
+-- A draft whose tables pass keeps 20 and 21 exactly if its tree stands and its definitions are in order.
+use Prim.Native.Nat.{ℕ, _+_, _≤_, _<_}
 use mathlib.Core.Path.{_≡_, sym, ap, _∙_, subst}
-use mathlib.Core.Bool.{true}
+use mathlib.Core.Bool.{true, false}
 use native.Mathlib.Omega.{arith}
-use native.Mathlib.Decide.{ℕ-discrete}
+use native.Mathlib.Decide.{ℕ-discrete, decLe}
 use borrow.Author.Tests.{eq-eqb, ne-eqb}
-use Rattle.laws.specs.Refusal.{firstOf}
-use Rattle.laws.proofs.First.{then, pass, zero-as, first-of}
+use Rattle.laws.specs.Refusal.{passes, _▸_, firstOf}
+use Rattle.laws.proofs.First.{both, then, pass, zero-as, first-of}
 use Rattle.laws.proofs.Flags.{all-of}
-use Rattle.image.specs.Sections.{Sections, nodeCount, definitionCount, parentOf, childWord, namedWord, isContainer}
+use Rattle.laws.proofs.Members.{all-has}
+use Rattle.words.specs.Words.{NONE}
+use Rattle.image.specs.Sections.{Sections, nodeCount, definitionCount, parentOf, f, childWord, namedWord, isContainer}
 use Rattle.records.specs.Records.{numberOfChildren, numberOfNamed, parentRule}
 use Rattle.records.proofs.PassedRules.{ranges}
-use Rattle.tree.specs.Tree.{childAt, namedAt, allSeen}
+use Rattle.tree.specs.Tree.{childAt, namedAt, readWalk, allSeen}
 use Rattle.tree.specs.Reach.{Reached, root as reached-root, child as reached-child, named as reached-named}
 use Rattle.tree.proofs.Entries.{children-pass, named-pass, child-container, named-container}
-use Rattle.tree.proofs.Numbers.{reached-read}
+use Rattle.tree.proofs.Numbers.{read-reached, reached-read}
 use Rattle.draft.specs.Draft.{reachRule, relationRule, orderRule, shapeRule}
-use Rattle.draft.proofs.Rules.{TablesBy, entries-counts, entries-below, parent-node}
+use Rattle.draft.proofs.Rules.{TablesBy, entries-counts, entries-below, parent-node, child-node, named-node, child-in, named-in, Shape, shape}
+use Rattle.draft.proofs.ReachedNodes.{reached}
 use Rattle.promises.proofs.Counts.{owner}
 use Rattle.draft_tree.specs.Standing.{Listed, child, named, Rooted, root, up, Standing}
+use Rattle.draft_tree.specs.Testing.{Told}
 
 module _ (s : Sections) {rule : ℕ → ℕ} (t : TablesBy s rule) (st : Standing s) where
   -- ---- a listed node is an entry of its parent
@@ -75,7 +79,7 @@ module _ (s : Sections) {rule : ℕ → ℕ} (t : TablesBy s rule) (st : Standin
         | no d ↦ owned i (st .listed i (omega arith) h) .down (rooted-reached (parentOf s i) (parent-node s t i h (omega arith) .below) r)
       ]
 
-  pub stands-reach : reachRule s ≡ 0
+  stands-reach : reachRule s ≡ 0
   unfolding reachRule allSeen
   stands-reach =
       pass _ 20
@@ -88,7 +92,7 @@ module _ (s : Sections) {rule : ℕ → ℕ} (t : TablesBy s rule) (st : Standin
   own-parent i k e root = omega arith
   own-parent i k e (up r) = own-parent (parentOf s i) (omega arith) (ap (parentOf s) e) r
 
-  pub stands-parents : (i : ℕ) → i < nodeCount s → parentRule s i ≡ 0
+  stands-parents : (i : ℕ) → i < nodeCount s → parentRule s i ≡ 0
   unfolding parentRule
   stands-parents i h =
       elim (ℕ-discrete i 0) [
@@ -100,8 +104,66 @@ module _ (s : Sections) {rule : ℕ → ℕ} (t : TablesBy s rule) (st : Standin
         )))
       ]
 
-  pub stands-shape : firstOf (definitionCount s) (orderRule s) ≡ 0 → shapeRule s ≡ 0
+  stands-shape : firstOf (definitionCount s) (orderRule s) ≡ 0 → shapeRule s ≡ 0
   unfolding shapeRule relationRule
   stands-shape p =
       then _ _ (pass _ 21 (st .root))
       (then _ _ (first-of (nodeCount s) _ (λ i h. then _ _ (zero-as 21 _ (stands-parents i h)) (zero-as 21 _ (st .entries i h)))) p)
+
+-- ---- what 20 and 21 give
+
+module _ (s : Sections) {rule : ℕ → ℕ} (t : TablesBy s rule) (reach : reachRule s ≡ 0) (shaped : shapeRule s ≡ 0) where
+  abbrev whole : Shape s
+  whole = shape s shaped
+
+  reached-node : (i : ℕ) → i < nodeCount s → Reached s i
+  reached-node i h = all-has (Reached s) i (readWalk s .seen) (reached s reach i h) (read-reached s)
+
+  reached-below : (i : ℕ) → Reached s i → i < nodeCount s
+  reached-below i reached-root = t .some
+  reached-below i (reached-child c k r l e) = subst (λ (x : ℕ). x < nodeCount s) (sym e) (children-pass s c (whole .entries c (reached-below c r)) k l .below)
+  reached-below i (reached-named c k r l e) = subst (λ (x : ℕ). x < nodeCount s) (sym e) (named-pass s c (whole .entries c (reached-below c r)) k l .below)
+
+  reached-rooted : (i : ℕ) → Reached s i → Rooted s i
+  reached-rooted i reached-root = root
+  reached-rooted i (reached-child c k r l e) =
+      up (subst (Rooted s) (sym (ap (parentOf s) e ∙ children-pass s c (whole .entries c (reached-below c r)) k l .parent)) (reached-rooted c r))
+  reached-rooted i (reached-named c k r l e) =
+      up (subst (Rooted s) (sym (ap (parentOf s) e ∙ named-pass s c (whole .entries c (reached-below c r)) k l .parent)) (reached-rooted c r))
+
+  reached-listed : (i : ℕ) → 0 < i → Reached s i → Listed s i
+  reached-listed i h reached-root = absurd (omega arith)
+  reached-listed i h (reached-child c k r l e) = child (f s c 3 + k) (child-in s t c (reached-below c r) k l) (sym e)
+  reached-listed i h (reached-named c k r l e) = named (f s c 5 + k) (named-in s t c (reached-below c r) k l) (sym e)
+
+  kept-told : Told s
+  unfolding shapeRule
+  kept-told =
+      record {
+        standing =
+            record {
+              root = whole .root;
+              entries = whole .entries;
+              listed = λ i k h. reached-listed i k (reached-node i h);
+              rooted = λ i h b. reached-rooted i (reached-node i h);
+            };
+        orders = both _ _ (both _ _ shaped .1) .1;
+      }
+
+-- ---- the answer
+
+module _ (s : Sections) {rule : ℕ → ℕ} (t : TablesBy s rule) where
+  pub stands-yes : Told s → true ≡ passes (reachRule s ▸ shapeRule s)
+  stands-yes told =
+      sym (eq-eqb _ 0 (then _ _ (stands-reach s t (told .standing)) (stands-shape s t (told .standing) (told .orders))))
+
+  pub stands-no : (Told s → ⊥) → false ≡ passes (reachRule s ▸ shapeRule s)
+  stands-no d = sym (ne-eqb _ 0 (λ z. let b = both _ _ z in d (kept-told s t (b .0) (b .1))))
+
+  -- entries name no more nodes than words can
+  pub few-nodes : ((i : ℕ) → 0 < i → i < nodeCount s → Listed s i) → nodeCount s ≤ NONE
+  few-nodes listed = elim (decLe (nodeCount s) NONE) [ yes h ↦ h | no h ↦ absurd (by (listed NONE (omega arith) (omega (arith, h)))) ]
+    where
+      by : Listed s NONE → ⊥
+      by (child j h e) = child-node s t j h .some e
+      by (named j h e) = named-node s t j h .some e

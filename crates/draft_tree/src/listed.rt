@@ -1,5 +1,6 @@
 // Whether every node but the root is an entry: one pass over the ordered children and the named entries marks their nodes in work words.
 ghost use mathlib.Core.Path.{_≡_};
+ghost use mathlib.Core.Logic.{_↔_};
 ghost use mathlib.Core.Bool.{true};
 ghost use mathlib.Core.List.{[]};
 ghost use Prim.Native.Nat.{ℕ, _+_, _*_, _/_, _≤_, _<_};
@@ -44,7 +45,7 @@ fn mark_named(named: &[u32], work: &mut [u32])
 // Whether all of the first `count` words but the root's are marked.
 fn all_ones(work: &[u32], count: usize) -> bool
     requires { ⌜ count ≤ length (now work) ⌝ }
-    ensures { λ r. ⌜ (r ≡ true → (i : ℕ) → 0 < i → i < count → getD (now (work .entry)) i 0 ≡ 1) ⌝ }
+    ensures { λ r. ⌜ ((r ≡ true) ↔ ((i : ℕ) → 0 < i → i < count → getD (now (work .entry)) i 0 ≡ 1)) ⌝ }
 {
     let mut i = 1;
     while i < count {
@@ -56,7 +57,7 @@ fn all_ones(work: &[u32], count: usize) -> bool
     true
 }
 
-// Whether every node but the root is an entry; the first words, one for each node, then hold the marks.
+// Whether every node but the root is an entry; the first words, one for each node, then hold 1 for those that are, 0 for others.
 pub fn all_listed(
     nodes: &[u32],
     children: &[u32],

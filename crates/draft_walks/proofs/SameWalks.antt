@@ -39,8 +39,8 @@ module _ (version : ℕ) (nodes children named definitions items payload strings
   same-step i Broken = refl
 
   same : SameSteps part whole
-  unfolding parentQuery nodeWord
-  same = record { nodes = λ i. refl; containers = λ i. refl; parents = λ i. refl; steps = same-step }
+  unfolding nodeWord
+  same = record { nodes = λ i. refl; containers = λ i. refl; steps = same-step }
 
   pub same-walk : (relative : Bool) (origin : ℕ) (cs : List Component) (a : Found) → a ≡ resolve part relative origin cs → a ≡ resolve whole relative origin cs
   same-walk relative origin cs a h = h ∙ same-walks part whole same relative origin cs

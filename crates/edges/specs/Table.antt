@@ -1,13 +1,13 @@
 -- The lines that FORMAT.md marks P, as one theorem.
-use Prim.Native.Nat.{ℕ, zero, suc}
+use Prim.Native.Nat.{ℕ}
 use mathlib.Core.Path.{_≡_, refl}
-use mathlib.Core.List.{List, [], _∷_}
-use mathlib.Core.Bool.{Bool, true, false}
+use mathlib.Core.List.{[], _∷_}
+use mathlib.Core.Bool.{true, false}
 use lib.IntN.{pos}
 use lib.ListN.{length}
 use Rattle.words.specs.Words.{NONE}
 use Rattle.texts.specs.Text.{ascii}
-use Rattle.image.specs.Sections.{Sections, textAt, partAt}
+use Rattle.image.specs.Sections.{textAt}
 use Rattle.image.specs.Encoding.{imageOf, encodings}
 use Rattle.index.specs.Paths.{fits}
 use Rattle.load.specs.Load.{loadRule, loads}
@@ -18,6 +18,8 @@ use Rattle.views.specs.declared.Found.the-variants.{Node}
 use Rattle.lookups.specs.declared.ListItemAnswer.the-variants.{Item, NotFound}
 use Rattle.list_items.specs.declared.ItemSearch.{ItemSearch}
 use Rattle.list_items.specs.Search.{listSearch, listSearches}
+use Rattle.list_items.specs.Plain.{SearchCount}
+use Rattle.promises.specs.Answers.{ofListItem}
 use Rattle.draft_image.specs.Encode.{encodeRule, imageFor, encodes}
 use Rattle.views.specs.declared.OptionalText.the-variants.{Present, Absent}
 use Rattle.views.specs.declared.OptionalText.{OptionalText}
@@ -208,6 +210,9 @@ pub record SearchLines : Type 0 where
   pub red-high : listSearch withLists (ascii "red.high") ≡ nothingBy 1
   pub blank-name : listSearch withLists (32 ∷ 227 ∷ 128 ∷ 128 ∷ 9 ∷ []) ≡ nothingBy 0
   pub empty-name : listSearch withLists [] ≡ nothingBy 0
+  pub space : ofListItem (listSearch withLists (ascii " ") .answer) .number ≡ 18
+  -- a search that keeps the statement on counts has searched nothing for it
+  pub space-count : (r : ItemSearch) → SearchCount withLists (ascii " ") r → r .searched ≡ 0
   pub dot-low : listSearch withLists (ascii ".low") ≡ nothingBy 0
   pub red-dot : listSearch withLists (ascii "red.") ≡ nothingBy 1
   pub low-dot : listSearch withLists (ascii "low.") ≡ nothingBy 0
@@ -227,6 +232,8 @@ search-lines =
       red-high = refl;
       blank-name = refl;
       empty-name = refl;
+      space = refl;
+      space-count = λ r c. c .blank-name refl;
       dot-low = refl;
       red-dot = refl;
       low-dot = refl;

@@ -2,8 +2,8 @@
 use Prim.Native.Nat.{ℕ}
 use mathlib.Core.List.{List}
 use Rattle.laws.specs.Refusal.{unless, _▸_, firstOf, refusals}
-use Rattle.texts.specs.Text.{rising, before}
-use Rattle.image.specs.Sections.{Sections, nodeWord, tagOf, indexWord, indexCount, nodeCount, textAt, goodText, inside, isContainer, insideContainer, sections}
+use Rattle.texts.specs.Text.{rising}
+use Rattle.image.specs.Sections.{Sections, indexWord, indexCount, textAt, goodText, insideContainer, sections}
 use Rattle.image.specs.Refusals.{badNode, badText, badIndex}
 use Rattle.index.specs.Paths.{fits, paths}
 

@@ -1,5 +1,4 @@
 pub mod Paths
 pub mod Index
-pub mod Definitions
 pub mod Parts
 pub mod Extended

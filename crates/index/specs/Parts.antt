@@ -1,8 +1,7 @@
--- The sections that the index and the definitions are made of, out of their bytes, and what is read out of them.
-use Prim.Native.Nat.{ℕ, _+_}
+-- The sections that the index is made of, out of their bytes, and what is read out of them.
+use Prim.Native.Nat.{ℕ}
 use mathlib.Core.List.{List, []}
 use Rattle.words.specs.Words.{wordsOf}
-use Rattle.image.specs.Header.{version}
 use Rattle.image.specs.Sections.{Sections, parentOf, placeOf, f}
 use Rattle.index.specs.declared.PathNode.{PathNode}
 
@@ -17,21 +16,6 @@ indexParts version nodes index strings =
       definitions = [];
       items = [];
       index = wordsOf index;
-      payload = [];
-      strings = strings;
-    }
-
--- definitions, items and strings; the version does not matter here
-abbrev pub definitionParts : List ℕ → List ℕ → List ℕ → Sections
-definitionParts definitions items strings =
-    record {
-      version = version;
-      nodes = [];
-      children = [];
-      named = [];
-      definitions = wordsOf definitions;
-      items = wordsOf items;
-      index = [];
       payload = [];
       strings = strings;
     }

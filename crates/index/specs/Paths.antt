@@ -1,5 +1,5 @@
 -- The canonical path of a container, and the text that fits it.
-use Prim.Native.Nat.{ℕ, zero, suc, _+_}
+use Prim.Native.Nat.{ℕ, zero, suc}
 use mathlib.Core.List.{List, [], _∷_, _++_}
 use mathlib.Core.Bool.{Bool, true, cond, _&&_, _||_, not}
 use lib.Dec.{eqb}
@@ -7,7 +7,7 @@ use Rattle.words.specs.Words.{isNone}
 use Rattle.texts.specs.Text.{same, texts}
 use Rattle.texts.specs.Decimal.{decimal, decimals}
 use Rattle.texts.specs.Dots.{dot}
-use Rattle.image.specs.Sections.{Sections, nodeCount, nodeWord, parentOf, placeOf, f, partAt, absent, sections}
+use Rattle.image.specs.Sections.{Sections, nodeCount, parentOf, placeOf, f, partAt, absent, sections}
 
 -- no name, or the empty one
 abbrev pub noName : ℕ → ℕ → Bool

@@ -1,20 +1,17 @@
-// Canonical paths, the path index, list definitions and their items.
+// Canonical paths and the path index.
 ghost use mathlib.Core.Path.{_≡_};
 ghost use mathlib.Core.List.{[]};
-ghost use mathlib.Core.Bool.{true};
-ghost use Prim.Native.Nat.{_+_, _*_, _≤_, _<_};
+ghost use Prim.Native.Nat.{ℕ, _+_, _*_, _≤_, _<_};
 ghost use lib.ListN.{length, drop};
-ghost use Rattle.laws.specs.Refusal.{firstOf};
 ghost use Rattle.texts.specs.Text.{same};
 ghost use Rattle.words.specs.Words.{wordsOf};
-ghost use Rattle.image.specs.Sections.{textEntrySize, definitionSize, nodeCount};
+ghost use Rattle.image.specs.Sections.{textEntrySize, nodeCount};
 ghost use Rattle.image.specs.Entries.{textEntryOf};
 ghost use Rattle.tree.specs.Reach.{AllClimb};
 ghost use Rattle.index.specs.Paths.{noName, pieceOf, nameOrPlace, fits};
 ghost use Rattle.index.specs.Index.{indexEntryRule, indexRule};
-ghost use Rattle.index.specs.Definitions.{itemsBefore, itemRuleFrom, definitionRule, definitionsRule};
-ghost use Rattle.index.specs.Parts.{indexParts, definitionParts, pathNodeOf};
-ghost use Rattle.index.specs.Extended.{Tested, Extends, Extended};
+ghost use Rattle.index.specs.Parts.{indexParts, pathNodeOf};
+ghost use Rattle.index.specs.Extended.{Tested, wordValues, Filed, parentEntry, extendsBy, extendedEntry};
 use image::ImageView;
 use image::NodeRecord;
 use image::TextEntry;
@@ -157,11 +154,13 @@ fn index_entry_rule(nodes: &[u8], index: &[u8], strings: &[u8], j: usize, versio
     }
 }
 
-// An entry before `j` whose target is `parent`: the one whose number the parent's work word holds, if that is such an entry, else `j`. The words
-// may hold anything, and `j` may always be answered.
+// The entry before `j` whose target is `parent`, where there is one, else `j`: the parent's work word holds its number. (A word holds no number
+// from 4294967296 on; entries from there on are not found.)
 fn parent_entry(index: &[u8], work: &[u32], parent: u32, j: usize) -> usize
     requires { ⌜ textEntrySize * j ≤ length (now index) ⌝ }
-    ensures { λ r. ⌜ (r ≤ j) × (r < j → textEntryOf (wordsOf (now (index .entry))) r .value ≡ parent) ⌝ }
+    requires { ⌜ Filed (wordsOf (now index)) (now work) j ⌝ }
+    ensures answer { λ r. ⌜ r ≡ parentEntry (wordsOf (now (index .entry))) (now (work .entry)) parent j ⌝ }
+    ensures found { λ r. ⌜ ((k : ℕ) → k < j → k < wordValues → textEntryOf (wordsOf (now (index .entry))) k .value ≡ parent → r ≡ k) ⌝ }
 {
     let at = parent as usize;
     if work.len() <= at {
@@ -175,10 +174,9 @@ fn parent_entry(index: &[u8], work: &[u32], parent: u32, j: usize) -> usize
     if above.value == parent { k } else { j }
 }
 
-// Whether the text of an entry is that of the entry `above`, a dot and the piece of a node, and good if that one is. False may always be
-// answered.
+// Whether the text of an entry is that of the entry `above`, a dot and the piece of a node, and good from the dot on.
 fn extends(strings: &[u8], above: TextEntry, entry: TextEntry, node: PathNode) -> bool
-    ensures { λ r. ⌜ (r ≡ true → Extends (now (strings .entry)) above entry node) ⌝ }
+    ensures { λ r. ⌜ r ≡ extendsBy (now (strings .entry)) above entry node ⌝ }
 {
     if entry.offset == image::NONE {
         return false;
@@ -209,8 +207,8 @@ fn extends(strings: &[u8], above: TextEntry, entry: TextEntry, node: PathNode) -
     )
 }
 
-// The entry of the parent of entry `j`'s target, where it comes before `j` and shows that entry `j`'s text is good and fits, else `j`. `j` may always
-// be answered: the plain test decides then.
+// The entry of the parent of entry `j`'s target, where it comes before `j` and shows that entry `j`'s text is good and fits, else `j`: the plain
+// test decides then.
 fn extended_entry(
     nodes: &[u8],
     index: &[u8],
@@ -220,8 +218,8 @@ fn extended_entry(
     version: u32,
 ) -> usize
     requires { ⌜ textEntrySize * j + textEntrySize ≤ length (now index) ⌝ }
-    requires { ⌜ Tested (indexParts version (now nodes) (now index) (now strings)) j ⌝ }
-    ensures { λ r. ⌜ (r ≤ j) × (r < j → Extended (indexParts version (now (nodes .entry)) (now (index .entry)) (now (strings .entry))) j r) ⌝ }
+    requires { ⌜ Filed (wordsOf (now index)) (now work) j ⌝ }
+    ensures { λ r. ⌜ r ≡ extendedEntry (indexParts version (now (nodes .entry)) (now (index .entry)) (now (strings .entry))) (now (work .entry)) j ⌝ }
 {
     let entry = image::text_entry(index, j);
     if entry.value == 0 {
@@ -261,6 +259,7 @@ fn next_entry_rule(
 ) -> u32
     requires { ⌜ textEntrySize * j + textEntrySize ≤ length (now index) ⌝ }
     requires { ⌜ Tested (indexParts version (now nodes) (now index) (now strings)) j ⌝ }
+    requires { ⌜ Filed (wordsOf (now index)) (now work) j ⌝ }
     ensures { λ r. ⌜ r ≡ indexEntryRule (indexParts version (now (nodes .entry)) (now (index .entry)) (now (strings .entry))) j ⌝ }
 {
     let k = extended_entry(nodes, index, strings, work, j, version);
@@ -297,83 +296,4 @@ pub fn index_rule(nodes: &[u8], index: &[u8], strings: &[u8], work: &mut [u32], 
         j += 1;
     }
     0
-}
-
-// The refusal of an item, the `place`-th from item `first` on, or 0.
-fn item_rule(items: &[u8], strings: &[u8], first: usize, place: usize) -> u32
-    requires { ⌜ textEntrySize * (first + place) + textEntrySize ≤ length (now items) ⌝ }
-    ensures { λ r. ⌜ r ≡ itemRuleFrom (definitionParts [] (now (items .entry)) (now (strings .entry))) first place ⌝ }
-{
-    let item = image::text_entry(items, first + place);
-    if !image::good_text(strings, item.offset, item.len) {
-        return refusal::BAD_DEFINITION;
-    }
-    if order::entry_rises(items, strings, first, place) {
-        0
-    } else {
-        refusal::BAD_DEFINITION
-    }
-}
-
-// The first refusal of the items of a definition, or 0.
-fn items_rule(items: &[u8], strings: &[u8], first: usize, count: usize) -> u32
-    requires { ⌜ textEntrySize * (first + count) ≤ length (now items) ⌝ }
-    ensures { λ r. ⌜ r ≡ firstOf count (itemRuleFrom (definitionParts [] (now (items .entry)) (now (strings .entry))) first) ⌝ }
-{
-    let mut place = 0;
-    while place < count {
-        let refused = item_rule(items, strings, first, place);
-        if refused != 0 {
-            return refused;
-        }
-        place += 1;
-    }
-    0
-}
-
-// The refusal of definition `d`, or 0. The definitions before it have `used` items.
-fn definition_rule(definitions: &[u8], items: &[u8], strings: &[u8], d: usize, used: usize) -> u32
-    requires { ⌜ (definitionSize * d + definitionSize ≤ length (now definitions))
-        × (used ≡ itemsBefore (definitionParts (now definitions) (now items) (now strings)) d) ⌝ }
-    ensures { λ r. ⌜ r ≡ definitionRule (definitionParts (now (definitions .entry)) (now (items .entry)) (now (strings .entry))) d ⌝ }
-{
-    let definition = image::definition_at(definitions, d);
-    if !image::good_text(strings, definition.offset, definition.len) {
-        return refusal::BAD_TEXT;
-    }
-    if !order::definition_rises(definitions, strings, d) {
-        return refusal::BAD_DEFINITION;
-    }
-    let first = definition.first as usize;
-    let count = definition.count as usize;
-    if items.len() / ImageView::TEXT_ENTRY_BYTES < first + count {
-        return refusal::BAD_RANGE;
-    }
-    if first != used {
-        return refusal::BAD_RANGE;
-    }
-    items_rule(items, strings, first, count)
-}
-
-// The first refusal of a definition or of its items, or of items that no definition has, or 0.
-pub fn definitions_rule(definitions: &[u8], items: &[u8], strings: &[u8]) -> u32
-    ensures { λ r. ⌜ r ≡ definitionsRule (definitionParts (now (definitions .entry)) (now (items .entry)) (now (strings .entry))) ⌝ }
-{
-    let count = definitions.len() / ImageView::DEFINITION_BYTES;
-    let mut used = 0;
-    let mut d = 0;
-    while d < count {
-        let refused = definition_rule(definitions, items, strings, d, used);
-        if refused != 0 {
-            return refused;
-        }
-        let definition = image::definition_at(definitions, d);
-        used += definition.count as usize;
-        d += 1;
-    }
-    if used == items.len() / ImageView::TEXT_ENTRY_BYTES {
-        0
-    } else {
-        refusal::BAD_DEFINITION
-    }
 }

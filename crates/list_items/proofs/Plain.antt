@@ -16,12 +16,13 @@ use Rattle.texts.specs.Dots.{hasDot, beforeDot, afterDot}
 use Rattle.utf8.specs.White.{blank}
 use Rattle.image.specs.Sections.{Sections, definitionCount, definitionWord}
 use Rattle.image.proofs.Parts.{good-part}
-use Rattle.index.specs.Definitions.{definitionText, definitionsRule}
-use Rattle.index.proofs.Definitions.{Definitions, definitions-passed, definition-once}
+use Rattle.definitions.specs.Definitions.{definitionText, definitionsRule}
+use Rattle.definitions.proofs.Definitions.{Definitions, definitions-passed, definition-once}
 use Rattle.lookups.specs.declared.ListItem.{ListItem}
 use Rattle.lookups.specs.declared.ListItemAnswer.the-variants as answer
 use Rattle.lookups.specs.Lookup.{itemPlace, definitionName, answeringPlace, answers, listItemAt, listItemIn, lastItem, listItem}
 use Rattle.lookups.proofs.Plain.{Last, last-some, last-none, last-like, last-none-of, last-is}
+use Rattle.lookups.proofs.Given.{listed-given, listed-refused}
 use Rattle.list_items.specs.declared.ItemSearch.{ItemSearch}
 use Rattle.list_items.specs.Search.{amongAt, searchAmong, noSearch, originOf, searchIn, listSearch}
 use Rattle.list_items.specs.Plain.{IsOrigin, SearchCount}
@@ -206,8 +207,8 @@ module _ (s : Sections) (name : List ℕ) where
         origin = λ b c d o. rw (b, c) (one-searched s passed (beforeDot name) (afterDot name) d (o .definition) (o .text));
         no-origin = λ b c no-one.
             rw (b, c) (none-searched s passed (beforeDot name) (afterDot name) (λ d h e. no-one d (record { definition = h; text = e })));
-        answered = λ b c item. rw (b, c) (down-to item);
-        missing = λ b c. rw (b, c) every-one;
+        answered = λ b c item. rw (b, c) (λ e. down-to item (listed-given (all-searched .answer) item e));
+        missing = λ b c. rw (b, c) (λ e. every-one (listed-refused (all-searched .answer) e));
       }
 
 pub search-counted : (s : Sections) → definitionsRule s ≡ 0 → (name : List ℕ) → SearchCount s name (listSearch s name)

@@ -25,8 +25,8 @@ use Rattle.image.specs.Entries.{textEntryOf, definitionOf, definitionIn}
 use Rattle.image.specs.Header.{sectionBytes, sectionsBy}
 use Rattle.image.proofs.Entries.{definition-entry}
 use Rattle.image.proofs.Parts.{part-length, text-entry-count, definition-count}
-use Rattle.index.specs.Definitions.{firstItem, numberOfItems}
-use Rattle.index.specs.Parts.{definitionParts}
+use Rattle.definitions.specs.Definitions.{firstItem, numberOfItems}
+use Rattle.definitions.specs.Parts.{definitionParts}
 use Rattle.views.specs.View.{signed}
 use Rattle.lookups.specs.declared.ListItemAnswer.{ListItemAnswer}
 use Rattle.lookups.specs.declared.ListItemAnswer.the-variants as answer

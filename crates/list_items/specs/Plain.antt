@@ -5,10 +5,12 @@ use mathlib.Core.List.{List}
 use mathlib.Core.Bool.{true, false}
 use Rattle.texts.specs.Dots.{hasDot, beforeDot}
 use Rattle.utf8.specs.White.{blank}
+use Rattle.image.specs.Refusals.{notFound}
 use Rattle.image.specs.Sections.{Sections, definitionCount}
-use Rattle.index.specs.Definitions.{definitionText}
+use Rattle.definitions.specs.Definitions.{definitionText}
+use Rattle.views.specs.Answers.{given}
 use Rattle.lookups.specs.declared.ListItem.{ListItem}
-use Rattle.lookups.specs.declared.ListItemAnswer.the-variants as answer
+use Rattle.lookups.specs.Answers.{ofListItem}
 use Rattle.list_items.specs.declared.ItemSearch.{ItemSearch}
 
 -- definition d has the part of the name before the first dot as its name
@@ -23,6 +25,6 @@ pub record SearchCount (s : Sections) (name : List ℕ) (r : ItemSearch) : Type 
   pub origin : blank name ≡ false → hasDot name ≡ true → (d : ℕ) → IsOrigin s name d → r .searched ≡ 1
   pub no-origin : blank name ≡ false → hasDot name ≡ true → ((d : ℕ) → IsOrigin s name d → ⊥) → r .searched ≡ 0
   -- without: those from the last down to the one that answers, or all
-  pub answered : blank name ≡ false → hasDot name ≡ false → (item : ListItem) → r .answer ≡ answer.Item item
+  pub answered : blank name ≡ false → hasDot name ≡ false → (item : ListItem) → ofListItem (r .answer) ≡ given item
       → item .definition + r .searched ≡ definitionCount s
-  pub missing : blank name ≡ false → hasDot name ≡ false → r .answer ≡ answer.NotFound → r .searched ≡ definitionCount s
+  pub missing : blank name ≡ false → hasDot name ≡ false → ofListItem (r .answer) .number ≡ notFound → r .searched ≡ definitionCount s

@@ -5,7 +5,7 @@ ghost use Prim.Native.Nat.{_+_, _/_, _≤_};
 ghost use lib.ListN.{length};
 ghost use Rattle.image.specs.Header.{sectionsBy};
 ghost use Rattle.image.specs.Sections.{definitionSize};
-ghost use Rattle.index.specs.Parts.{definitionParts};
+ghost use Rattle.definitions.specs.Parts.{definitionParts};
 ghost use Rattle.lookups.specs.Lookup.{foundPlace};
 ghost use Rattle.list_items.specs.Search.{itemsInside, foundItem, searchAmong, originOf, noSearch, listSearch};
 use image::Definition;

@@ -17,11 +17,12 @@ use Rattle.tree.specs.Tree.{treeRule}
 use Rattle.tree.specs.Reach.{AllClimb}
 use Rattle.tree.proofs.ParentSteps.{tree-climbs}
 use Rattle.index.specs.Index.{indexRule}
-use Rattle.index.specs.Definitions.{definitionsRule}
-use Rattle.index.specs.Parts.{indexParts, definitionParts}
+use Rattle.definitions.specs.Definitions.{definitionsRule}
+use Rattle.index.specs.Parts.{indexParts}
+use Rattle.definitions.specs.Parts.{definitionParts}
 use Rattle.index.proofs.Index.{index-parts, count-like}
 use Rattle.index.proofs.Extended.{climbs-like}
-use Rattle.index.proofs.Definitions.{definitions-parts}
+use Rattle.definitions.proofs.Definitions.{definitions-parts}
 use Rattle.load.specs.Load.{recordsRule, loadWords}
 use Rattle.load.proofs.Rows.{recorded, root-some}
 

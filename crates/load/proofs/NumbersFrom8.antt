@@ -15,7 +15,7 @@ use Rattle.records.specs.Fields.{Field, text, optional, command, operator, node
 use Rattle.records.specs.Records.{fieldRule, firstField, fieldsAt, parentRule, nodeRule, payloadRule, listItemRule, listOriginRule}
 use Rattle.tree.specs.Tree.{Walked, stop, walk, childRule, namedRule, entriesRule, entryNodes, loadWalk, treeRule, turns}
 use Rattle.index.specs.Index.{indexEntryRule, indexRule}
-use Rattle.index.specs.Definitions.{itemRuleFrom, definitionRule, definitionsRule}
+use Rattle.definitions.specs.Definitions.{itemRuleFrom, definitionRule, definitionsRule}
 use Rattle.load.specs.Load.{leftoverRule, recordsRule, sectionsRule, early}
 
 -- nothing, or a number from 8 on

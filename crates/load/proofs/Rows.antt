@@ -27,7 +27,7 @@ use Rattle.records.specs.Records.{nodeRule, rootRight, usedUp, containersBefore
 use Rattle.records.specs.Shown.{sumsBefore}
 use Rattle.tree.specs.Tree.{treeRule}
 use Rattle.index.specs.Index.{indexRule}
-use Rattle.index.specs.Definitions.{definitionsRule}
+use Rattle.definitions.specs.Definitions.{definitionsRule}
 use Rattle.tree.specs.Parts.{Fit, partsOf}
 use Rattle.tree.specs.Work.{treeWords}
 use Rattle.tree.proofs.Entries.{fit}

@@ -16,7 +16,7 @@ use Rattle.records.specs.Records.{nodeRule, rootRight, usedUp, containersBefore
 use Rattle.tree.specs.Work.{treeWords}
 use Rattle.tree.specs.Tree.{treeRule, trees}
 use Rattle.index.specs.Index.{indexRule, indexes}
-use Rattle.index.specs.Definitions.{definitionsRule, definitions}
+use Rattle.definitions.specs.Definitions.{definitionsRule, definitions}
 use Rattle.load.specs.declared.Loaded.{Loaded}
 use Rattle.load.specs.declared.Loaded.the-variants.{View, Refused}
 

@@ -11,7 +11,7 @@ ghost use lib.ListN.{length, drop};
 ghost use Rattle.image.specs.Header.{headerRule, sectionsBy, sectionsOf, viewOf};
 ghost use Rattle.tree.specs.Tree.{treeRule};
 ghost use Rattle.index.specs.Index.{indexRule};
-ghost use Rattle.index.specs.Definitions.{definitionsRule};
+ghost use Rattle.definitions.specs.Definitions.{definitionsRule};
 ghost use Rattle.laws.specs.Refusal.{_▸_};
 ghost use Rattle.load.specs.Load.{recordsRule, sectionsRule, loadRule, loadWords, loadedOf, workAfter};
 
@@ -52,7 +52,7 @@ fn index_of(bytes: &[u8], view: ImageView, work: &mut [u32]) -> u32
     }
     let definitions = image::section_part(bytes, view.definitions, ImageView::DEFINITION_SIZE);
     let items = image::section_part(bytes, view.items, ImageView::ITEM_SIZE);
-    index::definitions_rule(definitions, items, strings)
+    definitions::definitions_rule(definitions, items, strings)
 }
 
 // Rows 8 to 17. The work words that it needs are not zero afterwards.

@@ -1,3 +1,4 @@
 pub mod HalvingSearch
 pub mod Lookups
 pub mod Plain
+pub mod Given

@@ -19,9 +19,9 @@ use Rattle.tree.specs.Tree.{namedAt, namedText, entriesRule, treeRule}
 use Rattle.tree.specs.Parts.{Fit}
 use Rattle.tree.proofs.Entries.{NamedRight, named-pass}
 use Rattle.tree.proofs.PlainTree.{tree-right}
-use Rattle.index.specs.Definitions.{definitionText, firstItem, numberOfItems, itemTextOf, definitionsRule}
+use Rattle.definitions.specs.Definitions.{definitionText, firstItem, numberOfItems, itemTextOf, definitionsRule}
 use Rattle.image.proofs.RisingTexts.{rising-before}
-use Rattle.index.proofs.Definitions.{Definition, Definitions, definitions-passed}
+use Rattle.definitions.proofs.Definitions.{Definition, Definitions, definitions-passed}
 use Rattle.views.specs.declared.Found.the-variants as found
 use Rattle.laws.specs.Lists.{isSome}
 use Rattle.lookups.specs.declared.ListItem.{ListItem}

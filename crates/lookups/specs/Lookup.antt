@@ -15,7 +15,7 @@ use Rattle.texts.specs.Text.{orderOf, same, texts}
 use Rattle.texts.specs.Dots.{hasDot, beforeDot, afterDot, dots}
 use Rattle.utf8.specs.White.{blank, blanks}
 use Rattle.image.specs.Sections.{textEntryWords, Sections, definitionCount, itemCount, f, definitionWord, itemWord, textOrEmpty, insideContainer, sections}
-use Rattle.index.specs.Definitions.{firstItem, numberOfItems}
+use Rattle.definitions.specs.Definitions.{firstItem, numberOfItems}
 use Rattle.lookups.specs.declared.Place.{Place}
 use Rattle.lookups.specs.declared.Place.the-variants as place
 use Rattle.views.specs.declared.Found.{Found}

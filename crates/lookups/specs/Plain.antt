@@ -5,7 +5,7 @@ use mathlib.Core.List.{List}
 use mathlib.Core.Bool.{Bool, true}
 use Rattle.image.specs.Sections.{Sections, definitionCount, f, itemWord}
 use Rattle.tree.specs.Tree.{namedAt, namedText}
-use Rattle.index.specs.Definitions.{definitionText, firstItem, numberOfItems, itemTextOf}
+use Rattle.definitions.specs.Definitions.{definitionText, firstItem, numberOfItems, itemTextOf}
 use Rattle.views.specs.declared.Found.the-variants as found
 use Rattle.lookups.specs.declared.ListItem.{ListItem}
 use Rattle.lookups.specs.declared.ListItemAnswer.the-variants as answer

@@ -24,6 +24,8 @@ use Rattle.views.specs.declared.NodeView.{NodeView}
 use Rattle.views.specs.declared.NodeAnswer.{NodeAnswer}
 use Rattle.views.specs.declared.NodeAnswer.the-variants as node
 use Rattle.views.specs.View.{kindView, withKind, recordView, nodeView}
+use Rattle.views.specs.Answers.{ofNode}
+use Rattle.views.proofs.Given.{node-refused}
 use Rattle.pages.specs.Viewed.{hasKind}
 use Rattle.pages.specs.Page.{slotWords, nodeSlot, noSlot, slotBy, slotOf, pageRule, pageAfter, slotRecord, viewOfRecord, slotView, SlotViews, SlotTag, PageSlots, PagesWritten}
 
@@ -147,7 +149,7 @@ slot-views s i = by (nodeView s i) refl
 
 pub slot-tag : (s : Sections) (i : ℕ) → SlotTag s i
 unfolding slotOf
-slot-tag s i = record { none = λ h. rw h; zero = λ z. by (nodeView s i) refl z }
+slot-tag s i = record { none = λ h. rw (node-refused (nodeView s i) h); zero = λ z. ap ofNode (by (nodeView s i) refl z) }
   where
     by : (a : NodeAnswer) → nodeView s i ≡ a → getD (slotBy a (nodeIn s i)) 2 0 ≡ 0 → a ≡ node.NotFound
     by (node.View v) h z = sym (node-seen s i v h) ∙ tag-none s (nodeIn s i) z

@@ -14,6 +14,7 @@ use Rattle.image.specs.Entries.{nodeIn}
 use Rattle.views.specs.declared.NodeAnswer.{NodeAnswer}
 use Rattle.views.specs.declared.NodeAnswer.the-variants as node
 use Rattle.views.specs.View.{recordView, nodeView, views}
+use Rattle.views.specs.Answers.{refused, ofNode}
 
 abbrev pub slotWords : ℕ
 slotWords = 12
@@ -81,8 +82,8 @@ SlotViews = (s : Sections) (i : ℕ) → slotView s (slotOf s i) ≡ nodeView s 
 
 -- a slot's tag is 0 exactly if the node has no view
 pub record SlotTag (s : Sections) (i : ℕ) : Type 0 where
-  pub none : nodeView s i ≡ node.NotFound → getD (slotOf s i) 2 0 ≡ 0
-  pub zero : getD (slotOf s i) 2 0 ≡ 0 → nodeView s i ≡ node.NotFound
+  pub none : ofNode (nodeView s i) .number ≡ notFound → getD (slotOf s i) 2 0 ≡ 0
+  pub zero : getD (slotOf s i) 2 0 ≡ 0 → ofNode (nodeView s i) ≡ refused notFound
 
 -- slot k is that of the k-th number, so equal numbers have equal slots; words after the last slot are as they were
 pub record PageSlots (s : Sections) (numbers slots : List ℕ) : Type 0 where

@@ -22,10 +22,10 @@ use Rattle.tree.proofs.Entries.{children-pass, named-pass, entries-pass}
 use Rattle.tree.proofs.PlainTree.{tree-right, right-tree}
 use Rattle.tree.proofs.ParentSteps.{tree-climbs}
 use Rattle.index.specs.Index.{indexText, indexRule}
-use Rattle.index.specs.Definitions.{definitionsRule}
+use Rattle.definitions.specs.Definitions.{definitionsRule}
 use Rattle.index.proofs.Paths.{fits-one, path-fits}
 use Rattle.index.proofs.Index.{index-passed, index-passes}
-use Rattle.index.proofs.Definitions.{definitions-passed, definitions-pass}
+use Rattle.definitions.proofs.Definitions.{definitions-passed, definitions-pass}
 use Rattle.load.specs.Load.{checksumRule, leftoverRule, recordsRule, sectionsRule, loadWords, loadRule, Accepted}
 use Rattle.promises.specs.Rules.{ChildRight, NamedRight, SectionsRight, HeaderRight, BreaksNone, DivertFlags, AcceptedExactly, LoadsExactly, LoadsEnough}
 use Rattle.promises.proofs.Fields.{text-right, right-text, node-right, right-node, container-right, right-container, fields-right, right-fields, parent-right, right-parent}

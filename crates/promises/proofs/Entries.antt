@@ -5,7 +5,7 @@ use native.Mathlib.Omega.{arith}
 use Rattle.image.specs.Sections.{Sections, nodeCount, namedCount, definitionCount, itemCount, f, namedWord, itemWord}
 use Rattle.records.specs.Records.{numberOfNamed}
 use Rattle.tree.proofs.Entries.{named-container}
-use Rattle.index.specs.Definitions.{firstItem, numberOfItems}
+use Rattle.definitions.specs.Definitions.{firstItem, numberOfItems}
 use Rattle.promises.specs.Rules.{NamedRight, ItemRight}
 use Rattle.promises.specs.Promises.{EntriesInside, TextInside}
 use Rattle.promises.proofs.Premises.{Kept}

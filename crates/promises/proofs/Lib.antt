@@ -13,6 +13,7 @@ pub mod OneSpelling
 pub mod Sound
 pub mod ViewParts
 pub mod Whole
+pub mod Walks
 pub mod Readers
 pub mod Lookups
 pub mod PartsInside

@@ -1,35 +1,33 @@
 -- The look-ups by name on an accepted image have their plain reading.
 use Prim.Native.Nat.{ℕ, _+_, _<_}
 use mathlib.Core.Path.{_≡_, refl, sym, ap, _∙_, subst}
-use mathlib.Core.List.{List, []}
+use mathlib.Core.List.{List}
 use mathlib.Core.Bool.{Bool, true, false}
 use native.Mathlib.Omega.{arith}
 use native.Mathlib.Decide.{ℕ-discrete, decLt}
 use Rattle.laws.proofs.Flags.{both-true}
-use Rattle.texts.specs.Dots.{hasDot, beforeDot, afterDot}
-use Rattle.utf8.specs.White.{blank, blanks}
-use Rattle.image.specs.Sections.{Sections, nodeCount, definitionCount, namedCount, itemWord, f, inside, isContainer, insideContainer}
+use Rattle.texts.specs.Dots.{beforeDot, afterDot}
+use Rattle.utf8.specs.White.{blanks}
+use Rattle.image.specs.Sections.{Sections, nodeCount, itemWord, inside, isContainer, insideContainer}
 use Rattle.image.specs.declared.ImageView.{ImageView}
 use Rattle.image.specs.Header.{viewOf, sectionsBy}
-use Rattle.tree.specs.Tree.{treeRule}
 use Rattle.tree.proofs.PlainTree.{tree-right}
-use Rattle.index.specs.Definitions.{definitionText, firstItem, numberOfItems, itemTextOf, definitionsRule}
-use Rattle.index.proofs.Definitions.{Definitions, definitions-passed, definition-once, item-once}
-use Rattle.load.specs.declared.Loaded.the-variants.{View}
+use Rattle.definitions.specs.Definitions.{firstItem}
+use Rattle.definitions.proofs.Definitions.{Definitions, definitions-passed, definition-once, item-once}
 use Rattle.load.specs.Load.{loadRule, loadedOf}
-use Rattle.views.specs.declared.Found.the-variants as found
 use Rattle.views.specs.View.{signed}
+use Rattle.views.proofs.Given.{found-given, found-refused}
 use Rattle.lookups.specs.declared.ListItem.{ListItem}
 use Rattle.lookups.specs.declared.ListItemAnswer.{ListItemAnswer}
 use Rattle.lookups.specs.declared.ListItemAnswer.the-variants as listed
 use Rattle.lookups.specs.Lookup.{findNamed, lastItem, listItem}
-use Rattle.lookups.specs.Plain.{HasName, NodeNamed, NamedLookup, Holds, LastHolds, ItemLookup}
+use Rattle.lookups.specs.Plain.{NamedLookup, Holds, LastHolds, ItemLookup}
 use Rattle.lookups.proofs.Plain.{named-read, passed-items-read}
+use Rattle.lookups.proofs.Given.{listed-given, listed-refused}
 use Rattle.list_items.proofs.Plain.{same-answer, search-counted}
-use Rattle.promises.specs.Answers.{Answer, given, ofLoaded, ofFound, ofListItem}
-use Rattle.promises.specs.Rules.{Iff}
+use Rattle.promises.specs.Answers.{ofFound, ofListItem}
 use Rattle.promises.specs.Lookups.{NamedFound, ItemFound, Lookups, AcceptedLookups}
-use Rattle.promises.proofs.Answers.{found-given, found-refused, listed-given, listed-refused, loaded-given}
+use Rattle.promises.proofs.Answers.{loaded-given}
 use Rattle.promises.proofs.Acceptance.{RowsPassed, load-accepted, accepted-passed}
 use Rattle.promises.proofs.Fields.{node-right}
 use Rattle.promises.proofs.Premises.{Kept, load-kept}

@@ -1,7 +1,7 @@
 -- Every part that a query answers lies in the slice, whatever the bytes and the view.
 use Prim.Native.Nat.{ℕ, _+_, _*_, _≤_}
 use mathlib.Core.Path.{_≡_, refl, sym, ap, _∙_, subst}
-use mathlib.Core.List.{List, [], List·Memᴰ}
+use mathlib.Core.List.{List, []}
 use mathlib.Core.Bool.{Bool, true, false, cond, _&&_}
 use native.Mathlib.Omega.{arith}
 use lib.ListN.{length}
@@ -12,13 +12,12 @@ use Rattle.laws.proofs.Flags.{both-true}
 use Rattle.image.specs.Sections.{Sections, namedCount, definitionCount, itemCount, namedWord, definitionWord, itemWord, f, tagOf, inside, partAt, textOrEmpty, present, insideContainer}
 use Rattle.words.specs.Words.{wordAt}
 use Rattle.image.specs.declared.Section.{Section}
-use Rattle.image.specs.declared.ImageView.{ImageView}
 use Rattle.image.specs.Header.{sectionBytes, sectionsBy}
 use Rattle.image.specs.Entries.{nodeIn}
 use Rattle.image.proofs.Parts.{part-length, part-of-part, section-inside, section-outside, text-inside, text-outside}
 use Rattle.image.proofs.Views.{strings-by, payload-by}
 use Rattle.records.specs.Fields.{Kind, kindOf, Field, text, optional, command, operator, node, optionalNode, container, optionalContainer, plain, atMost, children, named, payload, wrong}
-use Rattle.index.specs.Definitions.{firstItem, numberOfItems}
+use Rattle.definitions.specs.Definitions.{firstItem, numberOfItems}
 use Rattle.views.specs.declared.Span.{Span}
 use Rattle.views.specs.declared.NodeView.{NodeView}
 use Rattle.views.specs.declared.NodeKindView.{NodeKindView}
@@ -29,25 +28,23 @@ use Rattle.views.specs.declared.NodeAnswer.the-variants as answer
 use Rattle.views.specs.declared.NamedChildView.{NamedChildView}
 use Rattle.views.specs.declared.NamedAnswer.{NamedAnswer}
 use Rattle.views.specs.declared.NamedAnswer.the-variants as name
-use Rattle.views.specs.declared.TextAnswer.{TextAnswer}
 use Rattle.views.specs.declared.TextAnswer.the-variants as shows
 use Rattle.views.specs.declared.ListEntry.{ListEntry}
 use Rattle.views.specs.declared.EntryAnswer.{EntryAnswer}
 use Rattle.views.specs.declared.EntryAnswer.the-variants as entry
 use Rattle.views.specs.declared.DefinitionView.{DefinitionView}
-use Rattle.views.specs.declared.DefinitionAnswer.{DefinitionAnswer}
 use Rattle.views.specs.declared.DefinitionAnswer.the-variants as definition
 use Rattle.views.specs.declared.ItemView.{ItemView}
 use Rattle.views.specs.declared.ItemAnswer.{ItemAnswer}
 use Rattle.views.specs.declared.ItemAnswer.the-variants as item
-use Rattle.views.specs.View.{signed, span, shown, optionalText, kindView, withKind, recordView, nodeView}
+use Rattle.views.specs.View.{signed, span, shown, optionalText, withKind, recordView, nodeView}
 use Rattle.views.specs.Children.{namedEntry, namedQuery, textQuery, shownText}
 use Rattle.views.specs.Lists.{listPart, itemEntryWord, originEntryWord, listEntry, nameIn, listEntryName, listOrigin, definitionQuery, itemEntry, itemQuery}
-use Rattle.promises.specs.Answers.{Answer, given, refused, ofNode, ofNamed, ofText, ofEntry, ofDefinition, ofItem}
-use Rattle.promises.specs.Readers.{textsIn, viewTexts, viewLists}
+use Rattle.promises.specs.Answers.{given, refused, ofNode, ofNamed, ofText, ofEntry, ofDefinition, ofItem}
+use Rattle.promises.specs.Readers.{textsIn}
 use Rattle.promises.specs.PartsInside.{InSlice, TextInSlice, ListInSlice, PartsInside, ListEntriesInside, AnyPartsInside, AnyListEntriesInside}
 use Rattle.promises.proofs.Answers.{given-equal, given-refused}
-use Rattle.promises.proofs.ViewParts.{All, all-none, kindAt, optional-all, FieldShows, view-texts, ListShows, view-lists}
+use Rattle.promises.proofs.ViewParts.{All, kindAt, optional-all, FieldShows, view-texts, view-lists}
 use Rattle.promises.proofs.Whole.{shown-part, shown-length}
 
 -- ---- parts of parts

@@ -17,7 +17,7 @@ use Rattle.image.specs.Header.{viewOf, sectionsBy}
 use Rattle.load.specs.declared.Loaded.the-variants.{View}
 use Rattle.load.specs.Load.{loadRule, loadedBy, loadedOf}
 use Rattle.records.specs.Fields.{kindOf}
-use Rattle.index.specs.Definitions.{firstItem, numberOfItems}
+use Rattle.definitions.specs.Definitions.{firstItem, numberOfItems}
 use Rattle.tree.specs.Tree.{childAt, namedAt}
 use Rattle.tree.specs.Reach.{climb}
 use Rattle.views.specs.declared.OptionalWord.the-variants as word
@@ -26,12 +26,14 @@ use Rattle.views.specs.declared.Count.the-variants as count
 use Rattle.views.specs.View.{signed, span, optionalWord, nodeView}
 use Rattle.views.specs.Children.{childCountOf, namedCountOf, childQuery, namedEntry, namedQuery}
 use Rattle.views.specs.Lists.{definitionQuery, itemEntry, itemQuery}
+use Rattle.views.proofs.Given.{found-given}
+use Rattle.walks.specs.Walk.{resolve}
 use Rattle.depth.specs.Depth.{depthOf, StepsToRoot}
 use Rattle.pages.specs.Page.{noSlot, slotOf}
 use Rattle.pages.proofs.Slots.{slot-missing, slot-found, slot-views}
 use Rattle.depth.proofs.Steps.{of-same, climb-next, steps-parent, depth-counted, outside-none}
 use Rattle.promises.specs.Promises.{ReachesRoot}
-use Rattle.promises.specs.Readers.{stepUp, ascend, DepthRead, ChildRead, NamedRead, Reads, NumberedItemRead, DefinitionItemRead, DefinitionRead, ImageReads, AcceptedReads}
+use Rattle.promises.specs.Readers.{stepUp, ascend, DepthRead, ChildRead, NamedRead, Reads, NumberedItemRead, DefinitionItemRead, DefinitionRead, WalkRead, ImageReads, AcceptedReads}
 use Rattle.promises.specs.Rules.{TextRight}
 use Rattle.promises.proofs.Answers.{given-equal, given-refused, loaded-given}
 use Rattle.promises.specs.Answers.{given, refused, ofNode, ofCount}
@@ -41,6 +43,7 @@ use Rattle.promises.proofs.Nodes.{reaches, child-range, named-range, ch
 use Rattle.promises.proofs.Premises.{Kept, load-kept, a-node}
 use Rattle.promises.proofs.Entries.{item-owner}
 use Rattle.promises.proofs.Whole.{right-whole, view-whole, view-read}
+use Rattle.promises.proofs.Walks.{walk-inside}
 
 -- ---- words that may be absent
 
@@ -249,8 +252,25 @@ module _ (s : Sections) (g : Kept s) where
         items = definition-item d h;
       }
 
+  -- ---- where a walk ends
+
+  walk-read : (n : ℕ) → n < nodeCount s → WalkRead s n
+  walk-read n h = record { inside = h; view = viewAt s g n h; viewed = ap ofNode (see s g n h .view-is) }
+
+  -- ---- all of it
+
   pub image-reads : ImageReads s
-  image-reads = record { nodes = reads s g; no-depth = no-depth s g; no-slot = no-slot s g; definitions = definition-read; items = each-item }
+  image-reads =
+      record {
+        nodes = reads s g;
+        walks = λ relative origin cs n e. walk-read n (walk-inside s g relative origin cs n (found-given (resolve s relative origin cs) n e));
+        absolute-walk = λ origin cs. unfold resolve in rw (node-inside s g 0 (g .some), eq-eqb (tagOf s 0) 1 (g .rules .root-container));
+        no-walk = λ origin h cs. unfold resolve in rw (le-ltb origin (nodeCount s) h);
+        no-depth = no-depth s g;
+        no-slot = no-slot s g;
+        definitions = definition-read;
+        items = each-item;
+      }
 
 -- ---- after a load
 

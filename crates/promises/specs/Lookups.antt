@@ -10,7 +10,7 @@ use Rattle.image.specs.Sections.{Sections, definitionCount, insideContainer}
 use Rattle.image.specs.declared.ImageView.{ImageView}
 use Rattle.image.specs.Header.{sectionsBy}
 use Rattle.image.specs.Refusals.{notFound}
-use Rattle.index.specs.Definitions.{definitionText}
+use Rattle.definitions.specs.Definitions.{definitionText}
 use Rattle.load.specs.Load.{loadedOf}
 use Rattle.lookups.specs.declared.ListItem.{ListItem}
 use Rattle.lookups.specs.declared.ListItemAnswer.{ListItemAnswer}

@@ -1,8 +1,8 @@
 -- What a reader of an accepted image can count on, by the answers of the queries.
-use Prim.Native.Nat.{ℕ, zero, suc, _+_, _≤_, _<_}
+use Prim.Native.Nat.{ℕ, zero, suc, _≤_, _<_}
 use mathlib.Core.Path.{_≡_}
 use mathlib.Core.List.{List, [], _∷_, _++_, List·Memᴰ}
-use mathlib.Core.Bool.{true}
+use mathlib.Core.Bool.{Bool, true, false}
 use lib.ListN.{length}
 use Rattle.laws.specs.Lists.{Below}
 use Rattle.words.specs.Words.{wordAt}
@@ -31,6 +31,7 @@ use Rattle.views.specs.declared.ItemView.{ItemView}
 use Rattle.views.specs.View.{nodeView}
 use Rattle.views.specs.Children.{childCountOf, namedCountOf, childQuery, namedQuery, textQuery, shownText}
 use Rattle.views.specs.Lists.{listPart, listEntry, listOrigin, definitionQuery, itemEntry, itemQuery}
+use Rattle.walks.specs.Walk.{Component, resolve}
 use Rattle.depth.specs.Depth.{depthOf}
 use Rattle.pages.specs.Page.{nodeSlot, noSlot, slotOf, slotView}
 use Rattle.promises.specs.Promises.{ReachesRoot}
@@ -203,10 +204,23 @@ pub record DefinitionRead (s : Sections) (d : ℕ) : Type 0 where
   pub name : Whole s (definition .name)
   pub items : (j : ℕ) → j < definition .items → DefinitionItemRead s d j
 
+-- ---- walks
+
+-- where a walk ends there is a node, and it has a view
+pub record WalkRead (s : Sections) (n : ℕ) : Type 0 where
+  pub inside : n < nodeCount s
+  pub view : NodeView
+  pub viewed : ofNode (nodeView s n) ≡ given view
+
 -- ---- all of it
 
 pub record ImageReads (s : Sections) : Type 0 where
   pub nodes : (i : ℕ) → i < nodeCount s → Reads s i
+  -- of every walk that finds something, whatever the origin and the components
+  pub walks : (relative : Bool) (origin : ℕ) (cs : List Component) (n : ℕ) → ofFound (resolve s relative origin cs) ≡ given n → WalkRead s n
+  -- an absolute walk needs no origin: it is the relative one from node 0; from past the last node a relative one finds nothing
+  pub absolute-walk : (origin : ℕ) (cs : List Component) → ofFound (resolve s false origin cs) ≡ ofFound (resolve s true 0 cs)
+  pub no-walk : (origin : ℕ) → nodeCount s ≤ origin → (cs : List Component) → ofFound (resolve s true origin cs) ≡ refused notFound
   -- past the last node there is no depth, and a slot is 18 and eleven zeros
   pub no-depth : (i : ℕ) → nodeCount s ≤ i → ofCount (depthOf s i) ≡ refused notFound
   pub no-slot : (i : ℕ) → nodeCount s ≤ i → slotOf s i ≡ noSlot

@@ -18,7 +18,7 @@ use Rattle.tree.specs.Tree.{childAt, namedAt, namedText}
 use Rattle.tree.specs.Reach.{Reached, climb}
 use Rattle.index.specs.Paths.{nameless, canonicalPath}
 use Rattle.index.specs.Index.{indexText}
-use Rattle.index.specs.Definitions.{definitionText, firstItem, numberOfItems, itemTextOf, itemsBefore}
+use Rattle.definitions.specs.Definitions.{definitionText, firstItem, numberOfItems, itemTextOf, itemsBefore}
 use Rattle.load.specs.Load.{loadWords, loadRule, Accepted}
 
 -- ---- texts and nodes

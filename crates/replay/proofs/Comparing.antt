@@ -23,9 +23,11 @@ use Rattle.load.specs.Load.{loadedOf}
 use Rattle.promises.specs.Answers.{ofLoaded}
 use Rattle.load.specs.declared.Loaded.{Loaded}
 use Rattle.load.specs.declared.Loaded.the-variants as Loaded
+use Rattle.image.specs.Sections.{Sections}
+use Rattle.target_finding.specs.Targets.{PathList, resolveRule, nodesAfter}
 use Rattle.writer.specs.declared.Encoded.{Encoded}
 use Rattle.writer.specs.declared.Encoded.the-variants.{Written, Short, Refused}
-use Rattle.replay.specs.Recorded.{recorded, recordedLoad, refusedAlike, sameWritten}
+use Rattle.replay.specs.Recorded.{recorded, recordedLoad, refusedAlike, sameWritten, sameNodes, recordedTargets}
 
 -- ---- word by word
 
@@ -120,3 +122,18 @@ module _ (a : Encoded) (out image : List ℕ) (number : ℕ) where
   pub refusal-compared : (k : ℕ) (r : Bool) → a ≡ Refused k → r ≡ refusedAlike k number → r ≡ sameWritten a out number image
   unfolding sameWritten
   refusal-compared k r e h = rw e h
+
+-- ---- targets found from paths
+
+module _ (ours number : ℕ) (nodes part : List ℕ) where
+  pub answer-unlike : (ours ≡ number → ⊥) → false ≡ sameNodes ours nodes number part
+  unfolding sameNodes
+  answer-unlike d = eq-no ours number _ _ false d refl
+
+  pub nodes-compared : (r : Bool) → ours ≡ number → r ≡ same (wordsOf part) nodes → r ≡ sameNodes ours nodes number part
+  unfolding sameNodes
+  nodes-compared r e h = eq-yes ours number _ _ r e h
+
+pub targets-recorded : (ink : ℕ) (s : Sections) (p : PathList) (work number ours : ℕ) (nodes part : List ℕ) (r : Bool) → ours ≡ resolveRule ink s p work → nodes ≡ nodesAfter (resolveRule ink s p work) s p → r ≡ sameNodes ours nodes number part → r ≡ recordedTargets ink s p work number part
+unfolding recordedTargets
+targets-recorded ink s p work number ours nodes part r e n h = h ∙ (λ i. sameNodes (e i) (n i) number part)

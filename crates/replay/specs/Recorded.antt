@@ -1,4 +1,4 @@
--- What a record says of a query's answer, of a load and of a draft.
+-- What a record says of a query's answer, of a load, of a draft and of targets found from paths.
 use Prim.Native.Nat.{ℕ, _+_}
 use mathlib.Core.List.{List}
 use mathlib.Core.Bool.{Bool, true, false, cond}
@@ -12,6 +12,8 @@ use Rattle.image.specs.Header.{sectionBytes}
 use Rattle.image.specs.Refusals.{notFound, draftShape, noRoom}
 use Rattle.load.specs.declared.Loaded.{Loaded}
 use Rattle.promises.specs.Answers.{ofLoaded}
+use Rattle.image.specs.Sections.{Sections}
+use Rattle.target_finding.specs.Targets.{PathList, resolveRule, nodesAfter}
 use Rattle.writer.specs.declared.Encoded.{Encoded}
 use Rattle.writer.specs.declared.Encoded.the-variants.{Written, Short, Refused}
 
@@ -34,3 +36,11 @@ unfoldable pub sameWritten : Encoded → List ℕ → ℕ → List ℕ → Bool
 sameWritten (Written n) out number image = cond (eqb number 0) (same (take n out) image) false
 sameWritten (Short n) out number image = refusedAlike noRoom number
 sameWritten (Refused ours) out number image = refusedAlike ours number
+
+-- whether the number of a call and the nodes after it are as recorded, a refused draft's nodes too
+unfoldable pub sameNodes : ℕ → List ℕ → ℕ → List ℕ → Bool
+sameNodes ours nodes number r = cond (eqb ours number) (same (wordsOf r) nodes) false
+
+-- whether the answer to a draft with paths beside it, and its nodes then, are as recorded
+unfoldable pub recordedTargets : ℕ → Sections → PathList → ℕ → ℕ → List ℕ → Bool
+recordedTargets ink s p work number r = sameNodes (resolveRule ink s p work) (nodesAfter (resolveRule ink s p work) s p) number r

@@ -11,7 +11,7 @@ use image::refusal::NOT_FOUND;
 use views::Found;
 
 // Whether these bytes are the words, and no word more.
-fn same_words(part: &[u8], words: &[u32]) -> bool
+pub fn same_words(part: &[u8], words: &[u32]) -> bool
     ensures { λ r. ⌜ r ≡ same (wordsOf (now (part .entry))) (now (words .entry)) ⌝ }
 {
     if part.len() / 4 != words.len() {

@@ -22,7 +22,7 @@ const IMAGE_LENGTH_AT: usize = 36;
 const DRAFT_AT: usize = 40;
 
 // The bytes behind so many, which are filled up to whole words.
-fn behind_bytes(bytes: &[u8], count: u32) -> &[u8] {
+pub fn behind_bytes(bytes: &[u8], count: u32) -> &[u8] {
     after(bytes, (count as usize + 3) / 4 * 4)
 }
 

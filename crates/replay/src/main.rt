@@ -5,6 +5,7 @@ mod compare; // compare.rt: answers against recorded words
 mod drafts; // drafts.rt: drafts and the images they become
 mod loads; // loads.rt: images, whole and damaged
 mod queries; // queries.rt: what is asked of an accepted image
+mod targets; // targets.rt: drafts whose targets are found from paths
 
 use image::Section;
 use libc::STDIN_FILENO;
@@ -27,8 +28,8 @@ struct Run {
 }
 
 // Room for the sample.
-fn input_buffer() -> [u8; 327680] {
-    [0; 327680]
+fn input_buffer() -> [u8; 393216] {
+    [0; 393216]
 }
 
 fn print(text: &[u8]) {
@@ -45,9 +46,9 @@ fn one_more(n: u32) -> u32 {
 }
 
 // Counts a record of this kind.
-fn count(counts: &mut [u32; 21], kind: u32) {
+fn count(counts: &mut [u32; 22], kind: u32) {
     let k = kind as usize;
-    if k < 21 {
+    if k < 22 {
         counts[k] = one_more(counts[k]);
     }
 }
@@ -96,6 +97,7 @@ fn agrees(kind: u32, fields: &[u8], image: &[u8]) -> bool {
         4 => loads::cut_agrees(fields, image),
         10..=19 => queries::agrees(kind, fields, image),
         20 => drafts::draft_agrees(fields),
+        21 => targets::targets_agree(fields),
         _ => false,
     }
 }
@@ -109,7 +111,7 @@ fn print_difference(place: u32, kind: u32) {
 }
 
 // One record.
-fn step(data: &[u8], run: Run, place: u32, counts: &mut [u32; 21]) -> Run {
+fn step(data: &[u8], run: Run, place: u32, counts: &mut [u32; 22]) -> Run {
     let at = run.at;
     let before = run.image;
     let kind = words::get(data, at as usize);
@@ -138,7 +140,7 @@ fn step(data: &[u8], run: Run, place: u32, counts: &mut [u32; 21]) -> Run {
 }
 
 // So many records.
-fn run_all(data: &[u8], records: u32, counts: &mut [u32; 21]) -> Run {
+fn run_all(data: &[u8], records: u32, counts: &mut [u32; 22]) -> Run {
     let mut run = Run {
         at: 12,
         image: Section {
@@ -173,6 +175,7 @@ fn print_kind(kind: u32) {
         18 => print(b"list item"),
         19 => print(b"walk"),
         20 => print(b"draft"),
+        21 => print(b"targets"),
         _ => print(b"unknown"),
     }
 }
@@ -186,9 +189,9 @@ fn print_count(kind: u32, count: u32) {
     }
 }
 
-fn print_counts(counts: &[u32; 21]) {
+fn print_counts(counts: &[u32; 22]) {
     let mut kind = 0;
-    while kind < 21 {
+    while kind < 22 {
         print_count(kind, counts[kind as usize]);
         kind += 1;
     }
@@ -218,7 +221,7 @@ fn replay(data: &[u8]) {
     if words::get(data, 4) != FORM {
         return print(b"another form\n");
     }
-    let mut counts = [0u32; 21];
+    let mut counts = [0u32; 22];
     let run = run_all(data, words::get(data, 8), &mut counts);
     print_counts(&counts);
     if ends(data, run.at) {

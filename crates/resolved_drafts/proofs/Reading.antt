@@ -3,7 +3,7 @@ use Prim.Native.Nat.{ℕ, _+_, _*_, _/_, _%_, _≤_, _<_}
 use mathlib.Core.Path.{_≡_, refl, sym, ap, _∙_, subst}
 use mathlib.Core.Logic.{_≢_, inl, inr}
 use mathlib.Core.List.{List}
-use mathlib.Core.Bool.{Bool, true, false, _||_, not, true≢false}
+use mathlib.Core.Bool.{Bool, true, false, _||_, true≢false}
 use native.Mathlib.Omega.{arith}
 use native.Mathlib.Decide.{decLt}
 use native.Mathlib.Nat.{mul-le-mul-right, mod-lt, div-add-mod'}
@@ -51,9 +51,9 @@ value-text : (k : ℕ) → isPathText targetTag k ≡ false
 unfolding isPathText
 value-text k = refl
 
-value-apart : (k : ℕ) → k < 2 → 3 + k ≢ 3 + targetPlace (kindOf targetTag)
+value-apart : (k : ℕ) → k ≢ 2 → 3 + k ≢ 3 + targetPlace (kindOf targetTag)
 unfolding schema
-value-apart k h e = omega arith
+value-apart k d e = d (omega arith)
 
 -- parent, place and tag are neither
 front : (tag k : ℕ) → k < 3 → isPathText tag k ≡ false
@@ -115,7 +115,7 @@ module _ (s : Sections) (p : PathList) where
 
   -- ---- what stays
 
-  value-word : (i k : ℕ) → tagOf s i ≡ targetTag → k < 2 → resolvedWord s p i (3 + k) ≡ nodeWord s i (3 + k)
+  value-word : (i k : ℕ) → tagOf s i ≡ targetTag → k ≢ 2 → resolvedWord s p i (3 + k) ≡ nodeWord s i (3 + k)
   value-word i k e h =
       same-word i (3 + k) (λ d. value-apart k h (d ∙ ap (λ (t : ℕ). 3 + targetPlace (kindOf t)) e)) (ap (λ (t : ℕ). isPathText t (3 + k)) e ∙ value-text (3 + k))
 
@@ -131,7 +131,7 @@ module _ (s : Sections) (p : PathList) where
         passed-over = λ i k h l e. node-word i k h l ∙ passed-word i k e;
         others = λ i k h l d e. node-word i k h l ∙ same-word i k d e;
         path-text = λ i k h l e q. node-word i k h l ∙ absent-word i k e q;
-        value-text = λ i k h e l. node-word i (3 + k) h (omega (arith, words-some (s .version))) ∙ value-word i k e l;
+        value-text = λ i k h e l. node-word i (3 + k) h (omega (arith, words-some (s .version))) ∙ value-word i k e (λ q. omega arith);
       }
 
   -- ---- nodes that are whole entries: past the last one there are no words

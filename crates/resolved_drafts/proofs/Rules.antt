@@ -29,7 +29,8 @@ use Rattle.lookups.proofs.Plain.{last-some}
 use Rattle.views.specs.declared.Found.{Found}
 use Rattle.views.specs.declared.Found.the-variants as found
 use Rattle.target_finding.specs.Targets.{PathList, pathEnd, endsInIndex, needsContainer, endRule, entryRule, targetRule, resolveRule, targetFound, isPathText, followedWord, resolvedNodes, resolved}
-use Rattle.static_targets.proofs.FoundInside.{Leads, leads, end-inside}
+use Rattle.walks.proofs.WalkEnds.{Leads}
+use Rattle.static_targets.proofs.FoundInside.{leads, end-inside}
 use Rattle.resolved_drafts.specs.Resolved.{ResolvedPasses, TargetSet, TargetsSet}
 use Rattle.resolved_drafts.proofs.SameTree.{SameTree, same-inside, same-box, same-fields, same-tables, same-reach, same-shape}
 use Rattle.resolved_drafts.proofs.Reading.{nodes-length, node-count, node-word, passed-word, followed-word, tag-of-follower, same-tree}

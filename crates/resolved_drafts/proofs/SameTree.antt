@@ -20,7 +20,7 @@ use Rattle.image.specs.Tags.{containerTag, listTag}
 use Rattle.records.specs.Fields.{Kind, Container, Choice, Command, Divert, Glue, Operator, Tag, BoolValue, IntValue, FloatValue, StringValue, ListValue, TargetValue, PointerValue, Assignment, Reference, Void, Unknown, Field, text, optional, command, operator, node, optionalNode, container, optionalContainer, plain, atMost, children, named, payload, wrong, fields, kindOf}
 use Rattle.records.specs.Records.{numberOfChildren, numberOfNamed, payloadLengthOf, listWord, listItemRule, listOriginRule, payloadRule, fieldRule, firstField, fieldsRule, parentRule, rootRight, usedUp}
 use Rattle.tree.specs.Tree.{childRule, namedRule, entriesRule, entryNodes, walk, turns, readWalk, allSeen}
-use Rattle.index.specs.Definitions.{itemsUsedUp}
+use Rattle.definitions.specs.Definitions.{itemsUsedUp}
 use Rattle.draft.specs.Draft.{draftChildRule, draftNamedRule, draftDefinitionRule, draftItemRule, entryTablesRule, reachRule, relationRule, orderRule, shapeRule}
 
 -- the sections with other nodes

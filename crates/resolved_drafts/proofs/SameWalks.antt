@@ -10,7 +10,6 @@ use Rattle.laws.proofs.Flags.{and-false}
 use Rattle.words.specs.Words.{isNone}
 use Rattle.image.specs.Sections.{Sections, childCount, tagOf, f, childWord, insideAmong, inside, isContainer, insideContainer}
 use Rattle.image.specs.Tags.{containerTag}
-use Rattle.views.specs.declared.Found.{Found}
 use Rattle.views.specs.declared.Found.the-variants.{Node, NotFound}
 use Rattle.views.specs.Children.{childQuery}
 use Rattle.lookups.specs.Lookup.{namedBy, findNamed}
@@ -65,7 +64,7 @@ module _ (s : Sections) (ws : List ℕ) (a : SameTree s ws) where
   same-step i Broken = refl
 
   pub same : SameSteps r s
-  same = record { nodes = same-inside s ws a; containers = same-box s ws a; parents = same-parent; steps = same-step }
+  same = record { nodes = same-inside s ws a; containers = same-box s ws a; steps = same-step }
 
 pub resolved-walks : ResolvedWalks
 resolved-walks ink s p work h = same-walks _ s (same s _ (same-tree s p (taken ink s p work h .whole)))

@@ -20,7 +20,7 @@ use Rattle.walks.specs.Walk.{components}
 use Rattle.written.specs.Written.{DraftWords}
 use Rattle.written.proofs.Lists.{all-below, all-joined}
 use Rattle.target_finding.specs.Targets.{PathList, pathComponents, pathEnd, foundNode, entryTarget, targetFound, isPathText, followedWord, resolvedWord, resolvedNode, resolvedNodes}
-use Rattle.static_targets.proofs.FoundInside.{Closed, walk-ends}
+use Rattle.walks.proofs.WalkEnds.{Closed, walk-ends}
 use Rattle.resolved_drafts.specs.Resolved.{WordsKept, ResolvedWritten}
 use Rattle.resolved_drafts.proofs.Reading.{passed-word, followed-word, tag-of-follower}
 

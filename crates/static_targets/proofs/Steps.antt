@@ -21,10 +21,8 @@ use Rattle.draft.specs.Draft.{writeWords, reachRule, shapeRule}
 use Rattle.draft.specs.PathList.{pathOf, listRight, mayFollow, follows, pathTablesRule}
 use Rattle.draft.specs.Shown.{TablesPassed}
 use Rattle.draft.specs.Source.{draftOf}
-use Rattle.draft.proofs.Rules.{parent-node, child-node, named-node}
 use Rattle.draft.proofs.PathTables.{path-tables, path-whole, path-fit, path-passed}
-use Rattle.draft_tree.specs.Testing.{Testable, Told}
-use Rattle.draft_tree.proofs.RightTree.{stands-reach, stands-shape}
+use Rattle.draft_tree.specs.Testing.{Testable}
 use Rattle.views.specs.declared.Found.{Found}
 use Rattle.views.specs.declared.Found.the-variants as found
 use Rattle.walks.specs.Walk.{componentWords}
@@ -83,20 +81,7 @@ module _ (version : ℕ) (ns cs ms ds is ps ss entries lent names : List ℕ) (t
   -- ---- 20 and 21
 
   pub tree-asks : (w : List ℕ) → length w ≡ writeWords s → Testable s w
-  tree-asks w long =
-      let tables = path-tables s entries t in
-      record {
-        passed = shape-asks;
-        parents = λ i h k. parent-node s tables i h k .below;
-        children = λ j h. child-node s tables j h .below;
-        named = λ j h. named-node s tables j h .below;
-        enough = omega arith;
-      }
-
-  pub stands-right : Told s → 0 ≡ (reachRule s ▸ shapeRule s)
-  stands-right told =
-      let tables = path-tables s entries t in
-      sym (second _ _ (stands-reach s tables (told .standing)) ∙ stands-shape s tables (told .standing) (told .orders))
+  tree-asks w long = record { paths = entries; passed = t; enough = omega arith }
 
   module _ (b : Bool) (seen : b ≡ allSeen tree (readWalk tree .seen)) where
     seen-whole : b ≡ allSeen s (readWalk s .seen)

@@ -1,14 +1,13 @@
 -- Nothing sticks at the edge: on accepted bytes an exported query answers exactly if the inner one does, with its words.
-use Prim.Native.Nat.{ℕ, zero, suc, _+_, _*_, _/_, _≤_, _<_, _^_}
+use Prim.Native.Nat.{ℕ, zero, suc, _+_, _≤_, _<_, _^_}
 use mathlib.Core.Path.{_≡_, refl, sym, ap, _∙_}
-use mathlib.Core.List.{List, [], _∷_, _++_}
-use mathlib.Core.Bool.{Bool, true, false, cond, not, _&&_, _||_}
+use mathlib.Core.List.{List, [], _∷_}
+use mathlib.Core.Bool.{Bool, true, false, cond, not, _||_}
 use mathlib.Core.Option.{Option, none, some, Option·some-injective, Option·none-ne-some}
 use native.Mathlib.Omega.{arith}
-use lib.ListN.{length, drop}
-use lib.Dec.{leb, ltb}
+use lib.ListN.{length}
+use lib.Dec.{leb}
 use borrow.Author.Tests.{le-leb, leb-true, eqb-true}
-use Rattle.laws.specs.Lists.{Below}
 use Rattle.laws.specs.Counted.{lastOf}
 use Rattle.laws.proofs.First.{both}
 use Rattle.laws.proofs.Flags.{both-true}
@@ -17,7 +16,7 @@ use Rattle.image.specs.declared.ImageView.{ImageView}
 use Rattle.image.specs.Sections.{Sections, definitionCount, itemCount, present}
 use Rattle.image.specs.Header.{version, headerRule, viewOf, sectionsBy, sectionsOf, versionAt}
 use Rattle.image.proofs.OpenedHeader.{Opens, opens, view-inside, view-counts, length-word}
-use Rattle.index.specs.Definitions.{firstItem, numberOfItems, definitionsRule}
+use Rattle.definitions.specs.Definitions.{firstItem, numberOfItems, definitionsRule}
 use Rattle.load.specs.Load.{loadRule}
 use Rattle.views.specs.declared.Span.{Span}
 use Rattle.views.specs.declared.Found.{Found}
@@ -53,7 +52,7 @@ use Rattle.lookups.proofs.Lookups.{place-below}
 use Rattle.list_items.specs.Search.{listSearch}
 use Rattle.list_items.proofs.Plain.{same-answer}
 use Rattle.promises.proofs.Acceptance.{load-accepted, accepted-passed}
-use Rattle.answers.specs.AnswerWords.{answerAfter, numberOf, countWords, foundAnswer, countAnswer, namedAnswer, placeAnswer, partWords, partAnswer, entryAnswer, definitionAnswer, itemAnswer, foundItemWords, listItemAnswer, listCountWords}
+use Rattle.answers.specs.AnswerWords.{answerAfter, numberOf, foundAnswer, countAnswer, namedAnswer, placeAnswer, partWords, partAnswer, entryAnswer, definitionAnswer, itemAnswer, listItemAnswer, listCountWords}
 use Rattle.answers.specs.NodeViewWords.{nodeAnswer, listPlace}
 use Rattle.answers.proofs.AnswerSlices.{count-some, part-some}
 use Rattle.answers.proofs.Records.{eight}

@@ -7,3 +7,4 @@ pub mod ListValues
 pub mod WorkWords
 pub mod NameTexts
 pub mod AcceptedExports
+pub mod Numbers

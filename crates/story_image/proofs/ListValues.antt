@@ -1,11 +1,10 @@
 -- List values and definitions of the exported queries.
 use Prim.Native.Nat.{ℕ}
-use mathlib.Core.Path.{_≡_, refl, sym, ap, _∙_}
+use mathlib.Core.Path.{_≡_, sym, ap, _∙_}
 use mathlib.Core.List.{List, [], _∷_}
 use mathlib.Core.Option.{Option, none, some}
 use Rattle.image.specs.declared.Definition.{Definition}
 use Rattle.image.specs.Sections.{Sections}
-use Rattle.index.specs.Definitions.{firstItem}
 use Rattle.views.specs.declared.Span.{Span}
 use Rattle.views.specs.declared.DefinitionView.{DefinitionView}
 use Rattle.views.specs.declared.DefinitionAnswer.{DefinitionAnswer}

@@ -4,3 +4,4 @@ pub mod Writing
 pub mod Needed
 pub mod Spelling
 pub mod Accepted
+pub mod Numbers

@@ -8,7 +8,7 @@ use lib.Dec.{leb}
 use Rattle.image.specs.Sections.{Sections, definitionCount}
 use Rattle.image.specs.Header.{sectionsBy}
 use Rattle.image.specs.Refusals.{notFound}
-use Rattle.index.specs.Definitions.{firstItem}
+use Rattle.definitions.specs.Definitions.{firstItem}
 use Rattle.views.specs.declared.Span.{Span}
 use Rattle.views.specs.declared.DefinitionAnswer.{DefinitionAnswer}
 use Rattle.views.specs.declared.DefinitionAnswer.the-variants as definition

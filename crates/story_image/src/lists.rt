@@ -169,7 +169,7 @@ pub extern "C" fn story_image_definition(
     )
 }
 
-// The number, among all items, of a definition's first item: what `story_image_list_item` answers, less this, is the item's index in
+// The number, among all items, of a definition's first item: what `story_image_find_list_item` answers, less this, is the item's index in
 // its definition.
 #[no_mangle]
 pub extern "C" fn story_image_definition_first_item(
@@ -230,7 +230,7 @@ pub extern "C" fn story_image_definition_item(
 // The item that a name means: its definition, its number among all items, its value. The first word of `searched`, if one is lent, gets
 // the number of definitions whose items were searched, with 18 too.
 #[no_mangle]
-pub extern "C" fn story_image_list_item(
+pub extern "C" fn story_image_find_list_item(
     bytes: &[u8],
     view: &[u32],
     name: &[u8],

@@ -20,7 +20,7 @@ use Rattle.image.specs.declared.ImageView.{ImageView}
 use Rattle.image.specs.Header.{sectionBytes, sectionsBy}
 use Rattle.image.proofs.Parts.{text-inside}
 use Rattle.image.proofs.Views.{payload-by, strings-by}
-use Rattle.index.specs.Definitions.{numberOfItems}
+use Rattle.definitions.specs.Definitions.{numberOfItems}
 use Rattle.views.specs.declared.Span.{Span}
 use Rattle.views.specs.declared.OptionalText.{OptionalText}
 use Rattle.views.specs.declared.NodeAnswer.{NodeAnswer}

@@ -1,3 +1,4 @@
 pub mod Reading
 pub mod Tags
 pub mod Answers
+pub mod Given

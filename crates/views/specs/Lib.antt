@@ -3,3 +3,4 @@ pub mod Shown
 pub mod Found
 pub mod Children
 pub mod Lists
+pub mod Answers

@@ -6,7 +6,7 @@ use lib.ListN.{length}
 use lib.Dec.{leb, ltb}
 use Rattle.words.specs.Words.{wordAt, words}
 use Rattle.image.specs.Sections.{Sections, listHeadSize, listItemSize, listOriginSize, definitionCount, itemCount, definitionWord, itemWord, textOrEmpty, sections}
-use Rattle.index.specs.Definitions.{firstItem, numberOfItems}
+use Rattle.definitions.specs.Definitions.{firstItem, numberOfItems}
 use Rattle.views.specs.declared.Span.{Span}
 use Rattle.views.specs.declared.EntryAnswer.{EntryAnswer}
 use Rattle.views.specs.declared.EntryAnswer.the-variants as entry

@@ -8,12 +8,13 @@ use Rattle.names.specs.NativeFunctionCall.{operatorNamed}
 use Rattle.image.specs.declared.NodeRecord.{NodeRecord}
 use Rattle.image.specs.Sections.{textOrEmpty}
 use Rattle.image.specs.Tags.{commandTag, operatorTag, tagTag, stringTag, targetTag, pointerTag, assignmentTag}
+use Rattle.records.specs.Flags.{odd, external}
 use Rattle.views.specs.declared.Span.{Span}
 use Rattle.views.specs.declared.ValueView.the-variants as value
 use Rattle.views.specs.declared.NodeKindView.the-variants as kind
 use Rattle.views.specs.declared.KindAnswer.{KindAnswer}
 use Rattle.views.specs.declared.KindAnswer.the-variants as kindly
-use Rattle.views.specs.View.{signed, odd, span, optionalText, optionalWord, pushType, ofCommand, ofOperator, withText}
+use Rattle.views.specs.View.{signed, span, optionalText, optionalWord, pushType, ofCommand, ofOperator, withText}
 
 unfoldable pub containerView : ℕ → NodeRecord → KindAnswer
 containerView strings r = kindly.Kind (kind.Container (signed (r .f2)) (optionalText strings (r .f0) (r .f1)))
@@ -23,7 +24,7 @@ divertView strings r =
     cond (leb (r .f6 / 8) 2)
     (kindly.Kind
     (kind.Divert (optionalText strings (r .f0) (r .f1)) (optionalWord (r .f2)) (optionalText strings (r .f3) (r .f4)) (r .f5) (odd (r .f6))
-    (odd (r .f6 / 2)) (odd (r .f6 / 4)) (pushType (r .f6 / 8))))
+    (external r) (odd (r .f6 / 4)) (pushType (r .f6 / 8))))
     kindly.NotFound
 
 unfoldable pub commandView : List ℕ → KindAnswer

@@ -1,5 +1,5 @@
 -- A node's view: its words turned into fields, as `node_view` does.
-use Prim.Native.Nat.{ℕ, _+_, _/_, _%_}
+use Prim.Native.Nat.{ℕ, _+_, _/_}
 use mathlib.Core.List.{List}
 use mathlib.Core.Bool.{Bool, cond, _&&_, not}
 use mathlib.Core.Option.{Option, none, some}
@@ -19,6 +19,7 @@ use Rattle.image.specs.declared.NodeRecord.{NodeRecord}
 use Rattle.image.specs.Sections.{Sections, present, textOrEmpty, inside, sections}
 use Rattle.image.specs.Entries.{nodeIn}
 use Rattle.records.specs.Fields.{Kind, Container, Choice, Command as Named, Divert, Glue, Operator as Operation, Tag, BoolValue, IntValue, FloatValue, StringValue, ListValue, TargetValue, PointerValue, Assignment, Reference, Void, Unknown, kindOf, schema}
+use Rattle.records.specs.Flags.{odd, external}
 use Rattle.views.specs.declared.Span.{Span}
 use Rattle.views.specs.declared.OptionalText.{OptionalText}
 use Rattle.views.specs.declared.OptionalText.the-variants as text
@@ -36,10 +37,6 @@ use Rattle.views.specs.declared.NodeAnswer.the-variants as node
 -- a word as a signed number
 abbrev pub signed : ℕ → ℤ
 signed w = toZ w32 w
-
--- the lowest bit
-abbrev pub odd : ℕ → Bool
-odd w = not (eqb (w % 2) 0)
 
 abbrev pub span : ℕ → ℕ → Span
 span at len = record { offset = at; len = len }
@@ -87,7 +84,7 @@ module _ (strings : List ℕ) (payload : ℕ) (r : NodeRecord) where
   kindView Divert =
       cond (leb (r .f6 / 8) 2)
       (kindly.Kind
-      (kind.Divert (textOf (r .f0) (r .f1)) (optionalWord (r .f2)) (textOf (r .f3) (r .f4)) (r .f5) (odd (r .f6)) (odd (r .f6 / 2))
+      (kind.Divert (textOf (r .f0) (r .f1)) (optionalWord (r .f2)) (textOf (r .f3) (r .f4)) (r .f5) (odd (r .f6)) (external r)
       (odd (r .f6 / 4)) (pushType (r .f6 / 8))))
       kindly.NotFound
   kindView Glue = kindly.Kind kind.Glue

@@ -8,8 +8,8 @@ ghost use Rattle.words.specs.Output.{over};
 ghost use Rattle.write_image.specs.Given.{DraftPlanned, definitionsAt, Indexed, ListsReady, listsOut};
 use draft::layout::Layout;
 use image::ImageView;
-use write_list_sections::definitions::put_definitions;
-use write_list_sections::definitions::put_items;
+use write_list_sections::definition_sections::put_definitions;
+use write_list_sections::definition_sections::put_items;
 use write_paths::path_index::put_index;
 
 // Writes the sections at the start of the output. The offsets of the definitions' texts begin at `text`; `count` is that of the paths.

@@ -8,7 +8,7 @@ use lib.ListN.{length, getD}
 use Rattle.laws.specs.Counted.{sumOf, joinOf}
 use Rattle.laws.proofs.Members.{sum-ext}
 use Rattle.image.specs.Sections.{Sections, definitionCount, itemCount, definitionWord, itemWord}
-use Rattle.index.specs.Definitions.{definitionText, firstItem, numberOfItems, itemTextOf, itemsBefore}
+use Rattle.definitions.specs.Definitions.{definitionText, firstItem, numberOfItems, itemTextOf, itemsBefore}
 use Rattle.draft.specs.Draft.{tablesRule}
 use Rattle.draft.proofs.Rules.{Tables, tables, items-start, items-all, item-good}
 use Rattle.draft_image.specs.Strings.{definitionTexts, offsetOf}

@@ -13,7 +13,7 @@ use Rattle.image.specs.Entries.{recordOf}
 use Rattle.image.specs.Sections.{textEntryWords, definitionWords, nodeWords, listHeadSize, listItemSize, listOriginSize}
 use Rattle.image.specs.Tags.{listTag}
 use Rattle.words.specs.Output.{putAt}
-use Rattle.index.specs.Definitions.{itemsBefore}
+use Rattle.definitions.specs.Definitions.{itemsBefore}
 use Rattle.draft.specs.Source.{draftOf}
 use Rattle.write_tree_sections.specs.Encoded.{textCount, optionalOffset}
 use Rattle.write_tree_sections.specs.Summed.{usedBy}

@@ -16,7 +16,7 @@ use Rattle.records.specs.Fields.{Kind, kindTable, kindIn, kinds, kindOf, fields
 use Rattle.records.specs.Records.{numberOfNamed, payloadLengthOf, containerOf, listItems, listOrigins, listItemWord, listOriginWord}
 use Rattle.records.proofs.PassedRules.{payload-range, used-up}
 use Rattle.tree.specs.Tree.{namedText}
-use Rattle.index.specs.Definitions.{definitionText, numberOfItems, itemTextOf}
+use Rattle.definitions.specs.Definitions.{definitionText, numberOfItems, itemTextOf}
 use Rattle.draft.specs.Draft.{tablesRule}
 use Rattle.draft.specs.Numbering.{oldOf}
 use Rattle.draft.proofs.Rules.{Tables, tables, items-all}

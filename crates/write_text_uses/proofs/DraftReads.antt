@@ -15,7 +15,7 @@ use Rattle.image.specs.Entries.{recordOf, definitionOf, definitionIn}
 use Rattle.image.specs.Sections.{Sections, tagOf, f, absent, isContainer, namedWord, definitionWord, itemWord}
 use Rattle.image.proofs.Entries.{IsNode, read-node, definition-entry}
 use Rattle.records.specs.Records.{listWord, listItems, listOrigins, numberOfNamed}
-use Rattle.index.specs.Definitions.{firstItem, numberOfItems}
+use Rattle.definitions.specs.Definitions.{firstItem, numberOfItems}
 use Rattle.draft_image.proofs.Joins.{join-same}
 use Rattle.write_text_uses.proofs.Puts.{Split}
 use Rattle.write_text_uses.specs.Uses.{useIf, listItemPairs, listOriginPairs, listPairs, namedPairs, definitionPairs, originPairs, entryPairs, payloadOnly, namedOnly, definitionsOnly, ListInside}

@@ -15,7 +15,7 @@ use Rattle.records.specs.Fields.{Field, text, optional, command, operator, node
 use Rattle.records.specs.Records.{fieldRule, firstField, fieldsAt, payloadRule, numberOfNamed, listItems, listOrigins, listItemWord, listOriginWord}
 use Rattle.records.proofs.PassedRules.{text-passed, optional-passed, command-passed, operator-passed, payload-passed, payload-range, list-passed}
 use Rattle.tree.specs.Tree.{namedAt}
-use Rattle.index.specs.Definitions.{numberOfItems}
+use Rattle.definitions.specs.Definitions.{numberOfItems}
 use Rattle.draft.specs.Draft.{tablesRule}
 use Rattle.draft.specs.Numbering.{oldOf}
 use Rattle.draft.proofs.Rules.{Tables, tables, named-text-at, item-good}

@@ -11,7 +11,7 @@ use Rattle.laws.specs.Lists.{flatMap}
 use Rattle.image.specs.Sections.{Sections, nodeCount, definitionCount, partAt, f, absent}
 use Rattle.records.specs.Fields.{Field, text, optional, command, operator, node, optionalNode, container, optionalContainer, plain, atMost, children, named, payload, wrong}
 use Rattle.records.specs.Records.{fieldsAt, numberOfNamed, listItems, listOrigins, listItemWord}
-use Rattle.index.specs.Definitions.{numberOfItems}
+use Rattle.definitions.specs.Definitions.{numberOfItems}
 use Rattle.draft.specs.Numbering.{oldOf}
 use Rattle.draft_image.specs.Strings.{textIf, listTexts, fieldTexts, nodeTexts, namedTexts, definitionTexts}
 use Rattle.draft_image.specs.Ready.{textUses}

@@ -22,7 +22,7 @@ use Rattle.records.specs.Fields.{Field, text, optional, command, operator, node
 use Rattle.records.specs.Records.{fieldsAt, numberOfNamed, listItems, listOrigins, listItemWord, listOriginWord}
 use Rattle.tree.specs.Tree.{namedText}
 use Rattle.index.specs.Paths.{nameless, pieceOf, piece, joinedByDot, pathFrom}
-use Rattle.index.specs.Definitions.{numberOfItems, itemTextOf}
+use Rattle.definitions.specs.Definitions.{numberOfItems, itemTextOf}
 use Rattle.draft.specs.Numbering.{numbering, oldOf}
 use Rattle.draft_image.specs.Strings.{pathOf, byPath, textIf, listTexts, fieldTexts, nodeTexts, namedTexts, definitionTexts, uses, distinct, storedTexts}
 use Rattle.draft_image.specs.Written.{listOut, payloadOut, writtenWith, written}

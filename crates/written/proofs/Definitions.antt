@@ -12,7 +12,7 @@ use Rattle.laws.proofs.First.{pass, then, first-of}
 use Rattle.laws.proofs.Flags.{both-true}
 use Rattle.laws.proofs.Members.{and-true, sum-ext}
 use Rattle.image.specs.Sections.{Sections, definitionCount, itemCount, definitionWord, itemWord}
-use Rattle.index.specs.Definitions.{definitionText, firstItem, numberOfItems, itemText, itemTextOf, goodItem, itemsBefore, itemRule, itemRuleFrom, definitionRule, itemsUsedUp, definitionsRule}
+use Rattle.definitions.specs.Definitions.{definitionText, firstItem, numberOfItems, itemText, itemTextOf, goodItem, itemsBefore, itemRule, itemRuleFrom, definitionRule, itemsUsedUp, definitionsRule}
 use Rattle.draft_image.specs.Strings.{offsetOf}
 use Rattle.draft_image.specs.Written.{definitionOut, itemOut}
 use Rattle.written.proofs.Texts.{good-text}

@@ -1,14 +1,14 @@
 -- The writer's rules in plain words, both ways.
-use Prim.Native.Nat.{ℕ, _+_, _%_, _≤_, _<_}
-use mathlib.Core.Path.{_≡_, refl, sym, _∙_}
+use Prim.Native.Nat.{ℕ, _+_, _%_, _<_}
+use mathlib.Core.Path.{_≡_, refl, sym}
 use mathlib.Core.Logic.{_≢_}
-use mathlib.Core.Bool.{Bool, true, false, _&&_, _||_, not, true≢false}
+use mathlib.Core.List.{List·Memᴰ}
+use mathlib.Core.Bool.{Bool, true, false, _||_, not, true≢false}
 use native.Mathlib.Omega.{arith}
 use native.Mathlib.Decide.{ℕ-discrete}
 use lib.ListN.{length}
 use lib.Dec.{eqb, leb}
-use borrow.Author.Tests.{eq-eqb, ne-eqb, eqb-true, eqb-false, le-leb, leb-true, not-true}
-use Rattle.laws.specs.Refusal.{unless, _▸_, firstOf}
+use borrow.Author.Tests.{eq-eqb, ne-eqb, eqb-true, eqb-false, le-leb, leb-true}
 use Rattle.laws.proofs.First.{both, then, passed, pass, zero-as, first-all, first-of}
 use Rattle.laws.proofs.Flags.{both-true, all-at, all-of}
 use Rattle.laws.proofs.Members.{all-has}
@@ -16,32 +16,34 @@ use Rattle.words.specs.Words.{NONE}
 use Rattle.texts.specs.Text.{same}
 use Rattle.texts.proofs.Text.{same-equal, equal-same}
 use Rattle.image.specs.Sections.{Sections, nodeWords, textEntryWords, definitionWords, nodeCount, childCount, namedCount, definitionCount, itemCount, parentOf, tagOf, childWord, namedWord, inside, isContainer}
-use Rattle.image.specs.Header.{inkRight, firstInkVersion, lastInkVersion}
-use Rattle.records.specs.Records.{parentRule, fieldsRule, rootRight, usedUp}
+use Rattle.image.specs.Header.{firstInkVersion, lastInkVersion}
+use Rattle.records.specs.Fields.{Field}
+use Rattle.records.specs.Records.{fieldsAt, fieldsRule, rootRight}
 use Rattle.records.proofs.PassedRules.{root, used-up, used-up-of}
-use Rattle.tree.specs.Tree.{childAt, namedAt, entriesRule, allSeen, readWalk}
+use Rattle.tree.specs.Tree.{childAt, namedAt, allSeen, readWalk}
 use Rattle.tree.specs.Reach.{Reached}
 use Rattle.tree.proofs.Numbers.{read-reached, reached-read}
 use Rattle.tree.proofs.Entries.{children-pass, named-pass, entries-pass}
 use Rattle.index.specs.Paths.{canonicalPath, nameOrPlace}
-use Rattle.index.specs.Definitions.{goodDefinition, firstItem, numberOfItems, itemsBefore, itemsRight, itemsUsedUp}
+use Rattle.definitions.specs.Definitions.{firstItem, numberOfItems, itemsBefore, itemsUsedUp}
 use Rattle.draft.specs.Draft.{wholeEntries, draftNodeRule, draftChildRule, draftNamedRule, draftDefinitionRule, draftItemRule, tablesRule, writeWords, reachRule, relationRule, orderRule, shapeRule, placed, newPath, pathRule, pathsRule}
-use Rattle.draft.proofs.Rules.{Tables, tables, Checked, checked, entries-counts, entries-below, Shape, shape}
+use Rattle.draft.proofs.Rules.{TablesBy, tables, checked, tablesRuleBy, entries-counts, entries-below, shape}
 use Rattle.draft.proofs.ReachedNodes.{reached}
 use Rattle.draft_image.specs.Encode.{imageFor, draftRule, encodeRule}
-use Rattle.promises.specs.Rules.{TextRight, NodeRight, FieldRight, ParentRight, ChildRight, NamedRight, Iff}
+use Rattle.promises.specs.Rules.{NodeRight, FieldRight}
 use Rattle.promises.proofs.Fields.{text-right, right-text, node-right, right-node, fields-right, right-fields, parent-right, right-parent}
 use Rattle.promises.proofs.Way.{name-right, right-name}
 use Rattle.promises.proofs.Acceptance.{right-child, right-named}
-use Rattle.written.specs.DraftRules.{DraftDefinitionRight, TablesRight, ShapeRight, PathsRight, DraftRight, EncodeRight, EncodesExactly, DraftsExactly}
+use Rattle.written.specs.DraftRules.{TablesRightBy, TablesRight, ShapeRight, PathsRight, EncodeRight, EncodesExactly, DraftsExactly}
 
 module _ (s : Sections) where
   -- ---- 19
 
-  tables-right : tablesRule s ≡ 0 → TablesRight s
-  unfolding tablesRule itemsUsedUp
-  tables-right p =
-      let t = tables s p in
+  -- by a rule of the nodes' fields and what it is in plain words
+  pub tables-right-by : (rule : ℕ → ℕ) (Right : ℕ → Field → Type 0) → tablesRuleBy s rule ≡ 0 → TablesBy s rule
+      → ((i : ℕ) → i < nodeCount s → rule i ≡ 0 → (x : Field) → List·Memᴰ x (fieldsAt s i) → Right i x) → TablesRightBy s Right
+  unfolding itemsUsedUp
+  tables-right-by rule Right p t right =
       let c = checked s (passed _ 18 (both _ _ p .0)) in
       let u = used-up s (t .used) in
       record {
@@ -50,7 +52,7 @@ module _ (s : Sections) where
         definitions-whole = c .definitions;
         items-whole = c .items;
         some = t .some;
-        fields = λ i h. fields-right s i (t .fields i h);
+        fields = λ i h. right i h (t .fields i h);
         parents = λ i h k. node-right s (parentOf s i) (t .parents i h k);
         children-used = u .children;
         named-used = u .named;
@@ -65,6 +67,10 @@ module _ (s : Sections) where
         item = λ j h. text-right s _ _ (t .items j h);
       }
 
+  tables-right : tablesRule s ≡ 0 → TablesRight s
+  unfolding tablesRule draftNodeRule
+  tables-right p = tables-right-by (fieldsRule s) (FieldRight s) p (tables s p) (λ i h. fields-right s i)
+
   parent-inside : (i : ℕ) → (0 < i → NodeRight s (parentOf s i)) → (eqb i 0 || inside s (parentOf s i)) ≡ true
   parent-inside i h =
       elim (ℕ-discrete i 0) [
@@ -72,9 +78,9 @@ module _ (s : Sections) where
         | no d ↦ rw (ne-eqb i 0 d) (right-node s (parentOf s i) (h (omega arith)))
       ]
 
-  whole-entries : TablesRight s → wholeEntries s ≡ true
+  whole-entries : (Right : ℕ → Field → Type 0) → TablesRightBy s Right → wholeEntries s ≡ true
   unfolding wholeEntries
-  whole-entries t =
+  whole-entries Right t =
       rw (
         eq-eqb (length (s .nodes) % nodeWords (s .version)) 0 (t .nodes-whole),
         eq-eqb (length (s .named) % textEntryWords) 0 (t .named-whole),
@@ -83,13 +89,14 @@ module _ (s : Sections) where
         ne-eqb (nodeCount s) 0 (λ e. omega (arith, t .some)),
       )
 
-  right-tables : TablesRight s → tablesRule s ≡ 0
-  unfolding tablesRule draftNodeRule draftChildRule draftNamedRule draftDefinitionRule draftItemRule itemsUsedUp
-  right-tables t =
-      then _ _ (pass _ 19 (whole-entries t))
+  pub right-tables-by : (rule : ℕ → ℕ) (Right : ℕ → Field → Type 0) → TablesRightBy s Right
+      → ((i : ℕ) → ((x : Field) → List·Memᴰ x (fieldsAt s i) → Right i x) → rule i ≡ 0) → tablesRuleBy s rule ≡ 0
+  unfolding draftChildRule draftNamedRule draftDefinitionRule draftItemRule itemsUsedUp
+  right-tables-by rule Right t right =
+      then _ _ (pass _ 19 (whole-entries Right t))
       (then _ _
       (first-of (nodeCount s) _
-      (λ i h. then _ _ (zero-as 19 _ (right-fields s i (t .fields i h))) (pass _ 19 (parent-inside i (t .parents i h)))))
+      (λ i h. then _ _ (zero-as 19 _ (right i (t .fields i h))) (pass _ 19 (parent-inside i (t .parents i h)))))
       (then _ _ (pass _ 19 (used-up-of s (record { children = t .children-used; named = t .named-used; payload = t .payload-used })))
       (then _ _ (first-of (childCount s) _ (λ j h. pass _ 19 (right-node s (childWord s j) (t .child j h))))
       (then _ _
@@ -103,20 +110,23 @@ module _ (s : Sections) where
       (pass _ 19 (rw (le-leb (firstItem s d + numberOfItems s d) (itemCount s) (q .inside), eq-eqb (firstItem s d) (itemsBefore s d) (q .start))))))
       (then _ _ (pass _ 19 (eq-eqb _ _ (t .items-used))) (first-of (itemCount s) _ (λ j h. pass _ 19 (right-text s _ _ (t .item j h))))))))))
 
+  right-tables : TablesRight s → tablesRule s ≡ 0
+  unfolding tablesRule draftNodeRule
+  right-tables t = right-tables-by (fieldsRule s) (FieldRight s) t (right-fields s)
+
   -- ---- 20
 
-  reached-right : reachRule s ≡ 0 → (i : ℕ) → i < nodeCount s → Reached s i
+  pub reached-right : reachRule s ≡ 0 → (i : ℕ) → i < nodeCount s → Reached s i
   reached-right p i h = all-has (Reached s) i (readWalk s .seen) (reached s p i h) (read-reached s)
 
-  right-reached : tablesRule s ≡ 0 → ((i : ℕ) → i < nodeCount s → Reached s i) → reachRule s ≡ 0
+  pub right-reached : (rule : ℕ → ℕ) → TablesBy s rule → ((i : ℕ) → i < nodeCount s → Reached s i) → reachRule s ≡ 0
   unfolding reachRule allSeen
-  right-reached p r =
-      let t = tables s p in
+  right-reached rule t r =
       pass _ 20 (all-of _ _ (λ i h. reached-read s (entries-counts s t) (λ k l. entries-below s t k l) i (r i h)))
 
   -- ---- 21
 
-  shape-right : shapeRule s ≡ 0 → ShapeRight s
+  pub shape-right : shapeRule s ≡ 0 → ShapeRight s
   shape-right p =
       let u = shape s p in
       let r = root s (u .root) in
@@ -144,7 +154,7 @@ module _ (s : Sections) where
   unfolding rootRight
   right-root r = rw (eq-eqb _ _ (r .root-parent), eq-eqb _ _ (r .root-place), eq-eqb _ _ (r .root-container))
 
-  right-shape : ShapeRight s → shapeRule s ≡ 0
+  pub right-shape : ShapeRight s → shapeRule s ≡ 0
   unfolding shapeRule relationRule orderRule
   right-shape r =
       then _ _ (pass _ 21 (right-root r))
@@ -222,7 +232,7 @@ drafts-exactly s = (
   λ p. record { tables = tables-right s (p .0); reached = reached-right s (p .1); shape = shape-right s (p .2); paths = paths-right s (p .3) },
   λ r.
       let t = right-tables s (r .tables) in
-      (t, right-reached s t (r .reached), right-shape s (r .shape), right-paths s (r .paths)),
+      (t, right-reached s (fieldsRule s) (tables s t) (r .reached), right-shape s (r .shape), right-paths s (r .paths)),
 )
 
 -- ---- all of it

@@ -19,7 +19,7 @@ use Rattle.texts.proofs.Text.{same-equal}
 use Rattle.image.specs.Sections.{Sections, nodeCount, definitionCount, partAt, textAt, present, goodIn, goodText, goodBytes}
 use Rattle.records.specs.Records.{numberOfNamed}
 use Rattle.tree.specs.Tree.{namedText}
-use Rattle.index.specs.Definitions.{definitionText, numberOfItems, itemTextOf}
+use Rattle.definitions.specs.Definitions.{definitionText, numberOfItems, itemTextOf}
 use Rattle.draft.specs.Numbering.{oldOf}
 use Rattle.draft_image.proofs.HeldTexts.{in-left, in-right, in-head, in-one, in-join}
 use Rattle.draft_image.specs.Strings.{byPath, pathOf, nodeTexts, namedTexts, definitionTexts, uses, distinct, storedTexts, offsetOf}

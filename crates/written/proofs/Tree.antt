@@ -54,7 +54,7 @@ module _ {s : Sections} {order : List ℕ} {kept : List (List ℕ)} (g : Given s
         first-named : f v j 5 ≡ sumOf j (λ o. numberOfNamed s (oldOf order o))
         first-named = unfold fields fieldWords in (container-reads g j h (named-container s i m q) .1 .1 .1 .0 .0 ∙ start-is g (numberOfNamed s) j h)
 
-    named-text : (m : ℕ) → m < numberOfNamed s i → namedText v j m ≡ namedText s i m
+    pub named-text : (m : ℕ) → m < numberOfNamed s i → namedText v j m ≡ namedText s i m
     named-text m q =
         text-at g (namedText s i m) (namedAt v j m 0) (namedAt v j m 1) (g .stored .named j h m q) (named-at m 0 q (omega arith)) (named-at m 1 q (omega arith))
 

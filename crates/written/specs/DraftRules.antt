@@ -1,5 +1,5 @@
 -- What the writer asks of a draft, rule by rule in plain words. What it takes is exactly this (proofs/DraftRules).
-use Prim.Native.Nat.{ℕ, _+_, _*_, _%_, _≤_, _<_}
+use Prim.Native.Nat.{ℕ, _+_, _%_, _≤_, _<_}
 use mathlib.Core.Path.{_≡_}
 use mathlib.Core.Logic.{_≢_}
 use mathlib.Core.List.{List·Memᴰ}
@@ -14,7 +14,7 @@ use Rattle.records.specs.Fields.{Field}
 use Rattle.records.specs.Records.{fieldsAt, numberOfChildren, numberOfNamed, childrenBefore, namedBefore, payloadBefore}
 use Rattle.tree.specs.Reach.{Reached}
 use Rattle.index.specs.Paths.{canonicalPath}
-use Rattle.index.specs.Definitions.{definitionText, firstItem, numberOfItems, itemTextOf, itemsBefore}
+use Rattle.definitions.specs.Definitions.{definitionText, firstItem, numberOfItems, itemTextOf, itemsBefore}
 use Rattle.draft.specs.Draft.{tablesRule, writeWords, reachRule, shapeRule, pathsRule}
 use Rattle.draft_image.specs.Encode.{imageFor, encodeRule}
 use Rattle.promises.specs.Rules.{TextRight, NodeRight, FieldRight, ParentRight, ChildRight, NamedRight, NameOrPlace, Iff}
@@ -26,15 +26,16 @@ pub record DraftDefinitionRight (s : Sections) (d : ℕ) : Type 0 where
   pub inside : firstItem s d + numberOfItems s d ≤ itemCount s
   pub start : firstItem s d ≡ itemsBefore s d
 
-pub record TablesRight (s : Sections) : Type 0 where
+-- by what is asked of the fields of a node
+pub record TablesRightBy (s : Sections) (Right : ℕ → Field → Type 0) : Type 0 where
   -- sections of whole entries, and a node
   pub nodes-whole : length (s .nodes) % nodeWords (s .version) ≡ 0
   pub named-whole : length (s .named) % textEntryWords ≡ 0
   pub definitions-whole : length (s .definitions) % definitionWords ≡ 0
   pub items-whole : length (s .items) % textEntryWords ≡ 0
   pub some : 0 < nodeCount s
-  -- the reader's rules of fields; a parent is a node, the root's aside
-  pub fields : (i : ℕ) → i < nodeCount s → (x : Field) → List·Memᴰ x (fieldsAt s i) → FieldRight s i x
+  -- each field is right; a parent is a node, the root's aside
+  pub fields : (i : ℕ) → i < nodeCount s → (x : Field) → List·Memᴰ x (fieldsAt s i) → Right i x
   pub parents : (i : ℕ) → i < nodeCount s → 0 < i → NodeRight s (parentOf s i)
   -- nothing is left over
   pub children-used : childrenBefore s (nodeCount s) ≡ childCount s
@@ -47,6 +48,10 @@ pub record TablesRight (s : Sections) : Type 0 where
   pub definition : (d : ℕ) → d < definitionCount s → DraftDefinitionRight s d
   pub items-used : itemsBefore s (definitionCount s) ≡ itemCount s
   pub item : (j : ℕ) → j < itemCount s → TextRight s (itemWord s j 0) (itemWord s j 1)
+
+-- the reader's rules of fields
+abbrev pub TablesRight : Sections → Type 0
+TablesRight s = TablesRightBy s (FieldRight s)
 
 -- ---- 21: root, parents, tree, order of definitions and items
 

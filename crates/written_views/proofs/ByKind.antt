@@ -17,6 +17,7 @@ use Rattle.image.specs.Sections.{Sections, f, present, textAt, textOrEmpty}
 use Rattle.image.specs.Entries.{nodeIn}
 use Rattle.image.proofs.Parts.{text-inside}
 use Rattle.records.specs.Fields.{Kind, Container, Choice, Command, Divert, Glue, Operator, Tag, BoolValue, IntValue, FloatValue, StringValue, ListValue, TargetValue, PointerValue, Assignment, Reference, Void, Unknown, Field, fields}
+use Rattle.records.specs.Flags.{odd}
 use Rattle.draft.specs.Numbering.{newOf}
 use Rattle.views.specs.declared.Span.{Span}
 use Rattle.views.specs.declared.OptionalWord.{OptionalWord}
@@ -25,7 +26,7 @@ use Rattle.views.specs.declared.NodeKindView.{NodeKindView}
 use Rattle.views.specs.declared.NodeKindView.the-variants as kind
 use Rattle.views.specs.declared.KindAnswer.{KindAnswer}
 use Rattle.views.specs.declared.KindAnswer.the-variants as kindly
-use Rattle.views.specs.View.{signed, odd, span, shown, optionalText, optionalWord, pushType, ofCommand, ofOperator, withText, kindView}
+use Rattle.views.specs.View.{signed, span, shown, optionalText, optionalWord, pushType, ofCommand, ofOperator, withText, kindView}
 use Rattle.written_views.specs.Views.{renumbered, SameText, SameKind, SameField}
 
 -- the bytes of a text that is shown

@@ -10,7 +10,7 @@ use lib.Dec.{ltb}
 use borrow.Author.Tests.{eqb-true, lt-ltb, ltb-true, ltb-false}
 use Rattle.laws.specs.Counted.{sumOf}
 use Rattle.image.specs.Sections.{Sections, definitionCount, itemCount, definitionWord, itemWord}
-use Rattle.index.specs.Definitions.{firstItem, numberOfItems, itemsBefore, itemsUsedUp}
+use Rattle.definitions.specs.Definitions.{firstItem, numberOfItems, itemsBefore, itemsUsedUp}
 use Rattle.draft_image.specs.Written.{itemOut}
 use Rattle.views.specs.declared.DefinitionView.{DefinitionView}
 use Rattle.views.specs.declared.DefinitionAnswer.the-variants as definition

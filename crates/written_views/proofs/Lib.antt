@@ -5,4 +5,5 @@ pub mod Fields
 pub mod Depths
 pub mod Nodes
 pub mod Definitions
+pub mod Walks
 pub mod Written

@@ -95,26 +95,33 @@ module _ {s : Sections} {order : List ℕ} {kept : List (List ℕ)} (g : Given s
 
   -- ---- children
 
-  inside-same : insideContainer t j ≡ insideContainer s i
+  pub inside-same : insideContainer t j ≡ insideContainer s i
   inside-same = rw (right-node s i draft-node, right-node t j image-node) (container-same g j h)
 
   is-container : insideContainer s i ≡ true → isContainer s i ≡ true
   is-container c = both-true (inside s i) (isContainer s i) c .1
 
+  pub children-same : insideContainer s i ≡ true → f t j 4 ≡ f s i 4
+  unfolding fields fieldWords
+  children-same c = container-reads g j h (is-container c) .1 .1 .0 .1 .0
+
+  pub entries-same : insideContainer s i ≡ true → f t j 6 ≡ f s i 6
+  unfolding fields fieldWords
+  entries-same c = container-reads g j h (is-container c) .1 .1 .1 .0 .1 .0
+
   child-count : childCountOf t j ≡ childCountOf s i
-  unfolding childCountOf fields fieldWords
-  child-count = count-same (insideContainer s i) (insideContainer t j) (f s i 4) (f t j 4) inside-same (λ c. container-reads g j h (is-container c) .1 .1 .0 .1 .0)
+  unfolding childCountOf
+  child-count = count-same (insideContainer s i) (insideContainer t j) (f s i 4) (f t j 4) inside-same children-same
 
   named-count : namedCountOf t j ≡ namedCountOf s i
-  unfolding namedCountOf fields fieldWords
-  named-count = count-same (insideContainer s i) (insideContainer t j) (f s i 6) (f t j 6) inside-same (λ c. container-reads g j h (is-container c) .1 .1 .1 .0 .1 .0)
+  unfolding namedCountOf
+  named-count = count-same (insideContainer s i) (insideContainer t j) (f s i 6) (f t j 6) inside-same entries-same
 
   module _ (c : insideContainer s i ≡ true) (k : ℕ) where
     there : insideContainer t j ≡ true
     there = inside-same ∙ c
 
-    child-same : k < f s i 4 → SameChild s t order i j k
-    unfolding fields fieldWords
+    pub child-same : k < f s i 4 → SameChild s t order i j k
     child-same q =
         let from = ranges s i (is-container c) (g .taken .tables .fields i (old-in g j h)) in
         let to = ranges t j (both-true (inside t j) (isContainer t j) there .1) (node-fields g j h) in
@@ -122,12 +129,11 @@ module _ {s : Sections} {order : List ℕ} {kept : List (List ℕ)} (g : Given s
           child = childAt s i k;
           drafted = child-found s i c k q (from .children-end);
           written =
-              child-found t j there k (omega (arith, container-reads g j h (is-container c) .1 .1 .0 .1 .0)) (to .children-end)
+              child-found t j there k (omega (arith, children-same c)) (to .children-end)
               ∙ ap found.Node (child-at g j h k (omega (arith, children-are g j h (is-container c))));
         }
 
     named-same : k < f s i 6 → SameNamed s t order i j k
-    unfolding fields fieldWords
     named-same q =
         let from = ranges s i (is-container c) (g .taken .tables .fields i (old-in g j h)) in
         let to = ranges t j (both-true (inside t j) (isContainer t j) there .1) (node-fields g j h) in
@@ -139,7 +145,7 @@ module _ {s : Sections} {order : List ℕ} {kept : List (List ℕ)} (g : Given s
           draft = namedChild s i c k;
           image = namedChild t j there k;
           drafted = named-found s i c k q (from .named-end) (name .drafted);
-          written = named-found t j there k (omega (arith, container-reads g j h (is-container c) .1 .1 .1 .0 .1 .0)) (to .named-end) (name .written);
+          written = named-found t j there k (omega (arith, entries-same c)) (to .named-end) (name .written);
           name = name;
           node = named-at g j h k 2 z (omega arith);
         }

@@ -71,19 +71,27 @@ module _ {s : Sections} {order : List ℕ} {kept : List (List ℕ)} (g : Given s
 
   -- ---- numbers
 
+  placed-some : (n : ℕ) → isNone (placeIn order n) ≡ false
+  placed-some n = ne-eqb (placeIn order n) NONE (λ e. omega (arith, place-le order n, g .numbered .len, few g))
+
+  pub new-placed : (n : ℕ) → isNone n ≡ false → newOf order n ≡ placeIn order n
+  unfolding newOf
+  new-placed n e = rw e refl
+
   pub word-same : (n : ℕ) → optionalWord (newOf order n) ≡ renumbered order (optionalWord n)
   unfolding optionalWord newOf
   word-same n = by (isNone n) refl
     where
-      there : isNone (placeIn order n) ≡ false
-      there = ne-eqb (placeIn order n) NONE (λ e. omega (arith, place-le order n, g .numbered .len, few g))
-
-      new : isNone n ≡ false → newOf order n ≡ placeIn order n
-      new e = rw e refl
-
       by : (c : Bool) → isNone n ≡ c → optionalWord (newOf order n) ≡ renumbered order (optionalWord n)
       by true e = rw e refl
-      by false e = rw (e, there) (ap word.Present (sym (new e)))
+      by false e = rw (e, placed-some n) (ap word.Present (sym (new-placed n e)))
+
+  pub none-same : (n : ℕ) → isNone (newOf order n) ≡ isNone n
+  none-same n = by (isNone n) refl
+    where
+      by : (c : Bool) → isNone n ≡ c → isNone (newOf order n) ≡ c
+      by true e = unfold newOf in rw e
+      by false e = rw (new-placed n e) (placed-some n)
 
   pub numbers-same : Renumbers s order
   numbers-same =

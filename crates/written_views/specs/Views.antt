@@ -4,7 +4,8 @@
 use Prim.Native.Nat.{ℕ, _+_, _≤_, _<_}
 use mathlib.Core.Path.{_≡_}
 use mathlib.Core.List.{List, List·Memᴰ}
-use mathlib.Core.Bool.{true}
+use mathlib.Core.Bool.{Bool, true, false}
+use mathlib.Core.Option.{Option·map}
 use lib.ListN.{length}
 use Rattle.words.specs.Words.{wordAt}
 use Rattle.image.specs.Sections.{Sections, nodeCount, definitionCount, itemCount, tagOf, f, textAt}
@@ -12,7 +13,7 @@ use Rattle.image.specs.declared.ImageView.{ImageView}
 use Rattle.image.specs.Header.{sectionsBy, sectionsOf}
 use Rattle.records.specs.Fields.{Field, text, optional, command, operator, node, optionalNode, container, optionalContainer, plain, atMost, children, named, payload, wrong}
 use Rattle.records.specs.Records.{fieldsAt}
-use Rattle.index.specs.Definitions.{firstItem}
+use Rattle.definitions.specs.Definitions.{firstItem}
 use Rattle.load.specs.declared.Loaded.the-variants.{View}
 use Rattle.load.specs.Load.{loadWords, loadedOf}
 use Rattle.draft.specs.Numbering.{numbering, oldOf, newOf}
@@ -43,7 +44,9 @@ use Rattle.views.specs.declared.ItemAnswer.the-variants as item
 use Rattle.views.specs.View.{span, shown, optionalText, nodeView}
 use Rattle.views.specs.Children.{childCountOf, namedCountOf, childQuery, namedQuery}
 use Rattle.views.specs.Lists.{listPart, listEntry, listOrigin, definitionQuery, itemEntry, itemQuery}
+use Rattle.walks.specs.Walk.{Component, resolve}
 use Rattle.depth.specs.Depth.{depthOf}
+use Rattle.promises.specs.Answers.{Answer, ofFound}
 use Rattle.written.specs.Written.{Written}
 
 -- ---- node numbers
@@ -52,6 +55,10 @@ use Rattle.written.specs.Written.{Written}
 abbrev pub renumbered : List ℕ → OptionalWord → OptionalWord
 renumbered order (word.Present n) = word.Present (newOf order n)
 renumbered order word.Absent = word.Absent
+
+-- what a walk answers, in the image's numbers: the same number, and the node's counterpart
+abbrev pub renumberedAnswer : List ℕ → Answer ℕ → Answer ℕ
+renumberedAnswer order a = record { number = a .number; value = Option·map (newOf order) (a .value) }
 
 -- each of the draft's nodes is one of the image's, and the root is the root
 pub record Renumbers (s : Sections) (order : List ℕ) : Type 0 where
@@ -220,6 +227,11 @@ pub record SameViews (s t : Sections) (order : List ℕ) : Type 0 where
   pub numbers : Renumbers s order
   pub node-count : nodeCount t ≡ nodeCount s
   pub nodes : (j : ℕ) → j < nodeCount t → SameNode s t order j
+  -- from the counterpart of its origin a walk in the image ends at the counterpart of where it ends in the draft, and finds nothing where
+  -- that finds nothing; an absolute one from whatever origins
+  pub walks : (relative : Bool) (origin : ℕ) (cs : List Component)
+      → ofFound (resolve t relative (newOf order origin) cs) ≡ renumberedAnswer order (ofFound (resolve s relative origin cs))
+  pub absolute-walks : (origin other : ℕ) (cs : List Component) → ofFound (resolve t false other cs) ≡ renumberedAnswer order (ofFound (resolve s false origin cs))
   pub definition-count : definitionCount t ≡ definitionCount s
   pub definitions : (d : ℕ) → d < definitionCount t → SameDefinition s t d
   pub item-count : itemCount t ≡ itemCount s

@@ -2,10 +2,10 @@
 
 use std::process::Command;
 
-/// Prints both; how many could be told.
-pub fn run() -> u64 {
+/// Prints both.
+pub fn run() {
     let Some(folder) = std::env::var_os("STORY_IMAGE_LIBRARY") else {
-        return 0;
+        return;
     };
     let archive = std::path::Path::new(&folder).join("libstory_image.a");
     println!("the static library");
@@ -23,7 +23,6 @@ pub fn run() -> u64 {
         Some((bytes, function)) => println!("    largest frame    {bytes} bytes in {function}"),
         None => println!("    largest frame    not told: no binutils"),
     }
-    u64::from(size.is_some()) + u64::from(frame.is_some())
 }
 
 /// The numbers of the second line: text, data, bss.

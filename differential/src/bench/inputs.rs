@@ -206,7 +206,7 @@ fn distinct_texts(count: u64) -> Vec<String> {
     (0..count).map(|turn| format!("text number {}", turn * 7_919 % count)).collect()
 }
 
-fn with_strings(texts: Vec<String>) -> Parts {
+pub fn with_strings(texts: Vec<String>) -> Parts {
     let mut parts = Parts { ink: 21, ..Parts::default() };
     parts.nodes.push([NONE, NONE, 1, NONE, NONE, 0, 0, texts.len() as u32, 0, 0]);
     for (index, text) in texts.iter().enumerate() {

@@ -1,13 +1,12 @@
 //! The leaves by themselves: checksum, UTF-8 and comparison of texts, against what Rust has for each. They are called
 //! from the static library of crate `leaves`, where it has been built beside the other (rt staticlib leaves).
 
+use super::Sheet;
 use crate::random::Random;
-use std::time::Duration;
 
 #[cfg(not(leaves))]
-pub fn run(_: Duration, _: &mut Random) -> u64 {
+pub fn run(_: &mut Random, _: &mut Sheet) {
     println!("leaves: no libleaves.a (rt staticlib leaves)");
-    0
 }
 
 #[cfg(leaves)]
@@ -15,8 +14,8 @@ pub use linked::run;
 
 #[cfg(leaves)]
 mod linked {
-    use super::{Duration, Random};
-    use crate::bench::{OURS, black_box, duel, timed};
+    use super::{Random, Sheet};
+    use crate::bench::{OURS, black_box, timed};
 
     unsafe extern "C" {
         fn leaf_crc(bytes: *const u8, length: usize) -> u32;
@@ -45,9 +44,11 @@ mod linked {
     /// About so many bytes are read in a round, so that the clock does not count.
     const ROUND: usize = 200_000;
 
-    pub fn run(long: Duration, random: &mut Random) -> u64 {
-        let long = long / 8;
-        checksums(long, random) + texts(long, random) + comparisons(long)
+    pub fn run(random: &mut Random, sheet: &mut Sheet) {
+        (sheet.input, sheet.long) = ("leaves", sheet.long / 8);
+        checksums(random, sheet);
+        texts(random, sheet);
+        comparisons(sheet);
     }
 
     /// The words of the table, by shifts.
@@ -62,10 +63,9 @@ mod linked {
         !bytes.iter().fold(!0, step)
     }
 
-    fn checksums(long: Duration, random: &mut Random) -> u64 {
+    fn checksums(random: &mut Random, sheet: &mut Sheet) {
         println!("checksum: ours against a loop over the table, byte by byte");
         let table = table();
-        let mut measured = 0;
         for length in [16, 63, 64, 140, 1_024, 65_536, 1 << 20] {
             let bytes: Vec<u8> = (0..length).map(|_| random.below(256) as u8).collect();
             assert_eq!(plain_crc(&table, &bytes), crc(&bytes));
@@ -73,9 +73,8 @@ mod linked {
             let theirs =
                 || timed(|| (0..turns).fold(0, |sum, _| sum ^ plain_crc(black_box(&table), black_box(&bytes))));
             let ours = || timed(|| (0..turns).fold(0, |sum, _| sum ^ crc(black_box(&bytes))));
-            measured += duel(&format!("{turns} of {length} bytes"), ["loop", OURS], long, theirs, Some(ours));
+            sheet.duel(&format!("{turns} of {length} bytes"), ["loop", OURS], theirs, Some(ours));
         }
-        measured
     }
 
     /// Characters of one kind.
@@ -100,8 +99,7 @@ mod linked {
         text
     }
 
-    fn texts(long: Duration, random: &mut Random) -> u64 {
-        let mut measured = 0;
+    fn texts(random: &mut Random, sheet: &mut Sheet) {
         for kind in ["ASCII", "Latin", "CJK", "any"] {
             println!("valid: ours against core::str::from_utf8, {kind} characters");
             for length in LENGTHS {
@@ -111,14 +109,12 @@ mod linked {
                 let is_text = |text: &&String| core::str::from_utf8(black_box(text.as_bytes())).is_ok();
                 let theirs = || timed(|| texts.iter().filter(is_text).count());
                 let ours = || timed(|| texts.iter().filter(|text| valid(black_box(text.as_bytes()))).count());
-                measured += duel(&format!("{count} of {length} bytes"), ["core", OURS], long, theirs, Some(ours));
+                sheet.duel(&format!("{count} of {length} bytes"), ["core", OURS], theirs, Some(ours));
             }
         }
-        measured
     }
 
-    fn comparisons(long: Duration) -> u64 {
-        let mut measured = 0;
+    fn comparisons(sheet: &mut Sheet) {
         for last in [true, false] {
             println!("{}: ours against slices of bytes", if last { "before, the last byte differs" } else { "equal" });
             for length in LENGTHS {
@@ -131,12 +127,11 @@ mod linked {
                 let ours_less = || timed(|| (0..turns).filter(|_| before(black_box(&a), black_box(&b))).count());
                 let ours_same = || timed(|| (0..turns).filter(|_| equal(black_box(&a), black_box(&b))).count());
                 let name = format!("{turns} of {length} bytes");
-                measured += match last {
-                    true => duel(&name, ["core", OURS], long, less, Some(ours_less)),
-                    false => duel(&name, ["core", OURS], long, same, Some(ours_same)),
-                };
+                match last {
+                    true => sheet.duel(&name, ["core", OURS], less, Some(ours_less)),
+                    false => sheet.duel(&name, ["core", OURS], same, Some(ours_same)),
+                }
             }
         }
-        measured
     }
 }

@@ -1,7 +1,7 @@
 //! Forty nodes by one call, against forty calls: both are of our library. Then the same with the view of each slot,
 //! which is what the forty calls give.
 
-use super::{Duration, Input, black_box, duel, timed};
+use super::{Duration, Input, Sheet, black_box, timed};
 use crate::pages::{Record, SLOT};
 use crate::random::Random;
 use story_image::{Image, ffi, load_words};
@@ -15,19 +15,17 @@ const SCREENS: usize = 2_500;
 const ONE_CALL: [&str; 2] = ["forty calls", "one call"];
 const WITH_VIEWS: [&str; 2] = ["forty calls", "one call, forty slot views"];
 
-pub fn run(input: &Input, long: Duration) -> u64 {
+pub fn run(input: &Input, sheet: &mut Sheet) {
     let image = &input.image;
     let view = Image::load(image, &mut vec![0; load_words(image)]).expect("an image").view().words();
     let (mut random, count) = (Random::new(40), input.nodes() as usize);
     let any: Vec<u32> = (0..SCREENS * SCREEN).map(|_| random.below(count) as u32).collect();
     let in_a_row: Vec<u32> = (0..SCREENS * SCREEN).map(|node| (node % count) as u32).collect();
-    let mut measured = 0;
-    for (name, nodes) in [("page, any nodes", &any), ("page, in a row", &in_a_row)] {
+    for (order, nodes) in [("any nodes", &any), ("in a row", &in_a_row)] {
         let screens = Screens { image, view, nodes };
-        measured += duel(name, ONE_CALL, long, || screens.calls(), Some(|| screens.pages(false)));
-        measured += duel(name, WITH_VIEWS, long, || screens.calls(), Some(|| screens.pages(true)));
+        sheet.duel(&format!("page, {order}"), ONE_CALL, || screens.calls(), Some(|| screens.pages(false)));
+        sheet.duel(&format!("views, {order}"), WITH_VIEWS, || screens.calls(), Some(|| screens.pages(true)));
     }
-    measured
 }
 
 /// Screens of nodes, to be drawn one after the other.

@@ -192,7 +192,7 @@ impl Queries for Ours {
         words(|answer, room| {
             // SAFETY: the slices live through the call, and the answer and the words for the count alone are written.
             unsafe {
-                ffi::story_image_list_item(
+                ffi::story_image_find_list_item(
                     bytes,
                     length,
                     view,

@@ -122,7 +122,7 @@ impl<'a> Model<'a> {
     /// The node at the end of an entry's path.
     pub fn end(&self, entry: Entry) -> Option<u32> {
         let (mut at, mut first) = (0, entry.first);
-        if entry.flag == 1 {
+        if entry.flag == 1 || self.mistake == Mistake::TargetAbsolute {
             at = entry.node;
             if self.tag(at) != 1 {
                 at = self.parent(at)?;

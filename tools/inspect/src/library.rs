@@ -1,10 +1,10 @@
-//! The proved library, as this program asks it: the one place that knows the binding.
+//! The proved library, as this program asks it: the one place that calls it.
 
-use crate::rules::names::{COMMANDS, OPERATORS};
-use story_image::{Refusal, ffi};
+use story_image::{CommandType, Op, Refusal, ffi, kind, kind_name};
 
 const NONE: u32 = u32::MAX;
 const VIEW_WORDS: usize = 17;
+const SLOT_WORDS: usize = 12;
 
 /// What the table of numbers says of a refusal.
 pub fn words(number: u32) -> &'static str {
@@ -72,6 +72,41 @@ pub enum Kind<'a> {
         target: Option<u32>,
     },
     Void,
+}
+
+impl Kind<'_> {
+    /// Its name, the wrapper's.
+    pub fn name(&self) -> &'static str {
+        let number = match self {
+            Kind::Container { .. } => kind::CONTAINER,
+            Kind::Choice { .. } => kind::CHOICE,
+            Kind::Command(_) => kind::COMMAND,
+            Kind::Divert(_) => kind::DIVERT,
+            Kind::Glue => kind::GLUE,
+            Kind::Operator(_) => kind::OPERATOR,
+            Kind::Tag(_) => kind::TAG,
+            Kind::Bool(_) => kind::BOOL,
+            Kind::Int(_) => kind::INT,
+            Kind::Float(_) => kind::FLOAT,
+            Kind::String(_) => kind::STRING,
+            Kind::List(_) => kind::LIST,
+            Kind::DivertTarget(_) => kind::DIVERT_TARGET,
+            Kind::Pointer { .. } => kind::POINTER,
+            Kind::Assignment { .. } => kind::ASSIGNMENT,
+            Kind::Reference { .. } => kind::REFERENCE,
+            Kind::Void => kind::VOID,
+        };
+        kind_name(number).unwrap_or_default()
+    }
+}
+
+/// What names a node.
+#[derive(Clone, Copy, Debug, PartialEq, Eq, Hash)]
+pub enum By {
+    Choice,
+    Divert,
+    DivertTarget,
+    ReadCount,
 }
 
 pub struct Divert<'a> {
@@ -146,14 +181,14 @@ impl<'a> Image<'a> {
     }
 
     fn kind(&self, words: [u32; 10]) -> Option<Kind<'a>> {
-        let [_, _, kind, offset, length, variable, variable_length, target, value, flags] = words;
+        let [_, _, tag, offset, length, variable, variable_length, target, value, flags] = words;
         let text = self.text(offset, length);
         let target = optional(target);
-        Some(match kind {
-            1 => Kind::Container { name: text, flags: flags as i32 },
-            2 => Kind::Choice { target, flags: flags as i32 },
-            3 => Kind::Command(COMMANDS.get(value as usize)?),
-            4 => Kind::Divert(Divert {
+        Some(match tag {
+            kind::CONTAINER => Kind::Container { name: text, flags: flags as i32 },
+            kind::CHOICE => Kind::Choice { target, flags: flags as i32 },
+            kind::COMMAND => Kind::Command(CommandType::from_number(value)?.name()),
+            kind::DIVERT => Kind::Divert(Divert {
                 path: text,
                 target,
                 variable: self.text(variable, variable_length),
@@ -162,30 +197,63 @@ impl<'a> Image<'a> {
                 external: flags & 2 != 0,
                 pushes: pushed(flags),
             }),
-            5 => Kind::Glue,
-            6 => Kind::Operator(OPERATORS.get(value as usize)?),
-            7 => Kind::Tag(text?),
-            8 => Kind::Bool(value != 0),
-            9 => Kind::Int(value as i32),
-            10 => Kind::Float(value),
-            11 => Kind::String(text?),
-            12 => Kind::List(self.list(offset, length)?),
-            13 => Kind::DivertTarget(text?),
-            14 => Kind::Pointer { name: text?, context: value as i32 },
-            16 => Kind::Assignment { name: text?, global: flags & 1 != 0, new_declaration: flags & 2 != 0 },
-            17 => Kind::Reference { name: text?, target },
-            18 => Kind::Void,
+            kind::GLUE => Kind::Glue,
+            kind::OPERATOR => Kind::Operator(Op::from_number(value)?.name()),
+            kind::TAG => Kind::Tag(text?),
+            kind::BOOL => Kind::Bool(value != 0),
+            kind::INT => Kind::Int(value as i32),
+            kind::FLOAT => Kind::Float(value),
+            kind::STRING => Kind::String(text?),
+            kind::LIST => Kind::List(self.list(offset, length)?),
+            kind::DIVERT_TARGET => Kind::DivertTarget(text?),
+            kind::POINTER => Kind::Pointer { name: text?, context: value as i32 },
+            kind::ASSIGNMENT => {
+                Kind::Assignment { name: text?, global: flags & 1 != 0, new_declaration: flags & 2 != 0 }
+            }
+            kind::REFERENCE => Kind::Reference { name: text?, target },
+            kind::VOID => Kind::Void,
             _ => return None,
         })
     }
 
+    /// The words of a node as the image holds them: parent, place, tag, f0 to f6, then zeros.
+    fn slot(&self, node: u32) -> Option<[u32; SLOT_WORDS]> {
+        let (bytes, view, mut slot) = (self.bytes, &self.view, [0; SLOT_WORDS]);
+        // SAFETY: as in `ask!`.
+        let number = unsafe {
+            let (view, words, slot) = (view.as_ptr(), VIEW_WORDS, slot.as_mut_ptr());
+            ffi::story_image_page(bytes.as_ptr(), bytes.len(), view, words, &node, 1, slot, SLOT_WORDS)
+        };
+        (number == 0 && slot[2] != 0).then_some(slot)
+    }
+
+    /// The node that a choice, a divert, a divert-target value or a read count names, and which of these names it.
+    pub fn target(&self, node: u32) -> Option<(By, u32)> {
+        let [_, _, tag, _, _, f2, _, f4, ..] = self.slot(node)?;
+        let (by, target) = match tag {
+            kind::CHOICE => (By::Choice, f2),
+            kind::DIVERT => (By::Divert, f2),
+            kind::DIVERT_TARGET => (By::DivertTarget, f2),
+            kind::REFERENCE => (By::ReadCount, f4),
+            _ => return None,
+        };
+        Some((by, optional(target)?))
+    }
+
+    /// The path text of a choice, which its view leaves out.
+    pub fn choice_path(&self, node: u32) -> Option<&'a str> {
+        let [_, _, tag, offset, length, ..] = self.slot(node)?;
+        if tag == kind::CHOICE { self.text(offset, length) } else { None }
+    }
+
+    pub fn child(&self, node: u32, index: u32) -> Option<u32> {
+        let [child] = ask!(self, story_image_child_at, node, index)?;
+        Some(child)
+    }
+
     pub fn children(&self, node: u32) -> Vec<u32> {
         let [count] = ask!(self, story_image_child_count, node).unwrap_or([0]);
-        let child = |index| {
-            let [child] = ask!(self, story_image_child_at, node, index)?;
-            Some(child)
-        };
-        (0..count).filter_map(child).collect()
+        (0..count).filter_map(|index| self.child(node, index)).collect()
     }
 
     pub fn named_children(&self, node: u32) -> Vec<(&'a str, u32)> {

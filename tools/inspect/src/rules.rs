@@ -1,6 +1,7 @@
 //! The rules of a load, in the order in which they are tested, each with the place where it is broken.
 //!
-//! Written from docs/FORMAT.md and docs/DECISIONS.md, apart from the library. One function a rule; the file names the
+//! Written from docs/FORMAT.md and docs/DECISIONS.md, apart from the library; only the names of kinds, commands and
+//! operators are the wrapper's. One function a rule; the file names the
 //! rows: `header` 1 to 5, `checksum` 6, `records` 8 to 13, `tree` 14 and 15, `index` 16, `definitions` 17. (A row that
 //! says of a text, node or range what an earlier row says of others gives that row's number.) Row 7, too few work
 //! words, is of a call, not of an image.
@@ -10,12 +11,12 @@ mod definitions;
 mod header;
 mod index;
 pub mod kinds;
-pub mod names;
 pub mod place;
 mod records;
 pub mod sections;
 mod tree;
 
+pub use header::VERSION as FORMAT_VERSION;
 pub use place::{Broken, Part, Place};
 
 /// All rules by number and name, in the order in which they are tested first.

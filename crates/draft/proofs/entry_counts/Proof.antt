@@ -1,6 +1,4 @@
 -- `draft::entry_counts` meets its contract.
-use Prim.Native.Nat.{ℕ}
-use mathlib.Core.Path.{ap}
 use borrow.Author.Needs.{needs}
 use Rattle.draft.proofs.entry_counts.Statement.{statement}
 use Rattle.draft.proofs.entry_counts.Tie as tie

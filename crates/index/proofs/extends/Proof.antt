@@ -1,14 +1,17 @@
 -- `index::extends` meets its contract.
 use Prim.Native.Nat.{ℕ, _+_}
-use mathlib.Core.Path.{sym, _∙_}
+use mathlib.Core.Path.{refl, sym, _∙_}
 use mathlib.Core.List.{List}
-use mathlib.Core.Bool.{true≢false}
+use mathlib.Core.Bool.{true, false}
 use native.Mathlib.Omega.{arith}
+use lib.ListN.{length}
 use lib.Seq.{length-take-le}
-use borrow.Author.Tests.{not-false}
+use borrow.Author.Tests.{le-ltb, lt-ltb, eq-eqb, ne-eqb, not-true, not-false}
 use Rattle.laws.proofs.Lists.{to-end}
-use Rattle.texts.proofs.Text.{same-equal}
-use Rattle.index.proofs.Extended.{Seen, seen-extends, front-shared}
+use Rattle.words.specs.Words.{NONE}
+use Rattle.texts.specs.Dots.{dot}
+use Rattle.texts.proofs.Text.{equal-same}
+use Rattle.index.proofs.Extended.{Seen, extends-tests, extends-absent, text-given, seen-decides, front-shared}
 use denote.Ref.{now}
 use borrow.Author.Needs.{needs}
 use Rattle.index.proofs.extends.Statement.{statement}
@@ -31,8 +34,7 @@ module _ (c : tie.Else6) where
   seen : Seen (start .args .strings .now) (start .args .above) (start .args .entry) (start .args .node) text
   seen =
       record {
-        offset-given = sized .before .before .before .before .before .if1 .left;
-        length-given = sized .before .before .before .if2 .left;
+        given = text-given _ _ (sized .before .before .before .before .before .if1 .left) (sized .before .before .before .if2 .left);
         read = sized .before .before .text-part .ensures;
         longer = omega (arith, sized .if3 .left);
         dotted = c .before .before .before .before .before .before .if4 .left;
@@ -41,10 +43,12 @@ module _ (c : tie.Else6) where
       }
 
 returns : tie.Need-returns
-returns c = λ e. absurd (true≢false (sym e))
+returns c = let at : tie.Start = search in extends-absent _ _ (at .args .entry) _ (rw (eq-eqb (at .args .entry .offset) NONE (c .if1 .taken)))
 
 returns-2 : tie.Need-returns-2
-returns-2 c = λ e. absurd (true≢false (sym e))
+returns-2 c =
+    let at : tie.Start = search in
+    extends-absent _ _ (at .args .entry) _ (rw (ne-eqb (at .args .entry .offset) NONE (c .before .before .if1 .left), eq-eqb (at .args .entry .len) NONE (c .if2 .taken)))
 
 text-part-requires : tie.Need-text-part-requires
 text-part-requires c κs = search needs
@@ -53,13 +57,20 @@ cast-size : tie.Need-cast-size
 cast-size c = search needs
 
 returns-3 : tie.Need-returns-3
-returns-3 c = λ e. absurd (true≢false (sym e))
+returns-3 c =
+    let at = c .before .before .before .before .before .before .before .before .args in
+    let read = c .before .before .text-part in
+    extends-tests (at .strings .now) (at .above) (at .entry) (at .node) (now (read .result)) (read .ensures) true false _ _ _ _ (sym (text-given _ _ (c .before .before .before .before .before .if1 .left) (c .before .before .before .if2 .left))) (sym (le-ltb _ _ (c .if3 .taken))) refl refl refl refl
 
 shared-slice-read-if4 : tie.Need-shared-slice-read-if4
 shared-slice-read-if4 c = search needs
 
 returns-4 : tie.Need-returns-4
-returns-4 c = λ e. absurd (true≢false (sym e))
+returns-4 c =
+    let at = c .before .before .before .before .before .before .before .before .before .before .args in
+    let read = c .before .before .before .before .text-part in
+    extends-tests (at .strings .now) (at .above) (at .entry) (at .node) (now (read .result)) (read .ensures) true true false _ _ _ (sym (text-given _ _ (c .before .before .before .before .before .before .before .if1 .left) (c .before .before .before .before .before .if2 .left)))
+    (sym (lt-ltb (at .above .len) (length (now (read .result))) (omega (arith, c .before .before .if3 .left)))) (sym (ne-eqb _ dot (c .if4 .taken))) refl refl refl
 
 add-is-piece : tie.Need-add-is-piece
 add-is-piece c = search needs
@@ -77,7 +88,12 @@ is-piece-requires : tie.Need-is-piece-requires
 is-piece-requires c κs = search needs
 
 returns-5 : tie.Need-returns-5
-returns-5 c = λ e. absurd (true≢false (sym e))
+returns-5 c =
+    let at = c .before .before .before .before .before .before .before .before .before .before .before .before .before .args in
+    let read = c .before .before .before .before .before .before .before .text-part in
+    extends-tests (at .strings .now) (at .above) (at .entry) (at .node) (now (read .result)) (read .ensures) true true true false _ _ (sym (text-given _ _ (c .before .before .before .before .before .before .before .before .before .before .if1 .left) (c .before .before .before .before .before .before .before .before .if2 .left)))
+    (sym (lt-ltb (at .above .len) (length (now (read .result))) (omega (arith, c .before .before .before .before .before .if3 .left)))) (sym (eq-eqb _ dot (c .before .before .before .if4 .left)))
+    (sym (not-true (c .before .is-piece .result) (c .if5 .taken)) ∙ rw (to-end (at .above .len + 1) (now (read .result))) at (c .before .is-piece .ensures)) refl refl
 
 add-good-bytes : tie.Need-add-good-bytes
 add-good-bytes c = search needs
@@ -95,10 +111,16 @@ good-bytes-requires : tie.Need-good-bytes-requires
 good-bytes-requires c κs = search needs
 
 returns-6 : tie.Need-returns-6
-returns-6 c = λ e. absurd (true≢false (sym e))
+returns-6 c =
+    let at = c .before .before .before .before .before .before .before .before .before .before .before .before .before .before .before .before .args in
+    let read = c .before .before .before .before .before .before .before .before .before .before .text-part in
+    extends-tests (at .strings .now) (at .above) (at .entry) (at .node) (now (read .result)) (read .ensures) true true true true false _ (sym (text-given _ _ (c .before .before .before .before .before .before .before .before .before .before .before .before .before .if1 .left) (c .before .before .before .before .before .before .before .before .before .before .before .if2 .left)))
+    (sym (lt-ltb (at .above .len) (length (now (read .result))) (omega (arith, c .before .before .before .before .before .before .before .before .if3 .left)))) (sym (eq-eqb _ dot (c .before .before .before .before .before .before .if4 .left)))
+    (sym (not-false (c .before .before .before .before .is-piece .result) (c .before .before .before .if5 .left)) ∙ rw (to-end (at .above .len + 1) (now (read .result))) at (c .before .before .before .before .is-piece .ensures))
+    (sym (not-true (c .before .good-bytes .result) (c .if6 .taken)) ∙ rw (to-end (at .above .len + 1) (now (read .result))) at (c .before .good-bytes .ensures)) refl
 
 returns-7 : tie.Need-returns-7
-returns-7 c = λ e. let x = seen (c .before .before .before) in seen-extends x (front-shared x (c .if7 .taken))
+returns-7 c = let x = seen (c .before .before .before) in seen-decides x true (sym (equal-same _ _ (front-shared x (c .if7 .taken))))
 
 slice-aggregate-equal : tie.Need-slice-aggregate-equal
 slice-aggregate-equal c =
@@ -113,7 +135,7 @@ equal-requires : tie.Need-equal-requires
 equal-requires c κs = search needs
 
 returns-8 : tie.Need-returns-8
-returns-8 c = λ e. let x = seen (c .before .before .before .before .before .before) in seen-extends x (same-equal _ _ (sym (c .equal .ensures) ∙ e) ∙ c .before .text-bytes .ensures)
+returns-8 c = let x = seen (c .before .before .before .before .before .before) in seen-decides x (c .equal .result) (rw (c .before .text-bytes .ensures) at (c .equal .ensures))
 
 pub extends-spec : {M : Type 1} → statement M
 extends-spec =

@@ -1,4 +1,5 @@
--- `index::index_rule` meets its contract. The invariant: no entry so far is refused, and the words past the nodes stay.
+-- `index::index_rule` meets its contract. The invariant: no entry so far is refused, the words of their targets hold their numbers, and the words past the
+-- nodes stay.
 use Prim.Native.Nat.{_≤_, _<_, _-_, _/_}
 use mathlib.Core.Path.{_≡_, refl, sym, _∙_}
 use mathlib.Core.List.{[]}
@@ -7,10 +8,12 @@ use lib.ListN.{length, drop, length-set}
 use lib.Seq.{drop-set-lt}
 use Rattle.image.specs.Sections.{Sections, textEntrySize, nodeCount}
 use Rattle.laws.specs.Refusal.{firstOf}
+use Rattle.words.specs.Words.{wordsOf}
 use Rattle.index.specs.Index.{indexEntryRule}
 use Rattle.index.specs.Parts.{indexParts}
+use Rattle.index.specs.Extended.{Filed}
 use Rattle.index.proofs.Readers.{index-run}
-use Rattle.index.proofs.Extended.{climbs-like, target-below}
+use Rattle.index.proofs.Extended.{climbs-like, target-below, none-filed, entry-filed}
 use Rattle.laws.proofs.Chains.{first-broken, first-done}
 use Rattle.laws.proofs.RuleRuns.{run-starts, run-goes}
 use borrow.Author.Needs.{needs}
@@ -21,6 +24,7 @@ abbrev Inv-loop : tie.InvT-loop
 Inv-loop nodes index strings work₀ version count j₀ work j =
     (j ≤ count) × (firstOf j (indexEntryRule (indexParts version nodes index strings)) ≡ 0) × (length work ≡ length work₀)
     × (drop (nodeCount (indexParts version nodes [] [])) work ≡ drop (nodeCount (indexParts version nodes [] [])) work₀)
+    × Filed (wordsOf index) work j
 
 abbrev μ-loop : tie.MeasureT-loop
 μ-loop nodes index strings work₀ version count j₀ work j = count - j
@@ -42,12 +46,12 @@ entry-below c =
 loop-holds : tie.Need-loop-holds Inv-loop μ-loop
 loop-holds c =
     let at = c .before .before .before .before .args in
-    (search needs, run-starts (indexEntryRule (indexParts (at .version) (at .nodes .now) (at .index .now) (at .strings .now))), refl, refl)
+    (search needs, run-starts (indexEntryRule (indexParts (at .version) (at .nodes .now) (at .index .now) (at .strings .now))), refl, refl, none-filed _ _)
 
 next-entry-rule-requires : tie.Need-next-entry-rule-requires Inv-loop μ-loop
 next-entry-rule-requires c κs =
     let at = c .before .before .before .before .before .before .before in
-    (search needs, record { climbs = climbs-like (bare at) (whole at) refl refl (at .pre .0); passed = c .before .before .loop .inv .1 })
+    (search needs, (record { climbs = climbs-like (bare at) (whole at) refl refl (at .pre .0); passed = c .before .before .loop .inv .1 }, c .before .before .loop .inv .4))
 
 same-length : tie.Need-same-length Inv-loop μ-loop
 same-length c = search needs
@@ -89,11 +93,15 @@ loop-less c = search needs
 loop-again : tie.Need-loop-again Inv-loop μ-loop
 loop-again c =
     let at = c .before .before .before .before .before .before .before .before .before .before .before in
-    let here = c .before .before .before .before .before .before .loop in (
+    let here = c .before .before .before .before .before .before .loop in
+    let passed = run-goes (here .j) (c .before .before .before .next-entry-rule .result) (indexEntryRule (whole at)) (here .inv .1) (c .before .before .before .next-entry-rule .ensures) (c .before .before .if1 .left) in
+    let low = entry-below c in
+    let room = at .pre .1 in (
       search needs,
-      run-goes (here .j) (c .before .before .before .next-entry-rule .result) (indexEntryRule (whole at)) (here .inv .1) (c .before .before .before .next-entry-rule .ensures) (c .before .before .if1 .left),
+      passed,
       length-set (here .work) _ _ ∙ here .inv .2,
       drop-set-lt (nodeCount (bare at)) (here .work) (c .before .text-entry .result .value) _ (entry-below c) ∙ here .inv .3,
+      entry-filed (at .args .version) (at .args .nodes .now) (at .args .index .now) (at .args .strings .now) (here .j) passed (here .work) (c .before .text-entry .result) (c .before .text-entry .ensures) (omega (arith, here .inv .2)) (here .inv .4),
     )
 
 same-length-2 : tie.Need-same-length-2 Inv-loop μ-loop

@@ -5,7 +5,7 @@ use Rattle.laws.specs.Refusal.{unless}
 use Rattle.words.specs.Words.{wordsOf}
 use Rattle.index.specs.Parts.{indexParts}
 use Rattle.index.proofs.Readers.{index-texts}
-use Rattle.index.proofs.Extended.{extended-rule, extended-next}
+use Rattle.index.proofs.Extended.{extended-found, extended-rule, extended-next}
 use borrow.Author.Needs.{needs}
 use Rattle.index.proofs.next_entry_rule.Statement.{statement}
 use Rattle.index.proofs.next_entry_rule.Tie as tie
@@ -23,7 +23,10 @@ add-if2 : tie.Need-add-if2
 add-if2 c = search needs
 
 returns-2 : tie.Need-returns-2
-returns-2 c = sym (extended-next (c .before .before .extended-entry .ensures .1 (omega arith)) (c .if2 .taken))
+returns-2 c =
+    let at : tie.Start = search in
+    let answer = c .before .before .extended-entry in
+    sym (extended-next (extended-found _ (at .args .j) (at .pre .1 .0) (at .args .work .now) (answer .result) (answer .ensures) (omega arith)) (c .if2 .taken))
 
 entry-rises-requires : tie.Need-entry-rises-requires
 entry-rises-requires c κs = search needs
@@ -31,18 +34,20 @@ entry-rises-requires c κs = search needs
 returns-3 : tie.Need-returns-3
 unfolding unless
 returns-3 c =
-    let at = c .before .before .before .before .before .before .before .before .before .args in
-    let s = indexParts (at .version) (at .nodes .now) (at .index .now) (at .strings .now) in
-    sym (extended-rule (c .before .before .before .before .extended-entry .ensures .1 (omega arith))
-    ∙ rw (← index-texts s (wordsOf (at .index .now)) refl (at .j), ← c .before .entry-rises .ensures, c .if3 .taken))
+    let at : tie.Start = search in
+    let s = indexParts (at .args .version) (at .args .nodes .now) (at .args .index .now) (at .args .strings .now) in
+    let answer = c .before .before .before .before .extended-entry in
+    sym (extended-rule (extended-found s (at .args .j) (at .pre .1 .0) (at .args .work .now) (answer .result) (answer .ensures) (omega arith))
+    ∙ rw (← index-texts s (wordsOf (at .args .index .now)) refl (at .args .j), ← c .before .entry-rises .ensures, c .if3 .taken))
 
 returns-4 : tie.Need-returns-4
 unfolding unless
 returns-4 c =
-    let at = c .before .before .before .before .before .before .before .before .before .args in
-    let s = indexParts (at .version) (at .nodes .now) (at .index .now) (at .strings .now) in
-    sym (extended-rule (c .before .before .before .before .extended-entry .ensures .1 (omega arith))
-    ∙ rw (← index-texts s (wordsOf (at .index .now)) refl (at .j), ← c .before .entry-rises .ensures, c .if3 .left))
+    let at : tie.Start = search in
+    let s = indexParts (at .args .version) (at .args .nodes .now) (at .args .index .now) (at .args .strings .now) in
+    let answer = c .before .before .before .before .extended-entry in
+    sym (extended-rule (extended-found s (at .args .j) (at .pre .1 .0) (at .args .work .now) (answer .result) (answer .ensures) (omega arith))
+    ∙ rw (← index-texts s (wordsOf (at .args .index .now)) refl (at .args .j), ← c .before .entry-rises .ensures, c .if3 .left))
 
 pub next-entry-rule-spec : {M : Type 1} → statement M
 next-entry-rule-spec =

@@ -5,10 +5,10 @@ use Rattle.replay.proofs.print_counts.Statement.{statement}
 use Rattle.replay.proofs.print_counts.Tie as tie
 
 abbrev Inv-loop : tie.InvT-loop
-Inv-loop counts kind₀ kind = kind ≤ 21
+Inv-loop counts kind₀ kind = kind ≤ 22
 
 abbrev μ-loop : tie.MeasureT-loop
-μ-loop counts kind₀ kind = 21 - kind
+μ-loop counts kind₀ kind = 22 - kind
 
 loop-holds : tie.Need-loop-holds Inv-loop μ-loop
 loop-holds c = search needs

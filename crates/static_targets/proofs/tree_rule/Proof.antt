@@ -1,9 +1,9 @@
 -- `static_targets::tree_rule` meets its contract.
-use mathlib.Core.Path.{_∙_}
+use mathlib.Core.Path.{sym, _∙_}
 use mathlib.Core.List.{[]}
 use borrow.Author.Needs.{needs}
-use borrow.Author.Tests.{not-true, not-false}
-use Rattle.static_targets.proofs.Steps.{shape-asks, tree-asks, stands-right, number-asks, unreached, shape-decides}
+use borrow.Author.Tests.{eqb-true, not-true, not-false}
+use Rattle.static_targets.proofs.Steps.{shape-asks, tree-asks, number-asks, unreached, shape-decides}
 use Rattle.static_targets.proofs.tree_rule.Statement.{statement}
 use Rattle.static_targets.proofs.tree_rule.Tie as tie
 
@@ -17,9 +17,7 @@ same-length : tie.Need-same-length
 same-length c = search needs
 
 returns : tie.Need-returns
-returns c =
-    let to = c .before .before .before .before .before .before .before .before .before .before .before .before .before .before .args in
-    stands-right (to .source .version) (to .nodes .now) (to .children .now) (to .named .now) (to .definitions .now) (to .items .now) (to .payload .now) (to .strings .now) (to .paths .now) [] [] (c .before .before .before .before .before .before .before .before .before .before .before .before .before .before .pre .0) (c .before .before .before .stands .ensures (c .if1 .taken))
+returns c = sym (eqb-true _ 0 (sym (c .before .before .before .stands .ensures) ∙ c .if1 .taken))
 
 node-count-requires : tie.Need-node-count-requires
 node-count-requires c κs = search needs

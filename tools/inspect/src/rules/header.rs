@@ -4,7 +4,7 @@ use super::place::Broken;
 use super::sections::{HEADER, Image, Section, word_at};
 
 const MAGIC: &[u8; 8] = b"BLINKIMG";
-const VERSION: u32 = 2;
+pub const VERSION: u32 = 2;
 
 /// All of them; then every section lies inside the bytes.
 pub fn rules(bytes: &[u8]) -> Result<Image<'_>, Broken> {

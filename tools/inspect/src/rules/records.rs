@@ -2,10 +2,10 @@
 
 use super::Rule;
 use super::kinds::{Field, kind_of};
-use super::names::{COMMANDS, OPERATORS};
 use super::place::{Broken, Part, Place, quoted};
 use super::sections::Section::*;
 use super::sections::{F, Image, NONE, PARENT, PLACE, Section, TAG, Word, shown, word_at};
+use story_image::{CommandType, Op};
 
 pub fn rules(image: &Image<'_>) -> Rule {
     root(image)?;
@@ -92,8 +92,8 @@ fn field_rule(image: &Image<'_>, node: usize, name: &str, field: Field, before: 
             Ok(_) => Ok(()),
             Err(why) => Err(bad_text(image, node, k, name, why)),
         },
-        Field::Command(k) => known(image, node, k, "command", &COMMANDS),
-        Field::Operator(k) => known(image, node, k, "operator", &OPERATORS),
+        Field::Command(k) => known(image, node, k, "command", CommandType::NAMES),
+        Field::Operator(k) => known(image, node, k, "operator", Op::NAMES),
         Field::Node(k) => inside(image, word(k), Word::new(Nodes, node, F + k, &label(k))).map(|_| ()),
         Field::Container(k) => container(image, word(k), Word::new(Nodes, node, F + k, &label(k))),
         Field::OptionalNode(k) | Field::OptionalContainer(k) if word(k) == NONE => Ok(()),

@@ -1,6 +1,6 @@
 -- `draft::path_list::entry_right` meets its contract.
 use borrow.Author.Needs.{needs}
-use Rattle.draft.proofs.PathLists.{right-outside, right-twice, right-flag, right-last}
+use Rattle.draft.proofs.PathLists.{right-outside, right-flag, right-last}
 use Rattle.draft.proofs.path_list.entry_right.Statement.{statement}
 use Rattle.draft.proofs.path_list.entry_right.Tie as tie
 
@@ -13,14 +13,8 @@ is-inside-requires c κs = search needs
 returns : tie.Need-returns
 returns c = right-outside _ _ _ _ _ (c .before .before .entry-at .ensures) _ (c .before .is-inside .ensures) (c .if1 .taken)
 
-is-new-requires : tie.Need-is-new-requires
-is-new-requires c κs = search needs
-
 returns-2 : tie.Need-returns-2
-returns-2 c = let at = c .before .before .before in right-twice _ _ _ _ _ (at .before .entry-at .ensures) _ (at .is-inside .ensures) (c .before .before .if1 .left) _ (c .before .is-new .ensures) (c .if2 .taken)
-
-returns-3 : tie.Need-returns-3
-returns-3 c = let new = c .before .before .before in let at = new .before .before in right-flag _ _ _ _ _ (at .before .entry-at .ensures) _ (at .is-inside .ensures) (new .before .if1 .left) _ (new .is-new .ensures) (c .before .before .if2 .left) (c .if3 .taken)
+returns-2 c = let at = c .before .before .before in right-flag _ _ _ _ _ (at .before .entry-at .ensures) _ (at .is-inside .ensures) (c .before .before .if1 .left) (c .if2 .taken)
 
 cast-result : tie.Need-cast-result
 cast-result c = search needs
@@ -31,8 +25,8 @@ cast-result-2 c = search needs
 add-result : tie.Need-add-result
 add-result c = search needs
 
-returns-4 : tie.Need-returns-4
-returns-4 c = let new = c .before .before .before .before .before in let at = new .before .before in right-last _ _ _ _ _ (at .before .entry-at .ensures) _ (at .is-inside .ensures) (new .before .if1 .left) _ (new .is-new .ensures) (c .before .before .before .before .if2 .left) (c .before .before .if3 .left)
+returns-3 : tie.Need-returns-3
+returns-3 c = let at = c .before .before .before .before .before in right-last _ _ _ _ _ (at .before .entry-at .ensures) _ (at .is-inside .ensures) (c .before .before .before .before .if1 .left) (c .before .before .if2 .left)
 
 pub entry-right-spec : {M : Type 1} → statement M
 entry-right-spec =
@@ -41,10 +35,8 @@ entry-right-spec =
     entry-at-requires
     is-inside-requires
     returns
-    is-new-requires
     returns-2
-    returns-3
     cast-result
     cast-result-2
     add-result
-    returns-4)
+    returns-3)

@@ -7,7 +7,7 @@ use Rattle.draft.proofs.path_list.next_hint.Statement.{statement}
 use Rattle.draft.proofs.path_list.next_hint.Tie as tie
 
 returns : tie.Need-returns
-returns c = hint-silent _ _ (c .before .before .before .args .hint) (not-true _ (c .if1 .taken))
+returns c = let to = c .before .before .before in hint-silent _ _ _ (to .args .hint) (to .pre) (not-true _ (c .if1 .taken))
 
 is-of-requires : tie.Need-is-of-requires
 is-of-requires c κs = search needs

@@ -3,18 +3,17 @@ use Prim.Native.Nat.{_≤_, _-_}
 use mathlib.Core.Path.{_≡_, refl, sym, _∙_}
 use mathlib.Core.Logic.{⊎-elim}
 use mathlib.Core.List.{[]}
-use mathlib.Core.Bool.{true≢false}
 use native.Mathlib.Omega.{arith}
 use borrow.Author.Needs.{needs}
-use borrow.Author.Tests.{not-false, eqb-true}
+use borrow.Author.Tests.{not-false, eqb-true, eq-eqb}
 use Rattle.laws.specs.Refusal.{firstOf}
-use Rattle.laws.proofs.First.{first-all}
 use Rattle.laws.proofs.Chains.{first-done}
 use Rattle.laws.proofs.RuleRuns.{run-starts, run-goes}
 use Rattle.image.proofs.Widths.{words-some}
 use Rattle.tree.specs.Tree.{entriesRule}
 use Rattle.draft.specs.Source.{draftOf}
 use Rattle.draft.proofs.NodeCount.{below-count, upto-count, past-count}
+use Rattle.draft.proofs.Runs.{passes-stops}
 use Rattle.draft.proofs.Relations.{plain-entries}
 use Rattle.draft.proofs.shape.entries_right.Statement.{statement}
 use Rattle.draft.proofs.shape.entries_right.Tie as tie
@@ -45,7 +44,11 @@ node-entries-right-requires : tie.Need-node-entries-right-requires Inv-loop μ-l
 node-entries-right-requires c κs = ((c .before .before .before .before .before .before .before .before .before .before .pre, below-count _ _ (c .before .before .before .before .before .node-count .ensures) _ (c .before .before .before .loop-test .taken)), c .node-at .ensures)
 
 returns : tie.Need-returns Inv-loop μ-loop
-returns c = λ e. absurd (true≢false (sym e))
+returns c =
+    let at : tie.Start Inv-loop μ-loop = search in
+    passes-stops _ _ (entriesRule (draftOf (at .args .source .version) (at .args .nodes .now) (at .args .children .now) (at .args .named .now) [] [] [] (at .args .strings .now)))
+    (c .before .node-entries-right .result) (below-count _ _ (c .before .before .before .before .before .before .before .node-count .ensures) _ (c .before .before .before .before .before .loop-test .taken))
+    (c .before .node-entries-right .ensures) (c .if2 .taken)
 
 add-i : tie.Need-add-i Inv-loop μ-loop
 add-i c = search needs
@@ -64,7 +67,7 @@ loop-again c =
 returns-2 : tie.Need-returns-2 Inv-loop μ-loop
 returns-2 c =
     let count = c .before .before .node-count .ensures in
-    λ e. first-all _ _ (sym (first-done _ _ _ (upto-count _ _ count _ (c .before .loop .inv .0)) (past-count _ _ count _ (c .loop-test .left)) (c .before .loop .inv .1)))
+    sym (eq-eqb _ 0 (sym (first-done _ _ _ (upto-count _ _ count _ (c .before .loop .inv .0)) (past-count _ _ count _ (c .loop-test .left)) (c .before .loop .inv .1))))
 
 pub entries-right-spec : {M : Type 1} → statement M
 entries-right-spec =

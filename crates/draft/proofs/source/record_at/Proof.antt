@@ -1,5 +1,4 @@
 -- `draft::source::record_at` meets its contract.
-use Prim.Native.Nat.{ℕ}
 use Rattle.image.specs.Entries.{recordOf}
 use borrow.Author.Needs.{needs}
 use Rattle.draft.proofs.source.record_at.Statement.{statement}

@@ -6,7 +6,7 @@ use mathlib.Core.List.{[]}
 use borrow.Author.Needs.{needs}
 use Rattle.laws.specs.Refusal.{firstOf}
 use Rattle.laws.proofs.RuleRuns.{run-starts, sum-starts, run-goes}
-use Rattle.index.specs.Definitions.{itemsBefore}
+use Rattle.definitions.specs.Definitions.{itemsBefore}
 use Rattle.draft.specs.Source.{draftOf}
 use Rattle.draft.specs.Draft.{draftDefinitionRule}
 use Rattle.draft.proofs.EntryTables.{definition-told, used-next, definitions-stop, items-used, items-left}

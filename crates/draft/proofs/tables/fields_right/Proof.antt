@@ -1,7 +1,7 @@
 -- `draft::tables::fields_right` meets its contract.
-use mathlib.Core.Path.{sym, _∙_}
+use mathlib.Core.Path.{ap}
 use borrow.Author.Needs.{needs}
-use Rattle.draft.proofs.NodeTable.{fields-free, fields-own}
+use Rattle.laws.specs.Refusal.{passes}
 use Rattle.draft.proofs.tables.fields_right.Statement.{statement}
 use Rattle.draft.proofs.tables.fields_right.Tie as tie
 
@@ -9,13 +9,13 @@ follower-right-requires : tie.Need-follower-right-requires
 follower-right-requires c κs = search needs
 
 returns : tie.Need-returns
-returns c = λ s g i sums node entries follow. fields-free s _ _ _ _ g i _ node entries (sym follow ∙ c .before .if1 .taken) _ (c .follower-right .ensures)
+returns c = rw (c .before .if1 .taken) (c .follower-right .ensures)
 
 own-rule-requires : tie.Need-own-rule-requires
 own-rule-requires c κs = search needs
 
 returns-2 : tie.Need-returns-2
-returns-2 c = λ s g i sums node entries follow. fields-own s _ _ _ _ g i _ node entries _ sums (sym follow ∙ c .before .if1 .left) _ (c .own-rule .ensures)
+returns-2 c = rw (c .before .if1 .left) (ap passes (c .own-rule .ensures))
 
 pub fields-right-spec : {M : Type 1} → statement M
 fields-right-spec =

@@ -1,7 +1,7 @@
 -- `draft_tree::listed::all_ones` meets its contract. The invariant: the words before `i` are marked.
 use Prim.Native.Nat.{ℕ, _<_, _-_}
 use native.Mathlib.Omega.{arith}
-use mathlib.Core.Path.{_≡_, sym}
+use mathlib.Core.Path.{_≡_, refl, sym}
 use mathlib.Core.Bool.{true≢false}
 use lib.ListN.{getD}
 use Rattle.draft_tree.proofs.Marks.{ones-more, ones-all}
@@ -25,7 +25,10 @@ shared-slice-read-if1 : tie.Need-shared-slice-read-if1 Inv-loop μ-loop
 shared-slice-read-if1 c = search needs
 
 returns : tie.Need-returns Inv-loop μ-loop
-returns c = λ e. absurd (true≢false (sym e))
+returns c = (
+  λ e. absurd (true≢false (sym e)),
+  λ all. absurd (c .if1 .taken (all (c .before .before .before .loop .i) (c .before .before .before .loop .inv .0) (c .before .before .loop-test .taken))),
+)
 
 add-i : tie.Need-add-i Inv-loop μ-loop
 add-i c = search needs
@@ -37,7 +40,7 @@ loop-again : tie.Need-loop-again Inv-loop μ-loop
 loop-again c = (search needs, ones-more (c .before .before .before .before .args .work .now) _ (c .before .before .before .loop .inv .1) (c .if1 .left))
 
 returns-2 : tie.Need-returns-2 Inv-loop μ-loop
-returns-2 c = λ e. ones-all (c .before .before .args .work .now) _ (c .before .loop .inv .1) _ (c .loop-test .left)
+returns-2 c = (λ e. ones-all (c .before .before .args .work .now) _ (c .before .loop .inv .1) _ (c .loop-test .left), λ all. refl)
 
 pub all-ones-spec : {M : Type 1} → statement M
 all-ones-spec =

@@ -1,0 +1,4 @@
+pub mod OneOf
+pub mod Loads
+pub mod Drafts
+pub mod Numbers

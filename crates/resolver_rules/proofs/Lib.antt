@@ -1,0 +1,5 @@
+pub mod Paths
+pub mod Tests
+pub mod Targets
+pub mod DivertEnds
+pub mod ResolverRules
