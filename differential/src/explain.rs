@@ -1,4 +1,4 @@
-//! The place finder of `image-check --explain` against the proved load: on every image of the comparison both give the
+//! The place finder of `story-image explain` against the proved load: on every image of the comparison both give the
 //! same number, and the place lies inside the image.
 
 use crate::corpus::{self, Visitor};
