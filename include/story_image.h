@@ -326,6 +326,14 @@ uint32_t story_image_resolve_path(const uint8_t *bytes, size_t length, const uin
                                   uint32_t origin, bool relative, const uint32_t *path, size_t path_length,
                                   const uint8_t *names, size_t names_length, uint32_t *answer, size_t answer_length);
 
+/* STORY_IMAGE_COUNT_WORDS words, of the bytes alone: the image's total length and the length of its string section, in
+ * bytes, and its checksum, as the header has them. Or 18: fewer than STORY_IMAGE_HEADER_BYTES bytes, or no word for the
+ * answer, which stays as it was. On accepted bytes they are the number of bytes, the count of the strings in the view,
+ * and the CRC-32 of all bytes but the checksum's own. The sleeper's reader has none of these calls. */
+uint32_t story_image_total_length(const uint8_t *bytes, size_t length, uint32_t *answer, size_t answer_length);
+uint32_t story_image_strings_length(const uint8_t *bytes, size_t length, uint32_t *answer, size_t answer_length);
+uint32_t story_image_checksum(const uint8_t *bytes, size_t length, uint32_t *answer, size_t answer_length);
+
 /* The text of a command's, of an operator's number at the start of `text`, and its length as the first word of `size`;
  * STORY_IMAGE_NAME_BYTES bytes suffice, and no byte 0 is written behind it. 0; 18 for a number that is none; 23 where
  * text or size is too short. But for 0 both stay as they were. */
@@ -574,6 +582,25 @@ static inline uint32_t story_image_resolve_path_in(const struct story_image *ima
     return story_image_resolve_path(STORY_IMAGE_LENT_IMAGE, origin, relative, story_image_lent_words(path, path_length),
                                     path_length, story_image_lent_bytes(names, names_length), names_length, answer,
                                     STORY_IMAGE_FOUND_WORDS);
+}
+
+/* Of the bytes alone: the image need not be loaded. */
+static inline uint32_t story_image_total_length_in(const struct story_image *image,
+                                                   uint32_t answer[STORY_IMAGE_COUNT_WORDS]) {
+    return story_image_total_length(story_image_lent_bytes(image->bytes, image->length), image->length, answer,
+                                    STORY_IMAGE_COUNT_WORDS);
+}
+
+static inline uint32_t story_image_strings_length_in(const struct story_image *image,
+                                                     uint32_t answer[STORY_IMAGE_COUNT_WORDS]) {
+    return story_image_strings_length(story_image_lent_bytes(image->bytes, image->length), image->length, answer,
+                                      STORY_IMAGE_COUNT_WORDS);
+}
+
+static inline uint32_t story_image_checksum_in(const struct story_image *image,
+                                               uint32_t answer[STORY_IMAGE_COUNT_WORDS]) {
+    return story_image_checksum(story_image_lent_bytes(image->bytes, image->length), image->length, answer,
+                                STORY_IMAGE_COUNT_WORDS);
 }
 
 static inline size_t story_image_draft_write_words(const struct story_image_draft *draft) {

@@ -4,6 +4,7 @@ pub mod node; // node.rt: a node's view, its depth, texts
 pub mod page; // page.rt: a page of nodes, the view of a slot's words
 pub mod children; // children.rt: ordered and named children
 pub mod lists; // lists.rt: list values, definitions, items
+pub mod header_words; // header_words.rt: total length, length of the strings, checksum
 pub mod walk; // walk.rt: walks along a path
 pub mod resolve; // resolve.rt: targets of a draft found from paths
 pub mod write; // write.rt: writing an image
