@@ -36,7 +36,7 @@ module _ (bs : List ℕ) (a : Opened) (e : a ≡ openedOf bs) where
 
 -- ---- 7 is no other rule's number
 
-pub Other : ℕ → Type 0
+unfoldable pub Other : ℕ → Type 0
 Other r = r ≡ 7 → ⊥
 
 module _ (k : ℕ) (d : k ≡ 7 → ⊥) where

@@ -8,7 +8,7 @@ use lib.Dec.{leb}
 use Rattle.image.specs.declared.Section.{Section}
 use Rattle.image.specs.declared.ImageView.{ImageView}
 use Rattle.image.specs.Header.{version}
-pub use Rattle.answers.specs.Lent.{writtenAfter}
+unfoldable pub use Rattle.answers.specs.Lent.{writtenAfter}
 
 abbrev sectionThen : Section → List ℕ → List ℕ
 sectionThen s ws = s .offset ∷ s .count ∷ ws

@@ -8,7 +8,7 @@ use lib.Dec.{leb}
 use Rattle.image.specs.Sections.{Sections}
 use Rattle.image.specs.Refusals.{tooFewWords}
 use Rattle.load.specs.Load.{loadRule}
-pub use Rattle.load.specs.Needed.{wordsToLoad}
+unfoldable pub use Rattle.load.specs.Needed.{wordsToLoad}
 use Rattle.draft.specs.Draft.{writeWords}
 use Rattle.draft_image.specs.Encode.{encodeRule}
 use Rattle.story_image.specs.Exported.{viewLength, lentWords}
