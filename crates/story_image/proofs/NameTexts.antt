@@ -1,21 +1,20 @@
 -- Texts of commands and operators: their numbers, and the bytes that hold them.
-use Prim.Native.Nat.{ℕ, zero, suc, _+_, _-_, _≤_, _<_}
-use mathlib.Core.Path.{_≡_, refl, sym, ap, _∙_}
-use mathlib.Core.List.{List, [], _∷_, _++_}
-use mathlib.Core.Bool.{Bool, true, false, cond, _&&_}
-use mathlib.Core.Option.{Option, none, some}
+use Prim.Native.Nat.{ℕ, _-_, _≤_, _<_}
+use mathlib.Core.Path.{_≡_, refl, sym, _∙_}
+use mathlib.Core.List.{List, [], _∷_}
+use mathlib.Core.Option.{none, some}
 use native.Mathlib.Omega.{arith}
 use native.Mathlib.Nat.{not-suc-le-zero}
-use lib.ListN.{length, getD, set, drop, replicate, length-replicate, length-append}
+use lib.ListN.{length, getD, replicate, length-replicate, length-append}
 use lib.Seq.{length-take-le}
 use lib.Dec.{leb}
-use borrow.Author.Tests.{le-leb, lt-leb, leb-true}
+use borrow.Author.Tests.{leb-true}
 use Rattle.laws.specs.Refusal.{firstOf, unless, refusals}
 use Rattle.names.specs.Names.{commands, operators, numberIn, names}
-use Rattle.names.specs.Spelling.{elementAt, elementNamed, nameOf, spelled}
+use Rattle.names.specs.Spelling.{elementAt, nameOf, spelled}
 use Rattle.names.specs.declared.Name.{Name}
 use Rattle.names.proofs.Distinct.{place-number}
-use Rattle.names.proofs.Numbers.{Numbered, nameIn, every, at-element, past-element, named-number, named-yes}
+use Rattle.names.proofs.Numbers.{Numbered, every, at-element, past-element, named-number, named-yes}
 use Rattle.names.proofs.Spellings.{name-spelled}
 
 -- ---- a name fits its bytes

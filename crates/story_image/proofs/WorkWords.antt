@@ -6,7 +6,7 @@ use native.Mathlib.Omega.{arith}
 use native.Mathlib.Decide.{ℕ-discrete}
 use lib.Dec.{leb}
 use borrow.Author.Tests.{le-leb}
-use Rattle.laws.specs.Refusal.{unless, _▸_}
+use Rattle.laws.specs.Refusal.{unless}
 use Rattle.image.specs.Header.{inkRight}
 use Rattle.load.specs.Load.{loadRule}
 use Rattle.load.proofs.WorkWords.{Other, other-test, other-count, other-both, other-first, words-suffice}

@@ -4,7 +4,6 @@ use draft::Needed;
 use draft::source::Source;
 use image::ImageView;
 ghost use mathlib.Core.Path.{_≡_};
-ghost use mathlib.Core.Bool.{Bool};
 ghost use mathlib.Core.List.{[]};
 ghost use lib.ListN.{length};
 ghost use lib.Dec.{leb};
