@@ -8,13 +8,17 @@ use native.Mathlib.Omega.{arith}
 use native.Mathlib.Nat.{not-suc-le-zero}
 use lib.ListN.{length, getD, drop, set}
 use lib.Dec.{eqb, leb}
+use borrow.Author.Tests.{eq-eqb, ne-eqb}
 use Rattle.words.specs.Words.{NONE, isNone}
 use Rattle.names.specs.declared.control_command.CommandType.{CommandType}
 use Rattle.names.specs.declared.native_function_call.Op.{Op}
 use Rattle.names.specs.ControlCommand.{commandNamed}
 use Rattle.names.specs.NativeFunctionCall.{operatorNamed}
 use Rattle.image.specs.declared.NodeRecord.{NodeRecord}
-use Rattle.image.specs.Sections.{textOrEmpty}
+use Rattle.image.specs.declared.ImageView.{ImageView}
+use Rattle.image.specs.Sections.{Sections, textOrEmpty}
+use Rattle.image.specs.Header.{sectionBytes, sectionsBy}
+use Rattle.image.proofs.Views.{payload-by, strings-by}
 use Rattle.image.specs.Tags.{containerTag, divertTag, tagTag, stringTag, targetTag, pointerTag, assignmentTag, referenceTag, voidTag}
 use Rattle.records.specs.Fields as field
 use Rattle.records.specs.Fields.{Kind, kindOf}
@@ -28,7 +32,13 @@ use Rattle.views.specs.declared.NodeKindView.{NodeKindView}
 use Rattle.views.specs.declared.NodeKindView.the-variants as kind
 use Rattle.views.specs.declared.KindAnswer.{KindAnswer}
 use Rattle.views.specs.declared.KindAnswer.the-variants as kindly
-use Rattle.views.specs.View.{span, shown, optionalText, optionalWord, pushType, ofCommand, ofOperator, withText, kindView, withKind, recordView}
+use Rattle.views.specs.declared.NodeAnswer.{NodeAnswer}
+use Rattle.views.specs.declared.NodeAnswer.the-variants as node
+use Rattle.views.specs.declared.entries.RecordFound.{RecordFound}
+use Rattle.views.specs.declared.entries.RecordFound.the-variants as record-found
+use Rattle.views.specs.View.{span, shown, optionalText, optionalWord, pushType, ofCommand, ofOperator, withText, kindView, withKind, recordView, nodeView}
+use Rattle.views.specs.Found.{nodeFound}
+use Rattle.views.proofs.Answers.{view-missing, view-found}
 use Rattle.answers.specs.declared.node.KindWords.{KindWords}
 use Rattle.answers.specs.AnswerWords.{Answered, unsigned, wordOr, spanOr, bitIf}
 use Rattle.answers.specs.NodeViewWords as technician
@@ -36,17 +46,20 @@ use Rattle.answers.specs.NodeViewWords.{divertFlags, assignmentFlags}
 use Rattle.answers.specs.RecordWords.{eightOf, wordsOfKind, valueAlone}
 use Rattle.answers.proofs.AnswerSlices.{unanswered, too-short}
 use Rattle.answers.proofs.Records.{word-back}
-use Rattle.notes.specs.Notes.{isNote, noteKind, hideNote, hideIn}
+use Rattle.notes.specs.Notes.{isNote, noteKind, hideNote, hideIn, hidden}
 use Rattle.sleeper.specs.declared.SleeperValue.{SleeperValue}
 use Rattle.sleeper.specs.declared.SleeperValue.the-variants as seenValue
 use Rattle.sleeper.specs.declared.SleeperKind.{SleeperKind}
 use Rattle.sleeper.specs.declared.SleeperKind.the-variants as seen
 use Rattle.sleeper.specs.declared.SleeperAnswer.{SleeperAnswer}
 use Rattle.sleeper.specs.declared.SleeperAnswer.the-variants as answer
-use Rattle.sleeper.specs.Seen.{presence, valueSeen, kindSeen, viewSeen}
+use Rattle.sleeper.specs.declared.SleeperView.{SleeperView}
+use Rattle.sleeper.specs.Reader.{withPlaces, sleeperSections}
+use Rattle.sleeper.specs.Seen.{presence, valueSeen, kindSeen, viewSeen, sleeperView}
 use Rattle.sleeper.specs.Texts.{valueText, kindText, kindVariable}
 use Rattle.sleeper.specs.NodeWords.{sixWords, textKindWords, valueWords, kindWords, nodeWords, nodeAnswer}
 use Rattle.sleeper.specs.RecordWords.{noteWords, hiddenWords, textGiven, sixOf}
+use Rattle.sleeper.proofs.Reading.{sections-seen}
 
 -- ---- texts that a view shows have an offset that is not NONE
 
@@ -200,6 +213,22 @@ six-kind (kind.VariableAssignment t global new) h = ap (λ (b : Bool). textKindW
 six-kind (kind.VariableReference t target) h = ap (λ (b : Bool). textKindWords referenceTag (not b) (wordOr target) 0 0) (h .text)
 six-kind kind.Void h = refl
 
+-- ---- what the functions answer
+
+module _ (strings : List ℕ) (w : KindWords) where
+  pub other-tag : (w .tag ≡ tagTag → ⊥) → false ≡ noteWords strings w
+  other-tag h = rw (ne-eqb (w .tag) tagTag h) refl
+
+  pub tag-note : w .tag ≡ tagTag → (t : List ℕ) → t ≡ textOrEmpty strings (w .text .offset) (w .text .len) → (b : Bool) → b ≡ isNote t → b ≡ noteWords strings w
+  tag-note h t e b q = rw (eq-eqb (w .tag) tagTag h) (q ∙ ap isNote e)
+
+  module _ (b : Bool) (e : b ≡ noteWords strings w) where
+    pub note-words : b ≡ true → (r : KindWords) → r ≡ valueAlone voidTag 0 → r ≡ hiddenWords strings w
+    note-words h r q = q ∙ ap (λ (x : Bool). cond x (valueAlone voidTag 0) w) (sym h ∙ e)
+
+    pub other-words : b ≡ false → w ≡ hiddenWords strings w
+    other-words h = ap (λ (x : Bool). cond x (valueAlone voidTag 0) w) (sym h ∙ e)
+
 module _ (strings : List ℕ) (w u : KindWords) (hide : u ≡ hiddenWords strings w) where
   -- hiding the words of a kind gives the words of the hidden kind
   words-hidden : (k : NodeKindView) → eightOf w ≡ technician.kindWords k → eightOf u ≡ technician.kindWords (hideNote strings k)
@@ -264,7 +293,7 @@ view-short answer.NotFound xs h = unanswered none xs refl
 view-short (answer.View v) xs h = let e = six-words (v .kind) in too-short (nodeWords v) xs (omega arith)
 
 -- eight words written one by one
-pub eight-put : (xs : List ℕ) (a b c d e f g h : ℕ) → 8 ≤ length xs
+eight-put : (xs : List ℕ) (a b c d e f g h : ℕ) → 8 ≤ length xs
     → set (set (set (set (set (set (set (set xs 0 a) 1 b) 2 c) 3 d) 4 e) 5 f) 6 g) 7 h ≡ (a ∷ b ∷ c ∷ d ∷ e ∷ f ∷ g ∷ h ∷ []) ++ drop 8 xs
 eight-put (x0 ∷ x1 ∷ x2 ∷ x3 ∷ x4 ∷ x5 ∷ x6 ∷ x7 ∷ xs) a b c d e f g h l = refl
 eight-put [] a b c d e f g h l = absurd (not-suc-le-zero l)
@@ -275,3 +304,33 @@ eight-put (x0 ∷ x1 ∷ x2 ∷ x3 ∷ []) a b c d e f g h l = absurd (omega ari
 eight-put (x0 ∷ x1 ∷ x2 ∷ x3 ∷ x4 ∷ []) a b c d e f g h l = absurd (omega arith)
 eight-put (x0 ∷ x1 ∷ x2 ∷ x3 ∷ x4 ∷ x5 ∷ []) a b c d e f g h l = absurd (omega arith)
 eight-put (x0 ∷ x1 ∷ x2 ∷ x3 ∷ x4 ∷ x5 ∷ x6 ∷ []) a b c d e f g h l = absurd (omega arith)
+
+pub words-put : (xs : List ℕ) (parent place : ℕ) (k : KindWords) → 8 ≤ length xs → (t : ℕ) → t ≡ bitIf (textGiven (k .tag) (k .text .offset)) 1
+    → (v : ℕ) → v ≡ bitIf (not (isNone (k .variable .offset))) 1
+    → set (set (set (set (set (set (set (set xs 0 parent) 1 place) 2 (k .tag)) 3 t) 4 v) 5 (k .target)) 6 (k .value)) 7 (k .flags)
+    ≡ (parent ∷ place ∷ sixOf k) ++ drop 8 xs
+words-put xs parent place k l t e v q =
+    eight-put xs parent place (k .tag) t v (k .target) (k .value) (k .flags) l
+    ∙ λ i. (parent ∷ place ∷ k .tag ∷ e i ∷ q i ∷ k .target ∷ k .value ∷ k .flags ∷ []) ++ drop 8 xs
+
+-- ---- of a node, by its record
+
+module _ (bs : List ℕ) (v : SleeperView) (u : ImageView) (e : u ≡ withPlaces (length bs) v) (i : ℕ) (r : RecordFound) (h : r ≡ nodeFound (sectionsBy bs u) i) where
+  answer-seen : (a : NodeAnswer) → a ≡ nodeView (sectionsBy bs u) i
+      → nodeAnswer (viewSeen (hideIn (sectionsBy bs u .strings) a)) ≡ nodeAnswer (sleeperView (sleeperSections bs v) i)
+  unfolding sleeperView hidden
+  answer-seen a q =
+      ap (λ (x : NodeAnswer). nodeAnswer (viewSeen (hideIn (sectionsBy bs u .strings) x))) q
+      ∙ ap (λ (s : Sections). nodeAnswer (viewSeen (hideIn (s .strings) (nodeView s i)))) (sections-seen bs v u e)
+
+  pub words-missing : r ≡ record-found.NotFound → none ≡ nodeAnswer (sleeperView (sleeperSections bs v) i)
+  words-missing m = answer-seen node.NotFound (view-missing (sectionsBy bs u) i r h m)
+
+  pub words-found : (x : NodeRecord) → r ≡ record-found.Record x → (payload strings : List ℕ) → payload ≡ sectionBytes bs (u .payload) 1
+      → strings ≡ sectionBytes bs (u .strings) 1
+      → nodeAnswer (viewSeen (hideIn strings (recordView strings (length payload) x))) ≡ nodeAnswer (sleeperView (sleeperSections bs v) i)
+  words-found x m payload strings p q =
+      let here = strings-by bs u ∙ sym q in
+      (λ j. nodeAnswer (viewSeen (hideIn (sym here j) (recordView strings (length payload) x))))
+      ∙ answer-seen (recordView strings (length payload) x)
+      (view-found (sectionsBy bs u) i r h x m (length payload) strings (ap length (payload-by bs u ∙ sym p)) here (recordView strings (length payload) x) refl)

@@ -12,7 +12,8 @@ ghost use mathlib.Core.Path.{_≡_};
 ghost use Prim.Native.Nat.{_+_, _*_, _≤_};
 ghost use lib.ListN.{length};
 ghost use Rattle.words.specs.Words.{NONE as none};
-ghost use Rattle.image.specs.Header.{sectionsOf};
+ghost use Rattle.image.specs.Sections.{nodeSize, mostNodeSize};
+ghost use Rattle.image.specs.Header.{headerLength, sectionsOf};
 ghost use Rattle.load.specs.Load.{loadRule, loadWords, workAfter};
 ghost use Rattle.sleeper.specs.Reader.{withoutPlaces, sectionBy, unplaced, withPlaces, sleeperLoaded};
 use image::ImageView;
@@ -149,6 +150,14 @@ fn without_places(view: ImageView) -> SleeperView
     }
 }
 
+// Where the nodes end, which begin behind the header.
+fn nodes_end(count: u32, version: u32) -> usize
+    ensures { λ r. ⌜ r ≡ headerLength + count * nodeSize version ⌝ }
+    ensures most { λ r. ⌜ r ≤ headerLength + none * mostNodeSize ⌝ }
+{
+    ImageView::HEADER_LENGTH + (count as usize) * (image::node_size(version) as usize)
+}
+
 // Where a section ends that begins at `start`.
 fn end_of(start: usize, count: u32, size: u32) -> usize
     requires { ⌜ start + count * size ≤ 18446744073709551615 ⌝ }
@@ -189,8 +198,7 @@ fn without_sections(view: SleeperView) -> ImageView
 fn with_places(length: usize, view: SleeperView) -> ImageView
     ensures { λ r. ⌜ r ≡ withPlaces length view ⌝ }
 {
-    let nodes = ImageView::HEADER_LENGTH;
-    let children = end_of(nodes, view.nodes, image::node_size(view.version));
+    let children = nodes_end(view.nodes, view.version);
     let named = end_of(children, view.children, ImageView::CHILD_SIZE);
     let definitions = end_of(named, view.named, ImageView::NAMED_SIZE);
     let items = end_of(definitions, view.definitions, ImageView::DEFINITION_SIZE);
@@ -206,7 +214,7 @@ fn with_places(length: usize, view: SleeperView) -> ImageView
     ImageView {
         version: view.version,
         ink_version: view.ink_version,
-        nodes: section(nodes, view.nodes),
+        nodes: section(ImageView::HEADER_LENGTH, view.nodes),
         children: section(children, view.children),
         named: section(named, view.named),
         definitions: section(definitions, view.definitions),
