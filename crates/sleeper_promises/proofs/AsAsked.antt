@@ -12,9 +12,9 @@ use borrow.Author.Tests.{eq-eqb, ne-eqb, eqb-true}
 use Rattle.laws.specs.Lists.{Below}
 use Rattle.laws.proofs.Flags.{both-true}
 use Rattle.words.specs.Words.{NONE, isNone, wordAt}
-use Rattle.image.specs.Sections.{Sections, nodeCount, namedCount, itemCount, nodeWord, tagOf, f, childWord, namedWord, definitionWord, itemWord, indexWord, textAt, textOrEmpty, present, absent}
+use Rattle.image.specs.Sections.{Sections, nodeCount, childCount, namedCount, definitionCount, itemCount, indexCount, nodeWord, tagOf, f, childWord, namedWord, definitionWord, itemWord, indexWord, textAt, textOrEmpty, present, absent}
 use Rattle.image.specs.Tags.{tagTag}
-use Rattle.image.specs.Header.{viewOf, sectionsOf}
+use Rattle.image.specs.Header.{sectionAt, viewOf, sectionsOf}
 use Rattle.image.proofs.Parts.{text-inside}
 use Rattle.image.proofs.Widths.{words-some}
 use Rattle.image.proofs.Views.{version-by}
@@ -33,7 +33,8 @@ use Rattle.promises.proofs.Views.{shown-right}
 use Rattle.promises.proofs.Whole.{part-long, items-are, origins-are, item-word, origin-word}
 use Rattle.promises.proofs.Entries.{named-owner, item-owner}
 use Rattle.sleeper_promises.specs.DifferUnseen.{givenText, SameText, SameList, SameField, SameFields, SameNode, SectionsAlike, DifferUnseen}
-use Rattle.sleeper_promises.specs.DifferAsAsked.{SameHeader, textAtField, offsetAt, textWord, NoteAt, SameBytes, SameWords, SamePayload, SectionsAsAsked, DifferAsAsked}
+use Rattle.sleeper_promises.specs.DifferAsAsked.{SameHeader, textAtField, offsetAt, textWord, NoteAt, SameBytes, SameWords, SamePayload, SameEntries, SectionsAsAsked, DifferAsAsked}
+use Rattle.sleeper_promises.specs.SameAnswers.{AskedUnseen}
 use Rattle.sleeper_promises.proofs.NoteKinds.{noteBy, tag-or-none, note-by, tag-note, list-tag}
 
 -- ---- texts
@@ -286,15 +287,111 @@ module _ (s t : Sections) (g : Kept s) (h : Kept t) (a : SectionsAsAsked s t) (s
           fields = node-fields;
         }
 
-  -- ---- entries
+-- ---- entries
 
-  -- each has a right text
-  named-right : (r : Sections) → Kept r → (j : ℕ) → j < namedCount r → TextRight r (namedWord r j 0) (namedWord r j 1)
-  named-right r k j b =
-      let o = named-owner r k j b in
-      subst (λ (x : ℕ). TextRight r (namedWord r x 0) (namedWord r x 1)) (sym (o .there)) (o .right .text)
+pub named-right : (s : Sections) → Kept s → (j : ℕ) → j < namedCount s → TextRight s (namedWord s j 0) (namedWord s j 1)
+named-right s g j h =
+    let o = named-owner s g j h in
+    subst (λ (x : ℕ). TextRight s (namedWord s x 0) (namedWord s x 1)) (sym (o .there)) (o .right .text)
 
-  item-right : (r : Sections) → Kept r → (j : ℕ) → j < itemCount r → TextRight r (itemWord r j 0) (itemWord r j 1)
-  item-right r k j b =
-      let o = item-owner r k j b in
-      subst (λ (x : ℕ). TextRight r (itemWord r x 0) (itemWord r x 1)) (sym (o .there)) (o .right .text)
+pub item-right : (s : Sections) → Kept s → (j : ℕ) → j < itemCount s → TextRight s (itemWord s j 0) (itemWord s j 1)
+item-right s g j h =
+    let o = item-owner s g j h in
+    subst (λ (x : ℕ). TextRight s (itemWord s x 0) (itemWord s x 1)) (sym (o .there)) (o .right .text)
+
+-- texts of entries that are right in both
+module _ (s t : Sections) (count n m : ℕ) (v w : ℕ → ℕ → ℕ) (e : SameEntries s t count n v w) (same : count ≡ m) where
+  entry-text : ((j : ℕ) → j < count → TextRight s (v j 0) (v j 1)) → ((j : ℕ) → j < m → TextRight t (w j 0) (w j 1))
+      → (j : ℕ) → j < count → SameText s t (v j 0) (v j 1) (w j 0) (w j 1)
+  entry-text p q j h = same-text s t _ _ _ _ (inr (p j h)) (inr (q j (omega (arith, same)))) (e .text j h)
+
+-- ---- two images
+
+module _ (xs ys : List ℕ) (d : DifferAsAsked xs ys) where
+  -- the counts of sections 0 to 6
+  same-count : (k : ℕ) → k < 7 → sectionAt xs k .count ≡ sectionAt ys k .count
+  same-count zero h = d .header 6 (omega arith) (λ e. omega arith) (λ e. omega arith) (λ e. omega arith)
+  same-count (suc zero) h = d .header 8 (omega arith) (λ e. omega arith) (λ e. omega arith) (λ e. omega arith)
+  same-count (suc (suc zero)) h = d .header 10 (omega arith) (λ e. omega arith) (λ e. omega arith) (λ e. omega arith)
+  same-count (suc (suc (suc zero))) h = d .header 12 (omega arith) (λ e. omega arith) (λ e. omega arith) (λ e. omega arith)
+  same-count (suc (suc (suc (suc zero)))) h = d .header 14 (omega arith) (λ e. omega arith) (λ e. omega arith) (λ e. omega arith)
+  same-count (suc (suc (suc (suc (suc zero))))) h = d .header 16 (omega arith) (λ e. omega arith) (λ e. omega arith) (λ e. omega arith)
+  same-count (suc (suc (suc (suc (suc (suc zero)))))) h = d .header 18 (omega arith) (λ e. omega arith) (λ e. omega arith) (λ e. omega arith)
+  same-count (suc (suc (suc (suc (suc (suc (suc k))))))) h = absurd (omega arith)
+
+  module _ (ox : Opens xs) (oy : Opens ys) (g : Kept (sectionsOf xs)) (h : Kept (sectionsOf ys)) where
+    abbrev s : Sections
+    s = sectionsOf xs
+
+    abbrev t : Sections
+    t = sectionsOf ys
+
+    same-nodes : nodeCount s ≡ nodeCount t
+    unfolding viewOf
+    same-nodes = view-counts xs ox .nodes ∙ same-count 0 (omega arith) ∙ sym (view-counts ys oy .nodes)
+
+    same-children : childCount s ≡ childCount t
+    unfolding viewOf
+    same-children = view-counts xs ox .children ∙ same-count 1 (omega arith) ∙ sym (view-counts ys oy .children)
+
+    same-named : namedCount s ≡ namedCount t
+    unfolding viewOf
+    same-named = view-counts xs ox .named ∙ same-count 2 (omega arith) ∙ sym (view-counts ys oy .named)
+
+    same-definitions : definitionCount s ≡ definitionCount t
+    unfolding viewOf
+    same-definitions = view-counts xs ox .definitions ∙ same-count 3 (omega arith) ∙ sym (view-counts ys oy .definitions)
+
+    same-items : itemCount s ≡ itemCount t
+    unfolding viewOf
+    same-items = view-counts xs ox .items ∙ same-count 4 (omega arith) ∙ sym (view-counts ys oy .items)
+
+    same-index : indexCount s ≡ indexCount t
+    unfolding viewOf
+    same-index = view-counts xs ox .index ∙ same-count 5 (omega arith) ∙ sym (view-counts ys oy .index)
+
+    same-payload : length (s .payload) ≡ length (t .payload)
+    unfolding viewOf
+    same-payload = view-counts xs ox .payload ∙ same-count 6 (omega arith) ∙ sym (view-counts ys oy .payload)
+
+    same-version : s .version ≡ t .version
+    unfolding viewOf
+    same-version =
+        version-by xs (viewOf xs) ∙ d .header 2 (omega arith) (λ e. omega arith) (λ e. omega arith) (λ e. omega arith) ∙ sym (version-by ys (viewOf ys))
+
+    child-words : s .children ≡ t .children
+    unfolding childWord
+    child-words = ext-getD 0 (s .children) (t .children) same-children (d .sections .child)
+
+    alike : SectionsAlike s t
+    alike =
+        record {
+          version = same-version;
+          node-count = same-nodes;
+          node = same-node s t g h (d .sections) same-nodes;
+          children = child-words;
+          named-count = same-named;
+          named-text = entry-text s t _ _ _ _ _ (d .sections .named) same-named (named-right s g) (named-right t h);
+          named-node = λ j l. d .sections .named .word j 2 l (omega arith) (omega arith);
+          definition-count = same-definitions;
+          definition-text =
+              entry-text s t _ _ _ _ _ (d .sections .definition) same-definitions (λ j l. g .rules .definitions j l .text) (λ j l. h .rules .definitions j l .text);
+          definition-first = λ j l. d .sections .definition .word j 2 l (omega arith) (omega arith);
+          definition-items = λ j l. d .sections .definition .word j 3 l (omega arith) (omega arith);
+          item-count = same-items;
+          item-text = entry-text s t _ _ _ _ _ (d .sections .item) same-items (item-right s g) (item-right t h);
+          item-value = λ j l. d .sections .item .word j 2 l (omega arith) (omega arith);
+          index-count = same-index;
+          index-text = entry-text s t _ _ _ _ _ (d .sections .index) same-index (λ j l. g .rules .index j l .text) (λ j l. h .rules .index j l .text);
+          index-node = λ j l. d .sections .index .word j 2 l (omega arith) (omega arith);
+          payload-length = same-payload;
+        }
+
+pub asked-unseen : AskedUnseen
+asked-unseen xs ys bx by ax ay d =
+    let rx = accepted-right xs ax in
+    let ry = accepted-right ys ay in
+    record {
+      ink-version = d .header 3 (omega arith) (λ e. omega arith) (λ e. omega arith) (λ e. omega arith);
+      sections = alike xs ys d (right-header xs (rx .header)) (right-header ys (ry .header)) (kept xs bx rx) (kept ys by ry);
+    }
