@@ -1,19 +1,17 @@
 -- Accepted images whose words differ only as is allowed differ only in what the sleeper's reader may not see.
-use Prim.Native.Nat.{ℕ, zero, suc, _+_, _*_, _≤_, _<_}
+use Prim.Native.Nat.{ℕ, zero, suc, _+_, _<_}
 use mathlib.Core.Path.{_≡_, refl, sym, ap, _∙_, subst}
 use mathlib.Core.Logic.{_⊎_, inl, inr}
 use mathlib.Core.List.{List, [], _∷_, List·Memᴰ, List·Memᴰ·head, List·Memᴰ·tail}
-use mathlib.Core.Bool.{Bool, true, false, true≢false}
+use mathlib.Core.Bool.{true, false, true≢false}
 use mathlib.Core.Option.{some}
 use native.Mathlib.Omega.{arith}
 use lib.ListN.{length}
 use lib.Seq.{ext-getD}
 use borrow.Author.Tests.{eq-eqb, ne-eqb, eqb-true}
-use Rattle.laws.specs.Lists.{Below}
 use Rattle.laws.proofs.Flags.{both-true}
 use Rattle.words.specs.Words.{NONE, isNone, wordAt}
-use Rattle.image.specs.Sections.{Sections, nodeCount, childCount, namedCount, definitionCount, itemCount, indexCount, nodeWord, tagOf, f, childWord, namedWord, definitionWord, itemWord, indexWord, textAt, textOrEmpty, present, absent}
-use Rattle.image.specs.Tags.{tagTag}
+use Rattle.image.specs.Sections.{Sections, nodeCount, childCount, namedCount, definitionCount, itemCount, indexCount, nodeWord, tagOf, f, childWord, namedWord, itemWord, textAt, present, absent}
 use Rattle.image.specs.Header.{sectionAt, viewOf, sectionsOf}
 use Rattle.image.proofs.Parts.{text-inside}
 use Rattle.image.proofs.Widths.{words-some}
@@ -21,19 +19,18 @@ use Rattle.image.proofs.Views.{version-by}
 use Rattle.image.proofs.OpenedHeader.{Opens, view-counts}
 use Rattle.records.specs.Fields.{Kind, Container, Choice, Command, Divert, Glue, Operator, Tag, BoolValue, IntValue, FloatValue, StringValue, ListValue, TargetValue, PointerValue, Assignment, Reference, Void, Unknown, fields, Field, text, optional, command, operator, node, optionalNode, container, optionalContainer, plain, atMost, children, named, payload, wrong, kinds, kindOf}
 use Rattle.records.specs.Records.{fieldsAt, listItems, listOrigins}
-use Rattle.load.specs.Load.{Accepted}
 use Rattle.views.specs.View.{span, shown}
 use Rattle.views.specs.Lists.{listPart}
 use Rattle.notes.specs.Notes.{isNote, noteAt}
-use Rattle.promises.specs.Rules.{TextRight, OptionalRight, FieldRight, PayloadRight, SectionsRight, BreaksNone}
+use Rattle.promises.specs.Rules.{TextRight, OptionalRight, FieldRight, PayloadRight}
 use Rattle.promises.proofs.Fields.{right-node}
 use Rattle.promises.proofs.Acceptance.{right-header, accepted-right}
 use Rattle.promises.proofs.Premises.{Kept, kept, a-node}
 use Rattle.promises.proofs.Views.{shown-right}
 use Rattle.promises.proofs.Whole.{part-long, items-are, origins-are, item-word, origin-word}
 use Rattle.promises.proofs.Entries.{named-owner, item-owner}
-use Rattle.sleeper_promises.specs.DifferUnseen.{givenText, SameText, SameList, SameField, SameFields, SameNode, SectionsAlike, DifferUnseen}
-use Rattle.sleeper_promises.specs.DifferAsAsked.{SameHeader, textAtField, offsetAt, textWord, NoteAt, SameBytes, SameWords, SamePayload, SameEntries, SectionsAsAsked, DifferAsAsked}
+use Rattle.sleeper_promises.specs.DifferUnseen.{givenText, SameText, SameList, SameField, SameFields, SameNode, SectionsAlike}
+use Rattle.sleeper_promises.specs.DifferAsAsked.{textAtField, offsetAt, textWord, NoteAt, SameBytes, SamePayload, SameEntries, SectionsAsAsked, DifferAsAsked}
 use Rattle.sleeper_promises.specs.SameAnswers.{AskedUnseen}
 use Rattle.sleeper_promises.proofs.NoteKinds.{noteBy, tag-or-none, note-by, tag-note, list-tag}
 

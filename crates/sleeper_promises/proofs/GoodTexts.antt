@@ -14,7 +14,7 @@ use Rattle.image.specs.Sections.{Sections, goodBytes, nodeCount, definitionCoun
 use Rattle.image.specs.Tags.{listTag}
 use Rattle.image.proofs.Parts.{text-inside}
 use Rattle.image.proofs.Tests.{inside-true}
-use Rattle.records.specs.Fields.{Kind, ListValue, fields, kinds, kindOf, Field, payload}
+use Rattle.records.specs.Fields.{fields, kinds, kindOf, Field, payload}
 use Rattle.definitions.specs.Definitions.{firstItem, numberOfItems}
 use Rattle.views.specs.declared.Span.{Span}
 use Rattle.views.specs.declared.OptionalText.{OptionalText}
@@ -41,12 +41,12 @@ use Rattle.views.specs.declared.ItemView.{ItemView}
 use Rattle.views.specs.declared.ItemAnswer.{ItemAnswer}
 use Rattle.views.specs.declared.ItemAnswer.the-variants as item
 use Rattle.views.specs.View.{span, shown, nodeView}
-use Rattle.views.specs.Children.{namedQuery, textQuery, shownText}
+use Rattle.views.specs.Children.{namedQuery, textQuery}
 use Rattle.views.specs.Lists.{listPart, listEntry, listOrigin, definitionQuery, itemEntry, itemQuery}
 use Rattle.notes.specs.Notes.{noteKind, hideIn, hidden}
 use Rattle.promises.specs.Answers.{given, ofNode, ofNamed as numberNamed, ofText as numberText, ofEntry as numberEntry, ofDefinition as numberDefinition, ofItem as numberItem}
 use Rattle.promises.specs.Rules.{FieldRight, PayloadRight}
-use Rattle.promises.specs.Readers.{Whole, textsIn, viewTexts, ListRead, Reads, ImageReads}
+use Rattle.promises.specs.Readers.{Whole, textsIn, viewTexts, ListRead, ImageReads}
 use Rattle.promises.proofs.Answers.{given-equal, given-refused}
 use Rattle.promises.proofs.Premises.{Kept}
 use Rattle.promises.proofs.ViewParts.{All, all-none, all-one}
