@@ -149,9 +149,10 @@ module _ (s t : Sections) where
     same-fields : (xs : List Field) → ((x : Field) → List·Memᴰ x xs → FieldRight s i x) → ((x : Field) → List·Memᴰ x xs → FieldRight t i x) → RawFields xs
         → SameFields s t i xs
     same-fields [] p q r = tt
-    same-fields (x ∷ xs) p q r =
-        (same-field x (p x (List·Memᴰ·head refl)) (q x (List·Memᴰ·head refl)) (r .0),
-        same-fields xs (λ y m. p y (List·Memᴰ·tail m)) (λ y m. q y (List·Memᴰ·tail m)) (r .1))
+    same-fields (x ∷ xs) p q r = (
+      same-field x (p x (List·Memᴰ·head refl)) (q x (List·Memᴰ·head refl)) (r .0),
+      same-fields xs (λ y m. p y (List·Memᴰ·tail m)) (λ y m. q y (List·Memᴰ·tail m)) (r .1),
+    )
 
     -- the fields of a kind, from the words that are the same
     module _ (k : Kind) where
