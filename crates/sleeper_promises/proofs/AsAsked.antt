@@ -1,7 +1,7 @@
 -- Accepted images whose words differ only as is allowed differ only in what the sleeper's reader may not see.
 use Prim.Native.Nat.{ℕ, zero, suc, _+_, _<_}
 use mathlib.Core.Path.{_≡_, refl, sym, ap, _∙_, subst}
-use mathlib.Core.Logic.{_⊎_, inl, inr}
+use mathlib.Core.Logic.{_⊎_, ⊎-elim, inl, inr}
 use mathlib.Core.List.{List, [], _∷_, List·Memᴰ, List·Memᴰ·head, List·Memᴰ·tail}
 use mathlib.Core.Bool.{true, false, true≢false}
 use mathlib.Core.Option.{some}
@@ -149,9 +149,10 @@ module _ (s t : Sections) where
     same-fields : (xs : List Field) → ((x : Field) → List·Memᴰ x xs → FieldRight s i x) → ((x : Field) → List·Memᴰ x xs → FieldRight t i x) → RawFields xs
         → SameFields s t i xs
     same-fields [] p q r = tt
-    same-fields (x ∷ xs) p q r =
-        (same-field x (p x (List·Memᴰ·head refl)) (q x (List·Memᴰ·head refl)) (r .0),
-        same-fields xs (λ y m. p y (List·Memᴰ·tail m)) (λ y m. q y (List·Memᴰ·tail m)) (r .1))
+    same-fields (x ∷ xs) p q r = (
+      same-field x (p x (List·Memᴰ·head refl)) (q x (List·Memᴰ·head refl)) (r .0),
+      same-fields xs (λ y m. p y (List·Memᴰ·tail m)) (λ y m. q y (List·Memᴰ·tail m)) (r .1),
+    )
 
     -- the fields of a kind, from the words that are the same
     module _ (k : Kind) where
@@ -243,13 +244,12 @@ module _ (s t : Sections) (g : Kept s) (h : Kept t) (a : SectionsAsAsked s t) (s
 
     text-notes : kindOf (tagOf s i) ≡ Tag → isNote (textAt s (f s i 0) (f s i 1)) ≡ isNote (textAt t (f t i 0) (f t i 1))
     unfolding fields offsetAt
-    text-notes e = by (a .node i l .text 3 (ap (λ (k : Kind). offsetAt (fields k) 3) e))
-      where
-        by : SameBytes s t (f s i 0) (f s i 1) (f t i 0) (f t i 1) ⊎ (NoteAt s i × NoteAt t i)
-            → isNote (textAt s (f s i 0) (f s i 1)) ≡ isNote (textAt t (f t i 0) (f t i 1))
-        by (inl (inl z)) = absurd (tag-text s g i l e .offset-given (eqb-true (f s i 0) NONE (both-true (isNone (f s i 0)) (isNone (f s i 1)) (z .0) .0)))
-        by (inl (inr z)) = ap isNote (z .2)
-        by (inr n) = n .0 .1 ∙ sym (n .1 .1)
+    text-notes e =
+        ⊎-elim
+        (⊎-elim
+        (λ z. absurd (tag-text s g i l e .offset-given (eqb-true (f s i 0) NONE (both-true (isNone (f s i 0)) (isNone (f s i 1)) (z .0) .0))))
+        (λ z. ap isNote (z .2)))
+        (λ n. n .0 .1 ∙ sym (n .1 .1)) (a .node i l .text 3 (ap (λ (k : Kind). offsetAt (fields k) 3) e))
 
     same-note : noteAt s i ≡ noteAt t i
     same-note = by (tag-or-none (kindOf (tagOf s i)))
@@ -261,12 +261,7 @@ module _ (s t : Sections) (g : Kept s) (h : Kept t) (a : SectionsAsAsked s t) (s
             ∙ sym (note-by t i (right-node t i (a-node h i below)) ∙ ap (noteBy t i) (sym same-kind) ∙ n t i)
 
     node-texts : noteAt s i ≡ false → Texts s t i (kindOf (tagOf s i))
-    node-texts e k z = by (a .node i l .text k z)
-      where
-        by : SameBytes s t (nodeWord s i k) (nodeWord s i (k + 1)) (nodeWord t i k) (nodeWord t i (k + 1)) ⊎ (NoteAt s i × NoteAt t i)
-            → SameBytes s t (nodeWord s i k) (nodeWord s i (k + 1)) (nodeWord t i k) (nodeWord t i (k + 1))
-        by (inl x) = x
-        by (inr n) = absurd (true≢false (sym (asked-note s g i l (n .0)) ∙ e))
+    node-texts e k z = ⊎-elim (λ x. x) (λ n. absurd (true≢false (sym (asked-note s g i l (n .0)) ∙ e))) (a .node i l .text k z)
 
     node-fields : noteAt s i ≡ false → SameFields s t i (fieldsAt s i)
     node-fields e =
@@ -286,12 +281,12 @@ module _ (s t : Sections) (g : Kept s) (h : Kept t) (a : SectionsAsAsked s t) (s
 
 -- ---- entries
 
-pub named-right : (s : Sections) → Kept s → (j : ℕ) → j < namedCount s → TextRight s (namedWord s j 0) (namedWord s j 1)
+named-right : (s : Sections) → Kept s → (j : ℕ) → j < namedCount s → TextRight s (namedWord s j 0) (namedWord s j 1)
 named-right s g j h =
     let o = named-owner s g j h in
     subst (λ (x : ℕ). TextRight s (namedWord s x 0) (namedWord s x 1)) (sym (o .there)) (o .right .text)
 
-pub item-right : (s : Sections) → Kept s → (j : ℕ) → j < itemCount s → TextRight s (itemWord s j 0) (itemWord s j 1)
+item-right : (s : Sections) → Kept s → (j : ℕ) → j < itemCount s → TextRight s (itemWord s j 0) (itemWord s j 1)
 item-right s g j h =
     let o = item-owner s g j h in
     subst (λ (x : ℕ). TextRight s (itemWord s x 0) (itemWord s x 1)) (sym (o .there)) (o .right .text)

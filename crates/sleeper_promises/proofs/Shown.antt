@@ -258,7 +258,7 @@ module _ (s : Sections) (g : Kept s) where
 -- ---- after a load
 
 -- the sleeper's load answers a view only where the technician's does
-pub record BothLoaded (r : Loaded) (v : SleeperView) : Type 0 where
+record BothLoaded (r : Loaded) (v : SleeperView) : Type 0 where
   pub technician : ImageView
   pub loaded : r ≡ loaded.View technician
   pub kept : withoutPlaces technician ≡ v

@@ -1,8 +1,8 @@
 -- The number and the value of every answer of the sleeper's reader that is an enum, and of a text: 0 and what the answer holds, or the number
 -- of the refusal and nothing. Children, counts and look-ups have the technician's.
+use Prim.Native.Nat.{ℕ}
 use mathlib.Core.List.{List}
 use mathlib.Core.Option.{Option, none, some}
-use Prim.Native.Nat.{ℕ}
 use lib.IntN.{ℤ}
 use Rattle.image.specs.Refusals.{notFound}
 use Rattle.views.specs.Answers.{Answer, given, refused}

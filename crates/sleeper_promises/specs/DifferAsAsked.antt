@@ -48,6 +48,7 @@ textAtField k named = false
 textAtField k payload = false
 textAtField k wrong = false
 
+-- that has some of these fields
 unfoldable pub offsetAt : List Field → ℕ → Bool
 offsetAt [] k = false
 offsetAt (x ∷ xs) k = let r = offsetAt xs k in textAtField k x || r
