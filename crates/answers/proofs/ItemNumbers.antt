@@ -1,10 +1,11 @@
 -- The numbers of a list item are below the counts of definitions and items, so that words hold them where they hold the counts.
-use Prim.Native.Nat.{ℕ, zero, suc, _+_, _≤_, _<_}
+use Prim.Native.Nat.{ℕ, zero, suc, _+_, _≤_, _<_, _^_}
 use mathlib.Core.Path.{_≡_, refl}
 use mathlib.Core.List.{List}
 use mathlib.Core.Bool.{Bool, true, false, cond, not, _||_}
 use mathlib.Core.Option.{Option, none, some, Option·some-injective, Option·none-ne-some}
 use native.Mathlib.Omega.{arith}
+use lib.ListN.{length}
 use lib.Dec.{leb}
 use borrow.Author.Tests.{le-leb, leb-true}
 use Rattle.laws.specs.Counted.{lastOf}
@@ -13,6 +14,8 @@ use Rattle.texts.specs.Dots.{hasDot, beforeDot, afterDot}
 use Rattle.utf8.specs.White.{blank}
 use Rattle.words.specs.Words.{NONE}
 use Rattle.image.specs.Sections.{Sections, definitionCount, itemCount}
+use Rattle.image.specs.Header.{sectionsOf}
+use Rattle.image.proofs.OpenedHeader.{Opens, view-inside, view-counts}
 use Rattle.definitions.specs.Definitions.{firstItem, numberOfItems}
 use Rattle.lookups.specs.declared.ListItem.{ListItem}
 use Rattle.lookups.specs.declared.ListItemAnswer.{ListItemAnswer}
@@ -85,14 +88,32 @@ module _ (s : Sections) where
       by false true i e = last-numbers true (beforeDot name) (afterDot name) i e
       by false false i e = last-numbers false name name i e
 
+-- ---- an image that words can bound
+
+module _ (bs : List ℕ) (o : Opens bs) (short : length bs < 2 ^ 32) where
+  abbrev own : Sections
+  own = sectionsOf bs
+
+  pub definitions-few : definitionCount own ≤ NONE
+  definitions-few =
+      let within = view-inside bs o .definitions in
+      let long = view-counts bs o .definitions in
+      omega arith
+
+  items-few : itemCount own ≤ NONE
+  items-few =
+      let within = view-inside bs o .items in
+      let long = view-counts bs o .items in
+      omega arith
+
   -- the words of the item that a name means
-  pub item-words : definitionCount s ≤ NONE → itemCount s ≤ NONE → (name : List ℕ) → listItemAnswer (listItem s name) ≡ wordsOfListItem (listItem s name)
-  item-words p q name = by (listItem s name) (item-numbers name)
+  pub item-words : (name : List ℕ) → listItemAnswer (listItem own name) ≡ wordsOfListItem (listItem own name)
+  item-words name = by (listItem own name) (item-numbers own name)
     where
-      by : (a : ListItemAnswer) → Numbers a → listItemAnswer a ≡ wordsOfListItem a
+      by : (a : ListItemAnswer) → Numbers own a → listItemAnswer a ≡ wordsOfListItem a
       by (listed.Item i) h =
           let below = h i refl in
           let d = below .0 in
           let j = below .1 in
-          rw (le-leb (i .definition) NONE (omega arith), le-leb (i .item) NONE (omega arith))
+          rw (le-leb (i .definition) NONE (omega (arith, definitions-few)), le-leb (i .item) NONE (omega (arith, items-few)))
       by listed.NotFound h = refl

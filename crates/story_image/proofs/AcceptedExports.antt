@@ -57,10 +57,11 @@ use Rattle.promises.proofs.Acceptance.{load-accepted, accepted-passed}
 use Rattle.technician.specs.Technician.{stringsCountAt, headerWord, HeaderTells}
 use Rattle.technician.proofs.Accepted.{accepted-header}
 use Rattle.answers.specs.AnswerWords.{answerAfter, numberOf, foundAnswer, countAnswer, namedAnswer, placeAnswer, partWords, partAnswer, entryAnswer, definitionAnswer, itemAnswer, listItemAnswer, listCountWords}
+use Rattle.answers.specs.Exports.{Answers}
 use Rattle.answers.specs.NodeViewWords.{nodeAnswer, listPlace}
 use Rattle.answers.proofs.AnswerSlices.{count-some, part-some}
 use Rattle.answers.proofs.Sizes.{Size, some-size, none-size, found-size, count-size, list-item-size, answering}
-use Rattle.answers.proofs.ItemNumbers.{item-words}
+use Rattle.answers.proofs.ItemNumbers.{definitions-few, item-words}
 use Rattle.answers.proofs.Records.{eight}
 use Rattle.answers.proofs.ListPlaces.{Lies, list-lies}
 use Rattle.story_image.specs.Exported.{viewLength, wordsOfView, viewBy, under, writtenAfter}
@@ -182,18 +183,6 @@ module _ (bs : List ℕ) (o : Opens bs) (short : length bs < 2 ^ 32) where
       let long = view-counts bs o .payload in
       sym (part-some (length bs) (viewOf bs .payload .offset) t (omega arith) (omega arith))
 
-  definitions-few : definitionCount own ≤ NONE
-  definitions-few =
-      let within = view-inside bs o .definitions in
-      let long = view-counts bs o .definitions in
-      omega arith
-
-  items-few : itemCount own ≤ NONE
-  items-few =
-      let within = view-inside bs o .items in
-      let long = view-counts bs o .items in
-      omega arith
-
 module _ (bs view : List ℕ) (o : Opens bs) (short : length bs < 2 ^ 32) (lists : definitionsRule (sectionsOf bs) ≡ 0) (t : HeaderTells bs (viewOf bs)) (v : ViewOf bs view) where
   abbrev s : Sections
   s = sectionsOf bs
@@ -230,7 +219,7 @@ module _ (bs view : List ℕ) (o : Opens bs) (short : length bs < 2 ^ 32) (lists
         definition-item = λ d j. answering 3 _ _ (asked-as bs view (right-version bs o) v _) (item-size (itemQuery s d j));
         list-item = λ name.
             answering 3 _ _
-            (asked-as bs view (right-version bs o) v _ ∙ ap listItemAnswer (same-answer s lists name) ∙ item-words s (definitions-few bs o short) (items-few bs o short) name)
+            (asked-as bs view (right-version bs o) v _ ∙ ap listItemAnswer (same-answer s lists name) ∙ item-words bs o short name)
             (list-item-size (listItem s name));
         searched = searched-as bs view (right-version bs o) v;
         walk = λ origin relative path names.
