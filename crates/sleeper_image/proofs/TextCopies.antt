@@ -58,7 +58,7 @@ module _ (bytes view : List ℕ) (kind a b : ℕ) where
   unfolding textUnder under
   under-none h k = rw (le-leb viewLength (length view) h, le-leb textKinds kind k) refl
 
-  under-some : viewLength ≤ length view → kind < textKinds → (v : SleeperView) → v ≡ viewBy view → (w : Which) → w ≡ whichBy kind a b
+  pub under-some : viewLength ≤ length view → kind < textKinds → (v : SleeperView) → v ≡ viewBy view → (w : Which) → w ≡ whichBy kind a b
       → sleeperText (sleeperSections bytes v) w ≡ textUnder bytes view kind a b
   unfolding textUnder under
   under-some h k v e w q =

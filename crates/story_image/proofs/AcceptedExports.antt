@@ -1,27 +1,24 @@
 -- Nothing sticks at the edge: on accepted bytes an exported query answers exactly if the inner one does, with its words.
-use Prim.Native.Nat.{ℕ, zero, suc, _+_, _≤_, _<_, _^_}
+use Prim.Native.Nat.{ℕ, _+_, _≤_, _<_, _^_}
 use mathlib.Core.Path.{_≡_, refl, sym, ap, _∙_}
 use mathlib.Core.List.{List, [], _∷_}
-use mathlib.Core.Bool.{Bool, true, false, cond, not, _||_}
+use mathlib.Core.Bool.{Bool, true, false, cond}
 use mathlib.Core.Option.{Option, none, some, Option·some-injective, Option·none-ne-some}
 use native.Mathlib.Omega.{arith}
 use lib.ListN.{length}
 use lib.Dec.{leb}
-use borrow.Author.Tests.{le-leb, leb-true, eqb-true}
-use Rattle.laws.specs.Counted.{lastOf}
+use borrow.Author.Tests.{leb-true, eqb-true}
 use Rattle.laws.proofs.First.{both}
 use Rattle.laws.proofs.Flags.{both-true}
-use Rattle.words.specs.Words.{NONE, wordAt}
+use Rattle.words.specs.Words.{wordAt}
 use Rattle.checksum.specs.Crc.{checksumOf}
 use Rattle.image.specs.declared.ImageView.{ImageView}
-use Rattle.image.specs.Sections.{Sections, definitionCount, itemCount, present}
+use Rattle.image.specs.Sections.{Sections, definitionCount, present}
 use Rattle.image.specs.Header.{version, headerRule, viewOf, sectionsBy, sectionsOf, lengthAt, checksumAt, versionAt}
 use Rattle.image.proofs.OpenedHeader.{Opens, opens, view-inside, view-counts, length-word}
-use Rattle.definitions.specs.Definitions.{firstItem, numberOfItems, definitionsRule}
+use Rattle.definitions.specs.Definitions.{definitionsRule}
 use Rattle.load.specs.Load.{loadRule, loadedOf, loadedBy}
 use Rattle.views.specs.declared.Span.{Span}
-use Rattle.views.specs.declared.Found.{Found}
-use Rattle.views.specs.declared.Found.the-variants as found
 use Rattle.views.specs.declared.Count.{Count}
 use Rattle.views.specs.declared.Count.the-variants as count
 use Rattle.views.specs.declared.NamedAnswer.{NamedAnswer}
@@ -42,21 +39,15 @@ use Rattle.views.specs.Lists.{listPart, listEntry, listOrigin, definitionQuery,
 use Rattle.walks.specs.Walk.{components, resolve}
 use Rattle.depth.specs.Depth.{depthOf}
 use Rattle.pages.specs.Page.{slotView}
-use Rattle.lookups.specs.declared.ListItem.{ListItem}
-use Rattle.lookups.specs.declared.ListItemAnswer.{ListItemAnswer}
-use Rattle.lookups.specs.declared.ListItemAnswer.the-variants as listed
 use Rattle.texts.specs.Text.{same}
-use Rattle.texts.specs.Dots.{hasDot, beforeDot, afterDot}
-use Rattle.utf8.specs.White.{blank}
-use Rattle.lookups.specs.Lookup.{definitionName, itemPlace, answeringPlace, searched, answers, listItemIn, listItemAt, lastItem, findNamed, listItem}
-use Rattle.lookups.proofs.Lookups.{place-below}
+use Rattle.lookups.specs.Lookup.{searched, findNamed, listItem}
 use Rattle.list_items.specs.Search.{listSearch}
 use Rattle.list_items.proofs.Plain.{same-answer}
 use Rattle.promises.specs.Answers.{Answer, given, ofCount, ofLoaded}
 use Rattle.promises.proofs.Acceptance.{load-accepted, accepted-passed}
 use Rattle.technician.specs.Technician.{stringsCountAt, headerWord, HeaderTells}
 use Rattle.technician.proofs.Accepted.{accepted-header}
-use Rattle.answers.specs.AnswerWords.{answerAfter, numberOf, foundAnswer, countAnswer, namedAnswer, placeAnswer, partWords, partAnswer, entryAnswer, definitionAnswer, itemAnswer, listItemAnswer, listCountWords}
+use Rattle.answers.specs.AnswerWords.{answerAfter, countAnswer, namedAnswer, placeAnswer, partWords, partAnswer, entryAnswer, definitionAnswer, itemAnswer, listItemAnswer, listCountWords}
 use Rattle.answers.specs.Exports.{Answers}
 use Rattle.answers.specs.NodeViewWords.{nodeAnswer, listPlace}
 use Rattle.answers.proofs.AnswerSlices.{count-some, part-some}

@@ -11,7 +11,6 @@ use Rattle.laws.specs.Lists.{Below}
 use Rattle.checksum.specs.Crc.{checksumOf}
 use Rattle.image.specs.Sections.{Sections, definitionCount}
 use Rattle.image.specs.Header.{viewOf, sectionsOf}
-use Rattle.image.specs.Refusals.{notFound}
 use Rattle.load.specs.Load.{loadRule}
 use Rattle.views.specs.declared.Span.{Span}
 use Rattle.views.specs.declared.TextAnswer.{TextAnswer}
@@ -19,14 +18,12 @@ use Rattle.views.specs.declared.TextAnswer.the-variants as place
 use Rattle.views.specs.View.{span, nodeView}
 use Rattle.views.specs.Children.{childCountOf, namedCountOf, childQuery, namedQuery, textQuery}
 use Rattle.views.specs.Lists.{listPart, listEntry, listOrigin, definitionQuery, itemQuery}
-use Rattle.lookups.specs.declared.ListItemAnswer.{ListItemAnswer}
-use Rattle.lookups.specs.declared.ListItemAnswer.the-variants as listed
 use Rattle.lookups.specs.Lookup.{findNamed, listItem}
 use Rattle.list_items.specs.Search.{listSearch}
 use Rattle.walks.specs.Walk.{components, resolve}
 use Rattle.depth.specs.Depth.{depthOf}
 use Rattle.pages.specs.Page.{slotWords, pageRule, pageAfter, slotView}
-use Rattle.answers.specs.AnswerWords.{answerAfter, numberOf, unsigned, foundAnswer, countAnswer, namedAnswer, placeAnswer, entryAnswer, definitionAnswer, itemAnswer, listCountWords}
+use Rattle.answers.specs.AnswerWords.{answerAfter, foundAnswer, countAnswer, namedAnswer, placeAnswer, entryAnswer, definitionAnswer, itemAnswer, listCountWords}
 use Rattle.answers.specs.Exports.{Answers, wordsOfListItem}
 use Rattle.answers.specs.NodeViewWords.{nodeAnswer, listPlace}
 use Rattle.story_image.specs.Exported.{viewLength, wordsOfView, writtenAfter}
