@@ -42,7 +42,7 @@ use Rattle.sleeper.specs.NodeWords.{valueWords, kindWords, nodeAnswer}
 use Rattle.sleeper.specs.Texts.{sleeperText}
 use Rattle.sleeper.specs.Lists.{sleeperListItems, sleeperListOrigins, sleeperEntry}
 use Rattle.sleeper_promises.proofs.SameView.{whole-sections, passed-rules}
-use Rattle.sleeper_image.specs.Exported.{viewLength, wordsOfView, viewBy, under}
+use Rattle.sleeper_image.specs.Exported.{viewLength, viewBy, under}
 use Rattle.sleeper_image.specs.Queries.{entryAnswer, itemAnswer, searchedAfter}
 use Rattle.sleeper_image.specs.Texts.{textKinds, whichBy, textUnder, lengthWords}
 use Rattle.sleeper_image.specs.Accepted.{ViewOf, SleeperExports, AcceptedSleeperExports}

@@ -1,8 +1,7 @@
 -- A text copied, and its length, under lent words of a view.
 use Prim.Native.Nat.{ℕ, _≤_, _<_}
 use mathlib.Core.Path.{_≡_, refl, sym, ap, _∙_}
-use mathlib.Core.List.{List, [], _∷_}
-use mathlib.Core.Bool.{Bool, cond}
+use mathlib.Core.List.{List}
 use mathlib.Core.Option.{Option, none, some}
 use native.Mathlib.Omega.{arith}
 use lib.ListN.{length}
@@ -20,7 +19,7 @@ use Rattle.sleeper.specs.Reader.{sleeperSections}
 use Rattle.sleeper.specs.Texts.{orEmpty, lengthIf, sleeperText}
 use Rattle.sleeper_image.specs.Exported.{viewLength, viewBy, under}
 use Rattle.sleeper_image.specs.Texts.{textKinds, whichBy, textUnder, lengthWords, answerOfTextLength}
-use Rattle.sleeper_image.proofs.Views.{too-few, enough}
+use Rattle.sleeper_image.proofs.Views.{too-few}
 
 -- ---- a text and its length: a length is answered exactly where there is a text
 
