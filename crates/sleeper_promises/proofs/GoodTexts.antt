@@ -218,7 +218,7 @@ module _ (s : Sections) (g : Kept s) where
   -- ---- list values
 
   -- the payload of a list value is handed back whole
-  pub list-right : (i : ℕ) → i < nodeCount s → tagOf s i ≡ listTag → PayloadRight s (f s i 0) (f s i 1)
+  list-right : (i : ℕ) → i < nodeCount s → tagOf s i ≡ listTag → PayloadRight s (f s i 0) (f s i 1)
   unfolding fields kinds
   list-right i h e =
       subst (λ (n : ℕ). (x : Field) → List·Memᴰ x (fields (kindOf n)) → FieldRight s i x) e (g .rules .fields i h) payload (List·Memᴰ·head refl) .1

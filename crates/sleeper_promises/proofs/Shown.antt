@@ -1,8 +1,8 @@
 -- What the sleeper can count on in an image that the sleeper's load accepts.
 use Prim.Native.Nat.{ℕ, zero, suc, _≤_, _<_}
 use mathlib.Core.Path.{_≡_, refl, sym, ap, _∙_, subst}
-use mathlib.Core.List.{List}
-use mathlib.Core.Bool.{Bool}
+use mathlib.Core.List.{List, List·Memᴰ, List·Memᴰ·head}
+use mathlib.Core.Bool.{Bool, true, false, cond, true≢false}
 use mathlib.Core.Option.{some, Option·none-ne-some}
 use native.Mathlib.Omega.{arith}
 use lib.ListN.{length}
@@ -10,12 +10,13 @@ use Rattle.laws.specs.Lists.{Below}
 use Rattle.words.specs.Words.{wordAt}
 use Rattle.image.specs.declared.ImageView.{ImageView}
 use Rattle.image.specs.Sections.{Sections, listHeadSize, nodeCount, tagOf, f, textOrEmpty}
-use Rattle.image.specs.Tags.{listTag}
 use Rattle.image.specs.Header.{viewOf, sectionsBy, sectionsOf}
 use Rattle.image.proofs.OpenedHeader.{opens}
+use Rattle.records.specs.Fields.{Kind, fields, kindOf, payload}
 use Rattle.load.specs.declared.Loaded.{Loaded}
 use Rattle.load.specs.declared.Loaded.the-variants as loaded
 use Rattle.load.specs.Load.{loadRule, loadedOf}
+use Rattle.views.specs.declared.Span.{Span}
 use Rattle.views.specs.declared.OptionalText.{OptionalText}
 use Rattle.views.specs.declared.OptionalText.the-variants as text
 use Rattle.views.specs.declared.ValueView.{ValueView}
@@ -25,19 +26,21 @@ use Rattle.views.specs.declared.NodeKindView.the-variants as kind
 use Rattle.views.specs.declared.NodeView.{NodeView}
 use Rattle.views.specs.declared.NodeAnswer.{NodeAnswer}
 use Rattle.views.specs.declared.NodeAnswer.the-variants as node
-use Rattle.views.specs.View.{span, nodeView}
+use Rattle.views.specs.View.{nodeView}
 use Rattle.views.specs.Children.{namedQuery}
 use Rattle.views.specs.Lists.{listPart, listEntry, listOrigin, definitionQuery, itemEntry, itemQuery}
-use Rattle.notes.specs.Notes.{hideNote, hideIn, hidden}
+use Rattle.answers.specs.NodeViewWords.{listOfKind, listPlace}
+use Rattle.notes.specs.Notes.{noteKind, hideNote, hideIn, hidden}
 use Rattle.promises.specs.Answers.{Answer, given, ofLoaded, ofNode, ofCount, ofFound}
 use Rattle.promises.specs.Promises.{Sound, OneSpelling}
 use Rattle.promises.specs.Lookups.{Lookups}
-use Rattle.promises.specs.Readers.{stepUp, ascend, ChildRead, NamedRead, Reads, ImageReads}
+use Rattle.promises.specs.Readers.{viewLists, stepUp, ascend, ChildRead, NamedRead, Reads, ImageReads}
 use Rattle.promises.proofs.Answers.{given-equal}
-use Rattle.promises.proofs.Fields.{right-node}
 use Rattle.promises.proofs.Acceptance.{load-accepted}
 use Rattle.promises.proofs.Premises.{Kept, load-kept, a-node}
-use Rattle.promises.proofs.Whole.{part-long, list-read}
+use Rattle.promises.proofs.Views.{Right, seen as node-seen}
+use Rattle.promises.proofs.ViewParts.{view-lists}
+use Rattle.promises.proofs.Whole.{part-long}
 use Rattle.promises.proofs.Readers.{answered, image-reads, accepted-reads}
 use Rattle.promises.proofs.Lookups.{accepted-lookups}
 use Rattle.promises.proofs.Sound.{accepted-sound}
@@ -45,6 +48,9 @@ use Rattle.promises.proofs.OneSpelling.{accepted-one-spelling}
 use Rattle.sleeper.specs.declared.Which.{Which}
 use Rattle.sleeper.specs.declared.Which.the-variants as which
 use Rattle.sleeper.specs.declared.SleeperView.{SleeperView}
+use Rattle.sleeper.specs.declared.SleeperValue.the-variants as seenValue
+use Rattle.sleeper.specs.declared.SleeperKind.{SleeperKind}
+use Rattle.sleeper.specs.declared.SleeperKind.the-variants as seen
 use Rattle.sleeper.specs.declared.SleeperNode.{SleeperNode}
 use Rattle.sleeper.specs.Reader.{withoutPlaces, sleeperSections, loadedSeen, sleeperLoaded}
 use Rattle.sleeper.specs.Seen.{presence, valueSeen, kindSeen, viewSeen, sleeperView}
@@ -53,7 +59,7 @@ use Rattle.sleeper.proofs.AnswersSeen.{seen-as-technician}
 use Rattle.sleeper_promises.specs.Answers.{ofSleeperLoaded, ofSleeper, ofSleeperEntry, ofSleeperItem, ofBytes}
 use Rattle.sleeper_promises.specs.Shown.{TextGiven, TextIf, valueHasText, hasText, hasVariable, stepSeen, ascendSeen, ListShown, ChildShown, NamedShown, NodeShown, SectionsShown, ImageShown, AcceptedShown}
 use Rattle.sleeper_promises.proofs.SameView.{whole-sections, passed-rules}
-use Rattle.sleeper_promises.proofs.GoodTexts.{node-given, named-given, text-given, entry-given, definition-given, item-given, list-right, texts-good}
+use Rattle.sleeper_promises.proofs.GoodTexts.{node-given, named-given, text-given, entry-given, definition-given, item-given, texts-good}
 
 -- ---- which texts a view tells of
 
@@ -91,6 +97,57 @@ variable-told (kind.Value v) = refl
 variable-told (kind.VariableAssignment t global new) = refl
 variable-told (kind.VariableReference t target) = refl
 variable-told kind.Void = refl
+
+-- ---- which nodes are list values
+
+isList : SleeperKind → Bool
+isList (seen.Value seenValue.List) = true
+isList (seen.Value (seenValue.Bool b)) = false
+isList (seen.Value (seenValue.Int n)) = false
+isList (seen.Value (seenValue.Float bits x)) = false
+isList (seen.Value seenValue.String) = false
+isList (seen.Value seenValue.DivertTarget) = false
+isList (seen.Value (seenValue.VariablePointer context)) = false
+isList (seen.Container flags name) = false
+isList (seen.ChoicePoint flags target) = false
+isList (seen.ControlCommand c) = false
+isList (seen.Divert path target variable arguments conditional external pushes pushed) = false
+isList seen.Glue = false
+isList (seen.NativeFunction o) = false
+isList seen.Tag = false
+isList (seen.VariableAssignment global new) = false
+isList (seen.VariableReference target) = false
+isList seen.Void = false
+
+record ListKind (k : NodeKindView) : Type 0 where
+  place : Span
+  is : k ≡ kind.Value (value.List place)
+
+kind-list : (k : NodeKindView) → isList (kindSeen k) ≡ true → ListKind k
+unfolding isList
+kind-list (kind.Value (value.List p)) e = record { place = p; is = refl }
+kind-list (kind.Value (value.Bool b)) e = absurd (true≢false (sym e))
+kind-list (kind.Value (value.Int n)) e = absurd (true≢false (sym e))
+kind-list (kind.Value (value.Float bits x)) e = absurd (true≢false (sym e))
+kind-list (kind.Value (value.String t)) e = absurd (true≢false (sym e))
+kind-list (kind.Value (value.DivertTarget t)) e = absurd (true≢false (sym e))
+kind-list (kind.Value (value.VariablePointer t context)) e = absurd (true≢false (sym e))
+kind-list (kind.Container flags name) e = absurd (true≢false (sym e))
+kind-list (kind.ChoicePoint flags target) e = absurd (true≢false (sym e))
+kind-list (kind.ControlCommand c) e = absurd (true≢false (sym e))
+kind-list (kind.Divert path target variable arguments conditional external pushes pushed) e = absurd (true≢false (sym e))
+kind-list kind.Glue e = absurd (true≢false (sym e))
+kind-list (kind.NativeFunction o) e = absurd (true≢false (sym e))
+kind-list (kind.Tag t) e = absurd (true≢false (sym e))
+kind-list (kind.VariableAssignment t global new) e = absurd (true≢false (sym e))
+kind-list (kind.VariableReference t target) e = absurd (true≢false (sym e))
+kind-list kind.Void e = absurd (true≢false (sym e))
+
+-- with a note as void
+list-kind : (b : Bool) (k : NodeKindView) → kindSeen (cond b kind.Void k) ≡ seen.Value seenValue.List → ListKind k
+unfolding isList
+list-kind true k e = absurd (true≢false (sym (ap isList e)))
+list-kind false k e = kind-list k (ap isList e)
 
 -- ---- the view of a node that the technician's reader shows so
 
@@ -170,30 +227,43 @@ module _ (s : Sections) (g : Kept s) where
 
   -- ---- list values
 
-  list-shown : (i : ℕ) → i < nodeCount s → tagOf s i ≡ listTag → ListShown s i
-  list-shown i h t =
-      let p = list-right s g i h t in
-      let r = list-read s (f s i 0) (f s i 1) p in
-      let q = seen-as-technician s .list i (right-node s i (a-node g i h)) t in
-      let long : listHeadSize ≤ length (listPart s (span (f s i 0) (f s i 1))) = omega (arith, part-long s (f s i 0) (f s i 1) p, p .long) in
+  -- the payload of a list value has room for both counts
+  list-long : (i : ℕ) → i < nodeCount s → (v : NodeView) → ofNode (nodeView s i) ≡ given v → (p : Span) → List·Memᴰ p (viewLists (v .kind))
+      → listHeadSize ≤ length (listPart s p)
+  unfolding fields
+  list-long i h v e p m =
+      let w = node-seen s i (a-node g i h) (g .rules .fields i h) in
+      let same = given-equal _ v (sym (ap ofNode (w .view-is)) ∙ e) in
+      view-lists s (λ (x : Span). listHeadSize ≤ length (listPart s x)) i (kindOf (tagOf s i)) (w .kind)
+      (λ q l. let r = subst (λ (k : Kind). Right s i k) q (g .rules .fields i h) payload (List·Memᴰ·head refl) .1 in
+      omega (arith, part-long s (f s i 0) (f s i 1) r, r .long))
+      (w .kind-is) p (subst (λ (x : NodeView). List·Memᴰ p (viewLists (x .kind))) (sym same) m)
+
+  list-shown : (i : ℕ) → i < nodeCount s → (r : Reads s i) → kindSeen (hiddenKind s (r .view)) ≡ seen.Value seenValue.List → ListShown s i
+  list-shown i h r e =
+      let k = list-kind (noteKind (s .strings) (r .view .kind)) (r .view .kind) e in
+      let p = k .place in
+      let m : List·Memᴰ p (viewLists (r .view .kind)) = subst (λ (x : NodeKindView). List·Memᴰ p (viewLists x)) (sym (k .is)) (List·Memᴰ·head refl) in
+      let read = r .lists p m in
+      let q = seen-as-technician s .list i p (ap listPlace (node-given (nodeView s i) (r .view) (r .viewed)) ∙ ap listOfKind (k .is)) in
+      let counts = q .counts (list-long i h (r .view) (r .viewed) p m) in
       record {
-        items = wordAt (listPart s (span (f s i 0) (f s i 1))) 0;
-        item-count = ap ofCount (q .items long);
+        items = wordAt (listPart s p) 0;
+        item-count = ap ofCount (counts .0);
         item = λ j l.
-            let a = r .items j l in
-            let b = q .entry j .found (a .item) (entry-given (listEntry (listPart s (span (f s i 0) (f s i 1))) (s .strings) j) (a .item) (a .found)) in
+            let a = read .items j l in
+            let b = q .entry j .found (a .item) (entry-given (listEntry (listPart s p) (s .strings) j) (a .item) (a .found)) in
             record {
               entry = record { origin = presence (a .item .origin); value = a .item .value };
               found = ap ofSleeperEntry (b .0);
               name = given-text (which.EntryName i j) _ (b .1);
               origin = text-if (which.EntryOrigin i j) (a .item .origin) (b .2);
             };
-        origins = wordAt (listPart s (span (f s i 0) (f s i 1))) 4;
-        origin-count = ap ofCount (q .origins long);
+        origins = wordAt (listPart s p) 4;
+        origin-count = ap ofCount (counts .1);
         origin = λ j l.
-            let a = r .origins j l in
-            given-text (which.Origin i j) _
-            (q .origin j .found (a .origin) (text-given (listOrigin (listPart s (span (f s i 0) (f s i 1))) (s .strings) j) (a .origin) (a .found)));
+            let a = read .origins j l in
+            given-text (which.Origin i j) _ (q .origin j .found (a .origin) (text-given (listOrigin (listPart s p) (s .strings) j) (a .origin) (a .found)));
       }
 
   -- ---- a node
@@ -209,7 +279,7 @@ module _ (s : Sections) (g : Kept s) where
         place = refl;
         text = node-text i (r .view) (r .viewed);
         variable = node-variable i (r .view) (r .viewed);
-        list = list-shown i h;
+        list = list-shown i h r;
         ascends = λ k l. ascend-same s k i ∙ r .ascends k l;
         parentless = r .parentless;
         depth = record {

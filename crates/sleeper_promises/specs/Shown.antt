@@ -6,8 +6,7 @@ use mathlib.Core.Bool.{Bool, true, false}
 use lib.IntN.{ℤ}
 use Rattle.laws.specs.Lists.{Below}
 use Rattle.image.specs.declared.ImageView.{ImageView}
-use Rattle.image.specs.Sections.{Sections, goodBytes, nodeCount, definitionCount, itemCount, tagOf, f, isContainer}
-use Rattle.image.specs.Tags.{listTag}
+use Rattle.image.specs.Sections.{Sections, goodBytes, nodeCount, definitionCount, itemCount, f, isContainer}
 use Rattle.image.specs.Header.{sectionsBy}
 use Rattle.image.specs.Refusals.{notFound}
 use Rattle.load.specs.Load.{loadedOf}
@@ -166,7 +165,7 @@ pub record NodeShown (s : Sections) (i : ℕ) : Type 0 where
   -- a text is given if the view tells of one, else 18
   pub text : TextIf (hasText (view .kind)) s (which.Node i)
   pub variable : TextIf (hasVariable (view .kind)) s (which.Variable i)
-  pub list : tagOf s i ≡ listTag → ListShown s i
+  pub list : view .kind ≡ kind.Value value.List → ListShown s i
   -- fewer steps than nodes lead to node 0, which alone has no parent
   pub ascends : (k : ℕ) → nodeCount s ≤ suc k → ascendSeen s k i ≡ 0
   pub parentless : view .parent ≡ word.Absent → i ≡ 0
