@@ -1,7 +1,7 @@
--- `sleeper::without_sections` meets its contract.
+-- `sleeper::sections::without_sections` meets its contract.
 use borrow.Author.Needs.{needs}
-use Rattle.sleeper.proofs.without_sections.Statement.{statement}
-use Rattle.sleeper.proofs.without_sections.Tie as tie
+use Rattle.sleeper.proofs.sections.without_sections.Statement.{statement}
+use Rattle.sleeper.proofs.sections.without_sections.Tie as tie
 
 returns : tie.Need-returns
 returns c = cc

@@ -1,11 +1,11 @@
--- `sleeper::nodes_end` meets its contract.
+-- `sleeper::sections::nodes_end` meets its contract.
 use Prim.Native.Nat.{ℕ, _+_, _*_}
 use mathlib.Core.Path.{ap}
 use native.Mathlib.Omega.{arith}
 use Rattle.sleeper.proofs.SectionPlaces.{nodes-most}
 use borrow.Author.Needs.{needs}
-use Rattle.sleeper.proofs.nodes_end.Statement.{statement}
-use Rattle.sleeper.proofs.nodes_end.Tie as tie
+use Rattle.sleeper.proofs.sections.nodes_end.Statement.{statement}
+use Rattle.sleeper.proofs.sections.nodes_end.Tie as tie
 
 mul-result : tie.Need-mul-result
 mul-result c = omega (arith, nodes-most (c .before .args .count) (c .before .args .version) _ (omega arith) (c .node-size .ensures))

@@ -1,8 +1,8 @@
--- `sleeper::with_places` meets its contract.
+-- `sleeper::sections::with_places` meets its contract.
 use Rattle.sleeper.proofs.SectionPlaces.{placed-there, past-end, too-long}
 use borrow.Author.Needs.{needs}
-use Rattle.sleeper.proofs.with_places.Statement.{statement}
-use Rattle.sleeper.proofs.with_places.Tie as tie
+use Rattle.sleeper.proofs.sections.with_places.Statement.{statement}
+use Rattle.sleeper.proofs.sections.with_places.Tie as tie
 
 returns : tie.Need-returns
 returns c = search (needs, too-long)
