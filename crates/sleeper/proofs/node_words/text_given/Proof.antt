@@ -5,7 +5,7 @@ use Rattle.sleeper.proofs.node_words.text_given.Statement.{statement}
 use Rattle.sleeper.proofs.node_words.text_given.Tie as tie
 
 returns : tie.Need-returns
-returns c = search (needs, eq-eqb, ne-eqb)
+returns c = search (needs, eq-eqb)
 
 returns-2 : tie.Need-returns-2
 returns-2 c = search (needs, eq-eqb, ne-eqb)
