@@ -1,4 +1,5 @@
-//! The sleeper's static library's functions, as include/sleeper_image.h has them. A slice passes as pointer and length.
+//! The functions of the sleeper's static library, as include/sleeper_image.h has them. A slice passes as pointer and
+//! length.
 
 unsafe extern "C" {
     pub fn story_image_sleeper_load_words(bytes: *const u8, length: usize) -> usize;
@@ -22,6 +23,7 @@ unsafe extern "C" {
         answer_length: usize,
     ) -> u32;
 
+    /// Writes `text` and the first word of `size` with 0 alone.
     pub fn story_image_sleeper_text(
         bytes: *const u8,
         length: usize,
@@ -183,6 +185,7 @@ unsafe extern "C" {
         answer_length: usize,
     ) -> u32;
 
+    /// The count goes into the first word of `searched`, with 18 too.
     pub fn story_image_sleeper_find_list_item(
         bytes: *const u8,
         length: usize,
@@ -196,6 +199,7 @@ unsafe extern "C" {
         searched_length: usize,
     ) -> u32;
 
+    /// Three words a component: kind (0 parent, 1 index, 2 name), then index and 0, or offset and length in `names`.
     pub fn story_image_sleeper_resolve_path(
         bytes: *const u8,
         length: usize,
