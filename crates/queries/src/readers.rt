@@ -5,6 +5,7 @@ use crate::print;
 use crate::print_number;
 use crate::print_refusal;
 use image::ImageView;
+use image::Section;
 use load::Loaded;
 use sleeper::SleeperAnswer;
 use sleeper::SleeperKind;
@@ -41,6 +42,13 @@ fn print_optional(word: OptionalWord) {
     }
 }
 
+fn print_value(value: ValueView) {
+    match value {
+        ValueView::String(_) => print(b" string"),
+        _ => print(b" value"),
+    }
+}
+
 // The kind of a node to the technician.
 fn print_technician(bytes: &[u8], view: ImageView, node: u32) {
     match views::view::node_view(bytes, view, node) {
@@ -53,11 +61,18 @@ fn print_technician(bytes: &[u8], view: ImageView, node: u32) {
                     name: _,
                 } => print(b" container"),
                 NodeKindView::Tag(_) => print(b" tag"),
-                NodeKindView::Value(ValueView::String(_)) => print(b" string"),
+                NodeKindView::Value(value) => print_value(value),
                 NodeKindView::Void => print(b" void"),
                 _ => print(b" other"),
             }
         }
+    }
+}
+
+fn print_seen_value(value: SleeperValue) {
+    match value {
+        SleeperValue::String => print(b"string"),
+        _ => print(b"value"),
     }
 }
 
@@ -68,7 +83,7 @@ fn print_kind(kind: SleeperKind) {
             name: _,
         } => print(b"container"),
         SleeperKind::Tag => print(b"tag"),
-        SleeperKind::Value(SleeperValue::String) => print(b"string"),
+        SleeperKind::Value(value) => print_seen_value(value),
         SleeperKind::Void => print(b"void"),
         _ => print(b"other"),
     }
@@ -147,10 +162,11 @@ fn run(bytes: &[u8]) {
 
 // The two images, and a header that is cut.
 pub fn run_both(records: &[u8]) {
-    let first = part(records, 19586);
-    run(first);
+    run(part(records, 19586));
     run(part(records, 20379));
-    if 87 <= first.len() {
-        print_header(&first[..87]);
-    }
+    let cut = Section {
+        offset: 19590,
+        count: 87,
+    };
+    print_header(image::section_part(records, cut, 1));
 }

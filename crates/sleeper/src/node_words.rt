@@ -14,7 +14,7 @@ ghost use Rattle.sleeper.specs.Seen.{viewSeen, sleeperView};
 ghost use Rattle.sleeper.specs.NodeWords.{nodeAnswer};
 ghost use Rattle.sleeper.specs.RecordWords.{noteWords, hiddenWords, textGiven, sixOf};
 use crate::SleeperView;
-use crate::with_places;
+use crate::sections::with_places;
 use answers::node::KindFound;
 use answers::node::KindWords;
 use image::ImageView;

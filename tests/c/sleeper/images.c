@@ -224,7 +224,7 @@ uint8_t *parts_bytes(const struct part *parts, size_t count, const char *text, s
         uint32_t *node = add_node(&tables, 0, k, parts[k].kind);
         node[3] = parts[k].offset;
         node[4] = parts[k].length;
-        if (parts[k].kind == STORY_IMAGE_KIND_ASSIGNMENT)
+        if (parts[k].kind == STORY_IMAGE_KIND_ASSIGNMENT || parts[k].kind == STORY_IMAGE_KIND_DIVERT_TARGET)
             node[5] = 0;
         tables.children[k] = k + 1;
     }

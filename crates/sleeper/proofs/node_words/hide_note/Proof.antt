@@ -4,12 +4,6 @@ use borrow.Author.Needs.{needs}
 use Rattle.sleeper.proofs.node_words.hide_note.Statement.{statement}
 use Rattle.sleeper.proofs.node_words.hide_note.Tie as tie
 
-is-note-requires : tie.Need-is-note-requires
-is-note-requires c κs = search needs
-
-value-alone-requires : tie.Need-value-alone-requires
-value-alone-requires c κs = search needs
-
 returns : tie.Need-returns
 returns c = search (needs, note-words)
 
@@ -17,4 +11,4 @@ returns-2 : tie.Need-returns-2
 returns-2 c = search (needs, other-words)
 
 pub hide-note-spec : {M : Type 1} → statement M
-hide-note-spec = tie.close (tie.spec is-note-requires value-alone-requires returns returns-2)
+hide-note-spec = tie.close (tie.spec (λ c κs. search needs) (λ c κs. search needs) returns returns-2)

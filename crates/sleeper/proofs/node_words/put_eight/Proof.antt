@@ -7,23 +7,14 @@ use borrow.Author.Needs.{needs}
 use Rattle.sleeper.proofs.node_words.put_eight.Statement.{statement}
 use Rattle.sleeper.proofs.node_words.put_eight.Tie as tie
 
-slice-write-out : tie.Need-slice-write-out
-slice-write-out c = search needs
-
 slice-write-out-2 : tie.Need-slice-write-out-2
 slice-write-out-2 c = simp length-set (omega arith)
 
 slice-write-out-3 : tie.Need-slice-write-out-3
 slice-write-out-3 c = simp length-set (omega arith)
 
-text-given-requires : tie.Need-text-given-requires
-text-given-requires c κs = search needs
-
 slice-write-out-4 : tie.Need-slice-write-out-4
 slice-write-out-4 c = simp length-set (omega arith)
-
-given-requires : tie.Need-given-requires
-given-requires c κs = search needs
 
 slice-write-out-5 : tie.Need-slice-write-out-5
 slice-write-out-5 c = simp length-set (omega arith)
@@ -37,9 +28,6 @@ slice-write-out-7 c = simp length-set (omega arith)
 slice-write-out-8 : tie.Need-slice-write-out-8
 slice-write-out-8 c = simp length-set (omega arith)
 
-same-length : tie.Need-same-length
-same-length c = search needs
-
 returns : tie.Need-returns
 returns c =
     let start = c .before .before .before in
@@ -48,16 +36,5 @@ returns c =
 pub put-eight-spec : {M : Type 1} → statement M
 put-eight-spec =
     tie.close
-    (tie.spec
-    slice-write-out
-    slice-write-out-2
-    slice-write-out-3
-    text-given-requires
-    slice-write-out-4
-    given-requires
-    slice-write-out-5
-    slice-write-out-6
-    slice-write-out-7
-    slice-write-out-8
-    same-length
-    returns)
+    (tie.spec (λ c. search needs) slice-write-out-2 slice-write-out-3 (λ c κs. search needs) slice-write-out-4 (λ c κs. search needs)
+    slice-write-out-5 slice-write-out-6 slice-write-out-7 slice-write-out-8 (λ c. search needs) returns)

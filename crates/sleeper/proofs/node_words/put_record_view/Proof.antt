@@ -14,26 +14,8 @@ use Rattle.sleeper.proofs.node_words.put_record_view.Tie as tie
 returns : tie.Need-returns
 returns c = let a = c .before .before .before .args in view-short (viewSeen (hideIn (now (a .strings)) (recordView (now (a .strings)) (a .payload) (a .node)))) _ (c .if1 .taken)
 
-kind-words-requires : tie.Need-kind-words-requires
-kind-words-requires c κs = search needs
-
-enum-told : tie.Need-enum-told
-enum-told c = search needs
-
-enum-known-kind : tie.Need-enum-known-kind
-enum-known-kind c = search needs
-
-hide-note-requires : tie.Need-hide-note-requires
-hide-note-requires c κs = search needs
-
-put-eight-requires : tie.Need-put-eight-requires
-put-eight-requires c κs = search needs
-
 returns-2 : tie.Need-returns-2
 returns-2 c = let a = c .before .before .before .before .before .before .args in unanswered _ _ (kind-missing (now (a .strings)) (a .payload) (a .node) (ap wordsFound (sym (c .enum-told .given .1)) ∙ c .before .before .kind-words .ensures))
-
-same-length : tie.Need-same-length
-same-length c = search needs
 
 returns-3 : tie.Need-returns-3
 returns-3 c =
@@ -44,13 +26,5 @@ returns-3 c =
 pub put-record-view-spec : {M : Type 1} → statement M
 put-record-view-spec =
     tie.close
-    (tie.spec
-    returns
-    kind-words-requires
-    enum-told
-    enum-known-kind
-    hide-note-requires
-    put-eight-requires
-    returns-2
-    same-length
-    returns-3)
+    (tie.spec returns (λ c κs. search needs) (λ c. search needs) (λ c. search needs) (λ c κs. search needs) (λ c κs. search needs) returns-2
+    (λ c. search needs) returns-3)

@@ -4,14 +4,11 @@ use borrow.Author.Needs.{needs}
 use Rattle.sleeper.proofs.node_words.text_given.Statement.{statement}
 use Rattle.sleeper.proofs.node_words.text_given.Tie as tie
 
-given-requires : tie.Need-given-requires
-given-requires c κs = search needs
-
 returns : tie.Need-returns
-returns c = search (needs, eq-eqb, ne-eqb)
+returns c = search (needs, eq-eqb)
 
 returns-2 : tie.Need-returns-2
 returns-2 c = search (needs, eq-eqb, ne-eqb)
 
 pub text-given-spec : {M : Type 1} → statement M
-text-given-spec = tie.close (tie.spec given-requires returns returns-2)
+text-given-spec = tie.close (tie.spec (λ c κs. search needs) returns returns-2)
