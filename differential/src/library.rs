@@ -64,6 +64,8 @@ pub trait Queries {
     /// Item j and origin j of a list value, by its place in the payload.
     fn list_entry(&self, bytes: &[u8], view: &View, list: Place, index: u32) -> Option<Entry>;
     fn list_origin(&self, bytes: &[u8], view: &View, list: Place, index: u32) -> Option<Place>;
+    /// How many items and origins the list value has that a node is.
+    fn list_counts(&self, bytes: &[u8], view: &View, node: u32) -> Option<[u32; 2]>;
     fn definition_count(&self, bytes: &[u8], view: &View) -> Option<u32>;
     /// Name, and how many items.
     fn definition(&self, bytes: &[u8], view: &View, index: u32) -> Option<(Place, u32)>;

@@ -1,6 +1,7 @@
 //! Compares the verified story-image library with the published Rust on generated images and drafts. The script `run`
 //! says how to call it.
 
+mod asked;
 mod bench;
 mod corpus;
 mod damage;
@@ -36,6 +37,7 @@ mod stories;
 mod strange;
 mod tally;
 mod targets;
+mod technician;
 mod texts;
 mod writes;
 mod wrong;

@@ -344,6 +344,11 @@ impl Queries for Published {
         Some(place_of(bytes, entries(bytes, list)?.origins.get(index as usize)?))
     }
 
+    fn list_counts(&self, bytes: &[u8], _: &View, node: u32) -> Option<[u32; 2]> {
+        let entries = image(bytes)?.list_entries(node)?;
+        Some([entries.items.len() as u32, entries.origins.len() as u32])
+    }
+
     /// The mistake: definitions without items are not counted.
     fn definition_count(&self, bytes: &[u8], _: &View) -> Option<u32> {
         let image = image(bytes)?;
