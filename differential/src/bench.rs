@@ -1,6 +1,7 @@
 //! Both sides measured in one process, in turns, by processor time: load, node views, depths, walks and list look-ups,
-//! writing; pages against lone calls; targets from paths; texts that a draft's rules test; then the leaves by
-//! themselves, and the size of the library. At the end the goals, which stand in `goals`.
+//! writing; the sleeper's views against the technician's; pages against lone calls; targets from paths; texts that a
+//! draft's rules test; then the leaves by themselves, and the size of the libraries. At the end the goals, which stand in
+//! `goals`.
 
 mod archive;
 mod goals;
@@ -8,12 +9,20 @@ mod inputs;
 mod leaves;
 #[cfg(feature = "queries")]
 mod pages;
+#[cfg(feature = "sleeper")]
+mod sleeper;
 mod targets;
 mod texts;
 
 #[cfg(not(feature = "queries"))]
 mod pages {
     pub fn run(_: &super::Input, _: &mut super::Sheet) {}
+}
+
+#[cfg(not(feature = "sleeper"))]
+mod sleeper {
+    pub fn run(_: &super::Input, _: &mut super::Sheet) {}
+    pub fn notes(_: &str, _: &mut super::Sheet) {}
 }
 
 pub use inputs::lapped_chain;
@@ -28,7 +37,7 @@ use std::time::{Duration, Instant};
 const ROUNDS: usize = 15;
 const LONGEST: Duration = Duration::from_secs(10);
 
-/// The sides of all but the leaves and pages: the other, and ours.
+/// The sides where the published Rust is one: the other, and ours.
 const PUBLISHED: [&str; 2] = ["published", OURS];
 const OURS: &str = "ours";
 
@@ -59,6 +68,7 @@ pub fn run(seconds: u64, words: &str) -> bool {
     if !pages_alone {
         targets::run(words, &mut sheet);
         texts::run(words, &mut sheet);
+        sleeper::notes(words, &mut sheet);
     }
     if words.is_empty() {
         leaves::run(&mut random, &mut sheet);
@@ -181,6 +191,7 @@ fn ask(input: &Input, ours: &ours::Measured, sheet: &mut Sheet) {
     let walked = || timed(|| walks.iter().filter_map(|(origin, walk)| theirs.walk(*origin, walk)).count());
     sheet.duel("node views", PUBLISHED, views, ours.views());
     sheet.duel("views as enums", PUBLISHED, views, ours.enums());
+    sleeper::run(input, sheet);
     sheet.duel("depths", PUBLISHED, depths, ours.depths());
     sheet.duel("walks", PUBLISHED, walked, ours.walks());
 }

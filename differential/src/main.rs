@@ -32,6 +32,7 @@ mod rows;
 mod run;
 mod samples;
 mod searched;
+mod sleeper;
 mod small;
 mod stories;
 mod strange;

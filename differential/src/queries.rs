@@ -9,7 +9,7 @@ use crate::parts::NONE;
 use crate::random::Random;
 use crate::searched;
 use crate::tally::Tally;
-use crate::technician::Theirs;
+use crate::technician::{self, Theirs};
 use crate::texts;
 use reference::{Image, Kind, NodeView};
 use std::fmt::Debug;
@@ -124,17 +124,8 @@ impl Asking<'_> {
 
     /// Where the texts of a view lie in the image.
     fn texts(&mut self, view: &NodeView) {
-        let places = match view.kind {
-            Kind::Container { name, .. } => [name, None],
-            Kind::Divert { path, variable, .. } => [path, variable],
-            Kind::Tag(text) | Kind::String(text) | Kind::DivertTarget(text) => [Some(text), None],
-            Kind::Pointer { name, .. } | Kind::Assignment { name, .. } | Kind::Reference { name, .. } => {
-                [Some(name), None]
-            }
-            _ => [None, None],
-        };
         let strings = crate::parts::word_at(self.bytes, 76) as usize;
-        for (offset, length) in places.into_iter().flatten() {
+        for (offset, length) in technician::texts(&view.kind).into_iter().flatten() {
             let part = (strings + offset as usize, length as usize);
             self.same("text", Some(part), |ours, bytes, view| ours.text(bytes, view, (offset, length)));
         }

@@ -239,3 +239,14 @@ impl Technician for Ours<'_> {
         self.queries.resolve_path(self.bytes, self.view, origin, relative, steps)
     }
 }
+
+/// Where the text of a node lies, and the variable of a divert; a list has none.
+pub fn texts(kind: &Kind) -> [Option<Place>; 2] {
+    match *kind {
+        Kind::Container { name, .. } => [name, None],
+        Kind::Divert { path, variable, .. } => [path, variable],
+        Kind::Tag(text) | Kind::String(text) | Kind::DivertTarget(text) => [Some(text), None],
+        Kind::Pointer { name, .. } | Kind::Assignment { name, .. } | Kind::Reference { name, .. } => [Some(name), None],
+        _ => [None, None],
+    }
+}

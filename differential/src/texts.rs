@@ -51,7 +51,7 @@ const NAMES: [&str; 40] = [
 ];
 
 /// Bytes that are no text, to lie unused among the strings.
-const NO_TEXTS: [&[u8]; 6] = [b"\xff", b"\x80\x80", b"\xc0\xaf", b"\xed\xa0\x80", b"\xf4\x90\x80\x80", b"\xe3\x81"];
+pub const NO_TEXTS: [&[u8]; 6] = [b"\xff", b"\x80\x80", b"\xc0\xaf", b"\xed\xa0\x80", b"\xf4\x90\x80\x80", b"\xe3\x81"];
 
 pub fn name(random: &mut Random) -> String {
     match random.below(12) {
