@@ -5,7 +5,7 @@ use crate::lists::{DefinitionView, ListView};
 use crate::node::{NodeKindOf, NodeViewOf, Parts, ValueOf};
 use crate::page::{Page, Slot};
 use crate::path::{self, Step};
-use crate::raw::{ItemSearch, ListItem, Queries, TextPlace};
+use crate::raw::{self, ItemSearch, ListItem, Queries, TextPlace};
 use crate::refusal::Refusal;
 use crate::view::View;
 
@@ -123,6 +123,32 @@ impl<'a> Image<'a> {
     /// The same queries with texts and lists by their places.
     pub fn raw(&self) -> &Queries<'a> {
         &self.asked
+    }
+
+    /// The total length of the image, in bytes. This, [`strings_length`](Self::strings_length) and
+    /// [`checksum`](Self::checksum) are the technician's: the sleeper's reader tells none of them.
+    ///
+    /// ```
+    /// # use story_image::{Image, load_words};
+    /// # let bytes = include_bytes!(concat!(env!("CARGO_MANIFEST_DIR"), "/../../samples/step.image"));
+    /// # let image = Image::load(bytes, &mut vec![0; load_words(bytes)])?;
+    /// assert_eq!(image.total_length() as usize, bytes.len());
+    /// assert_eq!(image.strings_length(), image.view().strings.count);
+    /// assert_eq!(image.checksum().to_le_bytes(), bytes[84..88]);
+    /// # Ok::<(), story_image::Refusal>(())
+    /// ```
+    pub fn total_length(&self) -> u32 {
+        raw::total_length(self.bytes()).unwrap_or(0)
+    }
+
+    /// The length of the string section, in bytes.
+    pub fn strings_length(&self) -> u32 {
+        raw::strings_length(self.bytes()).unwrap_or(0)
+    }
+
+    /// The CRC-32 of all bytes but the checksum's own.
+    pub fn checksum(&self) -> u32 {
+        raw::checksum(self.bytes()).unwrap_or(0)
     }
 
     fn place(&self, text: TextPlace) -> &'a str {

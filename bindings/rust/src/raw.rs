@@ -395,3 +395,32 @@ pub fn list_origin(payload: &[u8], strings: &[u8], index: u32) -> Option<TextPla
         place,
     )
 }
+
+/// A word of the header, of the bytes alone; nothing under 88 bytes.
+fn header_word(bytes: &[u8], query: unsafe extern "C" fn(*const u8, usize, *mut u32, usize) -> u32) -> Option<u32> {
+    // SAFETY: as in `ask!`.
+    ask(|answer, length| unsafe { query(bytes.as_ptr(), bytes.len(), answer, length) }, word)
+}
+
+/// The total length, in bytes, that a header gives.
+///
+/// ```
+/// use story_image::raw;
+///
+/// # let bytes = include_bytes!(concat!(env!("CARGO_MANIFEST_DIR"), "/../../samples/step.image"));
+/// assert_eq!(raw::total_length(&bytes[..88]), Some(bytes.len() as u32));
+/// assert_eq!(raw::total_length(&bytes[..87]), None);
+/// ```
+pub fn total_length(bytes: &[u8]) -> Option<u32> {
+    header_word(bytes, ffi::story_image_total_length)
+}
+
+/// The length of the string section, in bytes, that a header gives.
+pub fn strings_length(bytes: &[u8]) -> Option<u32> {
+    header_word(bytes, ffi::story_image_strings_length)
+}
+
+/// The checksum that a header gives.
+pub fn checksum(bytes: &[u8]) -> Option<u32> {
+    header_word(bytes, ffi::story_image_checksum)
+}

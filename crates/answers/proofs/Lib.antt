@@ -3,3 +3,4 @@ pub mod Bits
 pub mod Records
 pub mod ListPlaces
 pub mod ViewWords
+pub mod LentSlices

@@ -1,3 +1,4 @@
 pub mod AnswerWords
 pub mod NodeViewWords
 pub mod RecordWords
+pub mod Lent

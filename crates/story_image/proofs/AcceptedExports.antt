@@ -12,12 +12,13 @@ use Rattle.laws.specs.Counted.{lastOf}
 use Rattle.laws.proofs.First.{both}
 use Rattle.laws.proofs.Flags.{both-true}
 use Rattle.words.specs.Words.{NONE, wordAt}
+use Rattle.checksum.specs.Crc.{checksumOf}
 use Rattle.image.specs.declared.ImageView.{ImageView}
 use Rattle.image.specs.Sections.{Sections, definitionCount, itemCount, present}
-use Rattle.image.specs.Header.{version, headerRule, viewOf, sectionsBy, sectionsOf, versionAt}
+use Rattle.image.specs.Header.{version, headerRule, viewOf, sectionsBy, sectionsOf, lengthAt, checksumAt, versionAt}
 use Rattle.image.proofs.OpenedHeader.{Opens, opens, view-inside, view-counts, length-word}
 use Rattle.definitions.specs.Definitions.{firstItem, numberOfItems, definitionsRule}
-use Rattle.load.specs.Load.{loadRule}
+use Rattle.load.specs.Load.{loadRule, loadedOf, loadedBy}
 use Rattle.views.specs.declared.Span.{Span}
 use Rattle.views.specs.declared.Found.{Found}
 use Rattle.views.specs.declared.Found.the-variants as found
@@ -51,7 +52,10 @@ use Rattle.lookups.specs.Lookup.{definitionName, itemPlace, answeringPlace, sea
 use Rattle.lookups.proofs.Lookups.{place-below}
 use Rattle.list_items.specs.Search.{listSearch}
 use Rattle.list_items.proofs.Plain.{same-answer}
+use Rattle.promises.specs.Answers.{Answer, given, ofCount, ofLoaded}
 use Rattle.promises.proofs.Acceptance.{load-accepted, accepted-passed}
+use Rattle.technician.specs.Technician.{stringsCountAt, headerWord, HeaderTells}
+use Rattle.technician.proofs.Accepted.{accepted-header}
 use Rattle.answers.specs.AnswerWords.{answerAfter, numberOf, foundAnswer, countAnswer, namedAnswer, placeAnswer, partWords, partAnswer, entryAnswer, definitionAnswer, itemAnswer, listItemAnswer, listCountWords}
 use Rattle.answers.specs.NodeViewWords.{nodeAnswer, listPlace}
 use Rattle.answers.proofs.AnswerSlices.{count-some, part-some}
@@ -235,6 +239,15 @@ module _ (s : Sections) where
       by false true i e = last-numbers true (beforeDot name) (afterDot name) i e
       by false false i e = last-numbers false name name i e
 
+-- ---- words of the header
+
+-- a count that is given, in words
+count-given : (a : Count) (n : ℕ) → ofCount a ≡ given n → Answers 1 (countAnswer a) (some (n ∷ []))
+count-given (count.Of m) n e =
+    let same : m ≡ n = Option·some-injective m n (ap (λ (x : Answer ℕ). x .value) e) in
+    answering 1 _ _ (ap (λ (k : ℕ). some (k ∷ [])) same) (some-size 1 (n ∷ []) refl)
+count-given count.NotFound n e = absurd (Option·none-ne-some n (ap (λ (x : Answer ℕ). x .value) e))
+
 -- ---- accepted bytes
 
 module _ (bs : List ℕ) (o : Opens bs) (short : length bs < 2 ^ 32) where
@@ -284,7 +297,7 @@ module _ (bs : List ℕ) (o : Opens bs) (short : length bs < 2 ^ 32) where
       rw (le-leb (i .definition) NONE (omega (arith, definitions-few)), le-leb (i .item) NONE (omega (arith, items-few)))
   item-whole listed.NotFound h = refl
 
-module _ (bs view : List ℕ) (o : Opens bs) (short : length bs < 2 ^ 32) (lists : definitionsRule (sectionsOf bs) ≡ 0) (v : ViewOf bs view) where
+module _ (bs view : List ℕ) (o : Opens bs) (short : length bs < 2 ^ 32) (lists : definitionsRule (sectionsOf bs) ≡ 0) (t : HeaderTells bs (viewOf bs)) (v : ViewOf bs view) where
   abbrev s : Sections
   s = sectionsOf bs
 
@@ -325,10 +338,14 @@ module _ (bs view : List ℕ) (o : Opens bs) (short : length bs < 2 ^ 32) (lists
         searched = searched-as bs view (right-version bs o) v;
         walk = λ origin relative path names.
             answering 1 _ _ (asked-as bs view (right-version bs o) v _) (found-size (resolve s relative origin (components names path)));
+        total-length = count-given (headerWord bs lengthAt) (length bs) (t .total);
+        strings-length = count-given (headerWord bs stringsCountAt) (length (s .strings)) (t .strings);
+        checksum = count-given (headerWord bs checksumAt) (checksumOf bs) (t .checksum);
       }
 
 pub accepted-exports : AcceptedExports
-unfolding loadRule
+unfolding loadRule loadedOf
 accepted-exports bs view work b h v =
     let o = opens bs (both (headerRule bs) _ h .0) in
-    exports bs view o (length-word bs b o) (accepted-passed bs (load-accepted bs work h) .definitions) v
+    let t = accepted-header bs work (viewOf bs) (ap (λ (n : ℕ). ofLoaded (loadedBy n (viewOf bs))) h) in
+    exports bs view o (length-word bs b o) (accepted-passed bs (load-accepted bs work h) .definitions) t v

@@ -8,6 +8,7 @@ use mathlib.Core.Bool.{Bool}
 use mathlib.Core.Option.{Option, none, some}
 use lib.ListN.{length, getD, take, drop}
 use Rattle.laws.specs.Lists.{Below}
+use Rattle.checksum.specs.Crc.{checksumOf}
 use Rattle.image.specs.Sections.{Sections, definitionCount}
 use Rattle.image.specs.Header.{viewOf, sectionsOf}
 use Rattle.image.specs.Refusals.{notFound}
@@ -28,7 +29,7 @@ use Rattle.pages.specs.Page.{slotWords, pageRule, pageAfter, slotView}
 use Rattle.answers.specs.AnswerWords.{answerAfter, numberOf, unsigned, foundAnswer, countAnswer, namedAnswer, placeAnswer, entryAnswer, definitionAnswer, itemAnswer, listCountWords}
 use Rattle.answers.specs.NodeViewWords.{nodeAnswer, listPlace}
 use Rattle.story_image.specs.Exported.{viewLength, wordsOfView, writtenAfter}
-use Rattle.story_image.specs.Queries.{atList, firstWords, answerOfNodeView, pageNumber, pageWritten, answerOfSlotView, answerOfDepth, answerOfText, answerOfChildCount, answerOfChild, answerOfNamedChildCount, answerOfNamedChild, answerOfFindNamedChild, answerOfListPayload, answerOfListCounts, answerOfNodeListEntry, answerOfNodeListOrigin, answerOfDefinitionCount, answerOfDefinition, answerOfFirstItem, answerOfDefinitionItem, answerOfListItem, searchedAfter, answerOfWalk}
+use Rattle.story_image.specs.Queries.{atList, firstWords, answerOfNodeView, pageNumber, pageWritten, answerOfSlotView, answerOfDepth, answerOfText, answerOfChildCount, answerOfChild, answerOfNamedChildCount, answerOfNamedChild, answerOfFindNamedChild, answerOfListPayload, answerOfListCounts, answerOfNodeListEntry, answerOfNodeListOrigin, answerOfDefinitionCount, answerOfDefinition, answerOfFirstItem, answerOfDefinitionItem, answerOfListItem, searchedAfter, answerOfWalk, answerOfTotalLength, answerOfStringsLength, answerOfChecksum}
 
 -- ---- the words of answers, without a case for numbers that a word does not hold
 
@@ -91,6 +92,10 @@ pub record Exports (bs view : List ℕ) (s : Sections) : Type 0 where
   pub searched : (name words : List ℕ) → searchedAfter bs view name words ≡ answerAfter (some (listSearch s name .searched ∷ [])) words
   pub walk : (origin : ℕ) (relative : Bool) (path names : List ℕ)
       → Answers 1 (answerOfWalk bs view origin relative path names) (foundAnswer (resolve s relative origin (components names path)))
+  -- of the bytes alone
+  pub total-length : Answers 1 (answerOfTotalLength bs) (some (length bs ∷ []))
+  pub strings-length : Answers 1 (answerOfStringsLength bs) (some (length (s .strings) ∷ []))
+  pub checksum : Answers 1 (answerOfChecksum bs) (some (checksumOf bs ∷ []))
 
 -- of all bytes that a load accepts
 abbrev pub AcceptedExports : Type 0

@@ -1,8 +1,8 @@
--- `story_image::needed::story_image_load_words` meets its contract.
-use Rattle.story_image.proofs.WorkWords.{none-to-load, some-to-load}
+-- `load::needed::load_words` meets its contract.
+use Rattle.load.proofs.WorkWords.{none-to-load, some-to-load}
 use borrow.Author.Needs.{needs}
-use Rattle.story_image.proofs.needed.story_image_load_words.Statement.{statement}
-use Rattle.story_image.proofs.needed.story_image_load_words.Tie as tie
+use Rattle.load.proofs.needed.load_words.Statement.{statement}
+use Rattle.load.proofs.needed.load_words.Tie as tie
 
 new-requires : tie.Need-new-requires
 new-requires c κs = search needs
@@ -37,8 +37,8 @@ returns c = none-to-load _ _ (c .before .before .new .ensures) _ (c .enum-told .
 returns-2 : tie.Need-returns-2
 returns-2 c = some-to-load _ _ (c .before .before .before .before .before .before .new .ensures) _ (c .before .before .before .before .view .given .1)
 
-pub story-image-load-words-spec : {M : Type 1} → statement M
-story-image-load-words-spec =
+pub load-words-spec : {M : Type 1} → statement M
+load-words-spec =
     tie.close
     (tie.spec
     new-requires
