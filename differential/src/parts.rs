@@ -6,7 +6,7 @@ pub const NONE: u32 = u32::MAX;
 pub const HEADER: usize = 88;
 pub const ENTRY_SIZES: [usize; 8] = [40, 4, 12, 16, 12, 12, 1, 1];
 
-#[derive(Clone, Debug, Default)]
+#[derive(Clone, Debug, Default, PartialEq)]
 pub struct Parts {
     pub ink: u32,
     pub nodes: Vec<[u32; 10]>,

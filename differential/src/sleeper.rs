@@ -47,7 +47,8 @@ impl<'a> Side<'a> {
 pub fn accepted(name: &str, bytes: &[u8], ours: Option<&dyn Library>, random: &Random, tally: &mut Tally) {
     let random = &mut random.clone();
     let every = if ["story", "written by us"].contains(&name) { OF_STORIES } else { OF_OTHERS };
-    if !random.once_in(every) {
+    let without = ours.is_some_and(|ours| ours.sleeper(bytes).is_none());
+    if without || !random.once_in(every) {
         return;
     }
     let story = Story::noted(bytes, random);

@@ -51,7 +51,10 @@ struct Reader<'a> {
 
 /// The reader, where it is asked about: without a mistake, and with one of its own.
 pub fn reader<'a>(library: &'a Published, bytes: &'a [u8]) -> Option<Box<dyn Sleeper + 'a>> {
-    let image = reference::load(bytes).ok().filter(|_| ITS.contains(&library.0))?;
+    if !ITS.contains(&library.0) {
+        return None;
+    }
+    let image = reference::load(bytes).ok()?;
     Some(Box::new(Reader { library, bytes, image }))
 }
 

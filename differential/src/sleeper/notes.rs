@@ -252,7 +252,46 @@ fn held(before: &str, random: &mut Random) -> String {
 
 #[cfg(test)]
 mod tests {
+    use super::super::references::set_words;
     use super::*;
+    use crate::stories;
+
+    /// An image without the words that name texts, and without these.
+    fn bare(story: &Story) -> Parts {
+        let mut parts = story.parts.clone();
+        story.texts.iter().for_each(|text| set_words(&mut parts, text.at, (0, 0)));
+        parts.strings.clear();
+        parts
+    }
+
+    /// Both are accepted, have the texts that they are said to have, and differ in notes and the places of texts alone.
+    #[test]
+    fn a_pair_differs_as_it_may() {
+        let mut random = Random::new(11);
+        let mut changed = 0;
+        for _ in 0..5_000 {
+            let shape = stories::Shape::random(&mut random);
+            let bytes = stories::Story::random(shape, &mut random).parts(&mut random).bytes();
+            if path_index::row(&bytes) != 0 {
+                continue;
+            }
+            let story = Story::noted(&bytes, &mut random);
+            let other = story.another(&mut random);
+            for story in [&story, &other] {
+                let bytes = story.parts.bytes();
+                assert_eq!(path_index::row(&bytes), 0);
+                assert_eq!(texts(&Parts::of(&bytes)), story.texts);
+            }
+            assert_eq!(bare(&story), bare(&other));
+            assert_eq!(story.notes(), other.notes());
+            for (number, (text, another)) in story.texts.iter().zip(&other.texts).enumerate() {
+                let note = story.notes().contains(&number);
+                assert!(text == another || note && is_note(&another.text), "{text:?}, {another:?}");
+                changed += u32::from(text != another);
+            }
+        }
+        assert!(changed > 1_000, "{changed}");
+    }
 
     #[test]
     fn near_notes_are_told_apart() {

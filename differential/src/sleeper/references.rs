@@ -21,7 +21,7 @@ pub enum At {
 }
 
 /// A text that is there, and where it is named.
-#[derive(Clone, Debug)]
+#[derive(Clone, Debug, PartialEq)]
 pub struct Text {
     pub at: At,
     pub text: String,
