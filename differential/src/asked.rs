@@ -36,11 +36,10 @@ impl Walk {
         let relative = random.once_in(2);
         let mut at = if relative { Some(origin) } else { Some(0) };
         let mut steps = vec![];
-        if let Some(view) = at.and_then(|at| reader.node_view(at)).filter(|_| relative) {
-            if !matches!(view.kind, Kind::Container { .. }) {
-                steps.push(random_step(random));
-                at = view.parent;
-            }
+        let view = at.and_then(|at| reader.node_view(at)).filter(|_| relative);
+        if let Some(view) = view.filter(|view| !matches!(view.kind, Kind::Container { .. })) {
+            steps.push(random_step(random));
+            at = view.parent;
         }
         for _ in 0..random.below(5) {
             let step = match at {

@@ -52,7 +52,7 @@ pub fn image(name: &'static str, bytes: &[u8], ours: Option<&dyn Library>, rando
 }
 
 /// The three calls that tell of the header: its words, on any bytes that have one.
-fn header(bytes: &[u8], ours: Option<&dyn Library>, tally: &mut Tally) {
+pub fn header(bytes: &[u8], ours: Option<&dyn Library>, tally: &mut Tally) {
     let due = [16, 80, 84].map(|at| Some(word_at(bytes.get(..HEADER)?, at)));
     for (name, word) in HEADER_WORDS.iter().zip(&due) {
         tally.query(name, word);

@@ -102,13 +102,7 @@ fn coverage(ours: Option<&dyn Library>, tally: &mut Tally) {
     for (what, count) in &tally.met {
         need(*count > 0, format!("depth, {what}"));
     }
-    for name in pages::NAMES.into_iter().chain(searched::NAMES) {
-        need(tally.queries.contains_key(name), format!("query {name}"));
-    }
-    let pages = pages::CASES.iter().zip(tally.pages);
-    for ((what, on_accepted), [accepted, others]) in pages.chain(searched::CASES.iter().zip(tally.searches)) {
-        need(others > 0 && (accepted > 0) == *on_accepted, format!("{what}: accepted {accepted}, others {others}"));
-    }
+    pages_met(tally, &mut need);
     sleeper_met(ours, tally, &mut need);
     drafts_met(ours, tally, need);
     tally.passed += met;
@@ -123,6 +117,17 @@ fn index_met(tally: &Tally, mut need: impl FnMut(bool, String)) {
         need(counts.map(|count| count > 0) == *expected, format!("path index, {what}: {counts:?}"));
     }
     need(tally.turned.keys().eq(&path_index::TURNED), format!("16 in the place of rows {:?}", tally.turned));
+}
+
+/// What must have come up on pages and in look-ups.
+fn pages_met(tally: &Tally, mut need: impl FnMut(bool, String)) {
+    for name in pages::NAMES.into_iter().chain(searched::NAMES) {
+        need(tally.queries.contains_key(name), format!("query {name}"));
+    }
+    let pages = pages::CASES.iter().zip(tally.pages);
+    for ((what, on_accepted), [accepted, others]) in pages.chain(searched::CASES.iter().zip(tally.searches)) {
+        need(others > 0 && (accepted > 0) == *on_accepted, format!("{what}: accepted {accepted}, others {others}"));
+    }
 }
 
 fn has_sleeper(ours: &dyn Library) -> bool {

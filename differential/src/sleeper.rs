@@ -1,7 +1,7 @@
-//! The sleeper's reader, which the published Rust does not have. Notes are put into an accepted image, and a second image
-//! is made of it that differs only in what notes hold after `tech:` and in where texts lie: both give the sleeper's
-//! reader the same answers, which are what the published Rust shows but for notes. Of images that are refused after
-//! their header, and of any bytes under any view, the answers are those of our technician's calls.
+//! The sleeper's reader, which the published Rust does not have. Notes are put into an accepted image, and a second
+//! image is made of it that differs only in what notes hold after `tech:` and in where texts lie: both give the
+//! sleeper's reader the same answers, which are what the published Rust shows but for notes. Of images that are refused
+//! after their header, and of any bytes under any view, the answers are those of our technician's calls.
 
 mod calls;
 pub mod met;
@@ -11,6 +11,7 @@ mod references;
 pub mod seen;
 
 use crate::damage;
+use crate::images;
 use crate::library::sleeper::{Answer, Sleeper, VIEW_WORDS, Which, sleeper_view};
 use crate::library::{Library, View, header_view, load_words};
 use crate::parts::{ENTRY_SIZES, HEADER};
@@ -78,6 +79,7 @@ fn pair(sides: &[Side<'_>; 2], ours: Option<&dyn Library>, random: &mut Random, 
         tally.check(loaded == 0, || format!("an image with notes: {loaded} by our load"), side.bytes);
         // of the first image for both
         load(side, sides[0].bytes, 0, past, tally);
+        images::header(side.bytes, ours, tally);
     }
     let questions = Questions::of(sides[0].seen.technician, view[1], view[5], random);
     all(sides, &view, &questions, Asked::Pairs, tally);

@@ -1,5 +1,5 @@
-//! The technician's reader on one image, in plain types: the published Rust on an image that it accepts, our own calls on
-//! any bytes under any view. What is asked of an image follows what it shows, and the sleeper's reader is held to it.
+//! The technician's reader on one image, in plain types: the published Rust on an image that it accepts, our own calls
+//! on any bytes under any view. What is asked of an image follows what it shows, and the sleeper's reader is held to it.
 
 use crate::library::{Looked, Place, Queries, View, section};
 use crate::parts::{ENTRY_SIZES, word_at};

@@ -1,5 +1,5 @@
-//! The sleeper's view of every node against the technician's, and a text copied by the sleeper's call against one copied
-//! from the place that the technician's call tells: both sides are ours.
+//! The sleeper's view of every node against the technician's, and a text copied by the sleeper's call against one that
+//! is copied from the place that the technician's call tells: both sides are ours.
 
 use super::{Duration, Input, Sheet, black_box, inputs, timed};
 use crate::library::header_view;

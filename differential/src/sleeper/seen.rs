@@ -1,5 +1,5 @@
-//! What the sleeper's reader must answer, by what the technician's shows: a note is void with its parent and place and has
-//! no text; all else is the same, with texts as bytes in the place of their places.
+//! What the sleeper's reader must answer, by what the technician's shows: a note is void with its parent and place and
+//! has no text; all else is the same, but that texts are bytes and have no place.
 
 use crate::library::Looked;
 use crate::library::sleeper::{Answer, Ask, Which, text_of};
