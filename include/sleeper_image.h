@@ -2,21 +2,21 @@
  * `tech:`, is seen as void, with its parent and place, and has no text. All else is seen as story_image.h shows it to
  * the technician. A text is copied into a lent slice: no call gives or takes a place in the image.
  *
- * Two images that a load accepts and that differ only in what notes hold after `tech:`, in where texts lie, and in total
- * length, length of the string section and checksum give every call here the same answers, refusals among them, under
- * the view that the load wrote. That is proved (docs/PROMISES.md, `NoExportLeaks`).
+ * Two images that a load accepts and that differ only in what notes hold after `tech:`, in where texts lie, and in
+ * total length, length of the string section and checksum give every call here the same answers, refusals among them,
+ * under the view that the load wrote. That is proved (docs/PROMISES.md, `NoExportLeaks`).
  *
- * The calls stand in an archive of their own, libsleeper_image.a, which needs no other. A player that links it alone has
- * no call for places, pages of raw words, total length, length of the string section and checksum. Both archives link
- * into one program. Numbers, kinds, commands, operators and flags stand in story_image_numbers.h; docs/FORMAT.md has the
- * format whole.
+ * The calls stand in an archive of their own, libsleeper_image.a, which needs no other. A player that links it alone
+ * has no call for places, pages of raw words, total length, length of the string section and checksum. Both archives
+ * link into one program. Numbers, kinds, commands, operators and flags stand in story_image_numbers.h; docs/FORMAT.md
+ * has the format whole.
  *
  * A slice is lent as pointer and length (a count of elements, not of bytes). It must not be written by others during
  * the call; its pointer is not null, also where the length is 0, and is aligned for its type. Slices that are written
- * (work, view, answer, searched, text, size) overlap nothing else. That is all that is asked of a caller: every function
- * takes any bytes, any words and any numbers, and ends. No function allocates, keeps what it was lent, has state, or
- * changes a byte of an image; calls from several threads at once are fine. The tables of the checksum take about 5 KB of
- * stack in a load.
+ * (work, view, answer, searched, text, size) overlap nothing else. That is all that is asked of a caller: every
+ * function takes any bytes, any words and any numbers, and ends. No function allocates, keeps what it was lent, has
+ * state, or changes a byte of an image; calls from several threads at once are fine. The tables of the checksum take
+ * about 5 KB of stack in a load.
  *
  * In short:
  *
@@ -31,9 +31,10 @@
  *     if (number != STORY_IMAGE_OK) return refused(number);
  *     for (uint32_t n = 0; n < image.view[STORY_IMAGE_SLEEPER_NODES_COUNT]; n++) {
  *         story_image_sleeper_node_view_in(&image, n, node);
- *         if (node[STORY_IMAGE_SLEEPER_NODE_KIND] == STORY_IMAGE_KIND_STRING &&
- *             story_image_sleeper_text_in(&image, STORY_IMAGE_SLEEPER_TEXT_OF_NODE, n, 0, text, sizeof text, size) == 0)
- *             fwrite(text, 1, size[0], stdout);
+ *         if (node[STORY_IMAGE_SLEEPER_NODE_KIND] != STORY_IMAGE_KIND_STRING) continue;
+ *         uint32_t kind = STORY_IMAGE_SLEEPER_TEXT_OF_NODE;
+ *         number = story_image_sleeper_text_in(&image, kind, n, 0, text, sizeof text, size);
+ *         if (number == STORY_IMAGE_OK) fwrite(text, 1, size[0], stdout);
  *     }
  *
  * The functions of the library lend each slice by itself. At the end of this file stand the same calls over a struct.
@@ -82,9 +83,9 @@ enum {
     STORY_IMAGE_SLEEPER_NODE_HAS_VARIABLE, /* 1 if a variable holds the target of a divert */
     STORY_IMAGE_SLEEPER_NODE_TARGET,       /* of a choice, a divert; of a reference, the container whose read count it
                                               is */
-    STORY_IMAGE_SLEEPER_NODE_VALUE,        /* STORY_IMAGE_COMMAND_.. or STORY_IMAGE_OPERATOR_..; 0 or 1 of a bool; the 32
-                                              bits of an int or a float; number of arguments of a divert; context of a
-                                              pointer */
+    STORY_IMAGE_SLEEPER_NODE_VALUE,        /* STORY_IMAGE_COMMAND_.. or STORY_IMAGE_OPERATOR_..; 0 or 1 of a bool; the
+                                              32 bits of an int or a float; number of arguments of a divert; context of
+                                              a pointer */
     STORY_IMAGE_SLEEPER_NODE_FLAGS,        /* of a container, choice, divert, assignment: the word */
     STORY_IMAGE_SLEEPER_NODE_WORDS
 };
@@ -173,8 +174,8 @@ uint32_t story_image_sleeper_named_child_count(const uint8_t *bytes, size_t leng
                                                size_t answer_length);
 
 /* STORY_IMAGE_SLEEPER_FOUND_WORDS words: an ordered child of a container, its node; a named child of a container, its
- * node. The name of a named child is a text, and need not be the name that its node has. Or 18: no container, or no such
- * child. */
+ * node. The name of a named child is a text, and need not be the name that its node has. Or 18: no container, or no
+ * such child. */
 uint32_t story_image_sleeper_child_at(const uint8_t *bytes, size_t length, const uint32_t *view, size_t view_length,
                                       uint32_t node, uint32_t index, uint32_t *answer, size_t answer_length);
 uint32_t story_image_sleeper_named_child_at(const uint8_t *bytes, size_t length, const uint32_t *view,
@@ -245,10 +246,10 @@ uint32_t story_image_sleeper_resolve_path(const uint8_t *bytes, size_t length, c
 
 /* ---- The same calls over a struct
  *
- * story_image_sleeper_X_in(image, ..) is story_image_sleeper_X with the image's bytes and view in front and, where it has
- * an answer, as many words for it as it needs: the answer is lent by its pointer alone. Numbers, answers and what a
- * refusal leaves are those of the function that is called. All of them are defined here, in C; the library exports none,
- * and no function that it exports ends in _in or begins with story_image_sleeper_lent_.
+ * story_image_sleeper_X_in(image, ..) is story_image_sleeper_X with the image's bytes and view in front and, where it
+ * has an answer, as many words for it as it needs: the answer is lent by its pointer alone. Numbers, answers and what a
+ * refusal leaves are those of the function that is called. All of them are defined here, in C; the library exports
+ * none, and no function that it exports ends in _in or begins with story_image_sleeper_lent_.
  *
  * The struct is all zero at first, `= {0}` in C and `{}` in C++, and then its fields are set. Later versions may add
  * fields, whose 0 means what is done without them. The pointer of a slice of length 0 may be null in the struct and in

@@ -1,6 +1,6 @@
-/* What the tests of both static libraries share: counting of checks, room of exact lengths, bytes of samples. Every slice
- * that is lent has exactly its length, so that an access past it is seen; what must stay as it was is filled with a
- * mark. It calls neither library. */
+/* What the tests of both static libraries share: counting of checks, room of exact lengths, bytes of samples. Every
+ * slice that is lent has exactly its length, so that an access past it is seen; what must stay as it was is filled with
+ * a mark. It calls neither library. */
 #ifndef CHECK_H
 #define CHECK_H
 

@@ -41,34 +41,51 @@ countsOf v = v .nodes ∷ v .children ∷ v .named ∷ v .definitions ∷ v .ite
 unfoldable pub startOf : SleeperView → ℕ → ℕ
 startOf v k = headerLength + sumOf k (λ j. getD (countsOf v) j 0 * getD (sizes (v .version)) j 0)
 
+abbrev pub sectionBy : ℕ → ℕ → Section
+sectionBy offset count = record { offset = offset; count = count }
+
 abbrev pub placedAt : SleeperView → ℕ → Section
-placedAt v k = record { offset = startOf v k; count = getD (countsOf v) k 0 }
+placedAt v k = sectionBy (startOf v k) (getD (countsOf v) k 0)
 
 -- sections 0 to 6 lie in so many bytes, and words can bound them
 unfoldable pub fits : ℕ → SleeperView → Bool
 fits n v = leb n NONE && leb (startOf v 7) n
 
-abbrev noSection : Section
-noSection = record { offset = 0; count = 0 }
-
-abbrev sectionIf : Bool → Section → Section
-sectionIf b s = cond b s noSection
-
--- the view of an image of so many bytes; where the sections do not fit into them, each is empty
-unfoldable pub withPlaces : ℕ → SleeperView → ImageView
-withPlaces n v =
+-- the sections one behind the other, the strings up to the end of so many bytes
+abbrev pub placed : ℕ → SleeperView → ImageView
+placed n v =
     record {
       version = v .version;
       «ink_version» = v .«ink_version»;
-      nodes = sectionIf (fits n v) (placedAt v 0);
-      children = sectionIf (fits n v) (placedAt v 1);
-      named = sectionIf (fits n v) (placedAt v 2);
-      definitions = sectionIf (fits n v) (placedAt v 3);
-      items = sectionIf (fits n v) (placedAt v 4);
-      index = sectionIf (fits n v) (placedAt v 5);
-      payload = sectionIf (fits n v) (placedAt v 6);
-      strings = sectionIf (fits n v) (record { offset = startOf v 7; count = n - startOf v 7 });
+      nodes = placedAt v 0;
+      children = placedAt v 1;
+      named = placedAt v 2;
+      definitions = placedAt v 3;
+      items = placedAt v 4;
+      index = placedAt v 5;
+      payload = placedAt v 6;
+      strings = sectionBy (startOf v 7) (n - startOf v 7);
     }
+
+-- every section empty
+abbrev pub unplaced : SleeperView → ImageView
+unplaced v =
+    record {
+      version = v .version;
+      «ink_version» = v .«ink_version»;
+      nodes = sectionBy 0 0;
+      children = sectionBy 0 0;
+      named = sectionBy 0 0;
+      definitions = sectionBy 0 0;
+      items = sectionBy 0 0;
+      index = sectionBy 0 0;
+      payload = sectionBy 0 0;
+      strings = sectionBy 0 0;
+    }
+
+-- the view of an image of so many bytes
+unfoldable pub withPlaces : ℕ → SleeperView → ImageView
+withPlaces n v = cond (fits n v) (placed n v) (unplaced v)
 
 -- the sections that a query of the sleeper's reader sees
 unfoldable pub sleeperSections : List ℕ → SleeperView → Sections

@@ -1,18 +1,21 @@
 // The sleeper's reader: what the technician's shows, with notes to the technician as void, and texts as bytes, never as offsets. Its view of
-// an image says nothing of the strings' length; a query takes bytes and such a view and answers on any of them.
+// an image holds no place; a query takes bytes and such a view and answers on any of them.
 pub mod view; // view.rt: the view of a node
+pub mod node_words; // node_words.rt: the view of a node in words
 pub mod text; // text.rt: texts as bytes
 pub mod children; // children.rt: ordered and named children
 pub mod lists; // lists.rt: list values, definitions and items by number
 pub mod search; // search.rt: look-ups by name, walks, depth
-mod hidden; // hidden.rt: the technician's view with notes as void
 mod places; // places.rt: where texts lie
 
 ghost use mathlib.Core.Path.{_≡_};
+ghost use Prim.Native.Nat.{_+_, _*_, _≤_};
 ghost use lib.ListN.{length};
-ghost use Rattle.image.specs.Header.{sectionsOf};
+ghost use Rattle.words.specs.Words.{NONE as none};
+ghost use Rattle.image.specs.Sections.{nodeSize, mostNodeSize};
+ghost use Rattle.image.specs.Header.{headerLength, sectionsOf};
 ghost use Rattle.load.specs.Load.{loadRule, loadWords, workAfter};
-ghost use Rattle.sleeper.specs.Reader.{withoutStrings, lastSection, withStrings, sleeperLoaded};
+ghost use Rattle.sleeper.specs.Reader.{withoutPlaces, sectionBy, unplaced, withPlaces, sleeperLoaded};
 use image::ImageView;
 use image::NONE;
 use image::Section;
@@ -144,6 +147,81 @@ fn without_places(view: ImageView) -> SleeperView
         items: view.items.count,
         index: view.index.count,
         payload: view.payload.count,
+    }
+}
+
+// Where the nodes end, which begin behind the header.
+fn nodes_end(count: u32, version: u32) -> usize
+    ensures { λ r. ⌜ r ≡ headerLength + count * nodeSize version ⌝ }
+    ensures most { λ r. ⌜ r ≤ headerLength + none * mostNodeSize ⌝ }
+{
+    ImageView::HEADER_LENGTH + (count as usize) * (image::node_size(version) as usize)
+}
+
+// Where a section ends that begins at `start`.
+fn end_of(start: usize, count: u32, size: u32) -> usize
+    requires { ⌜ start + count * size ≤ 18446744073709551615 ⌝ }
+    ensures { λ r. ⌜ r ≡ start + count * size ⌝ }
+{
+    start + (count as usize) * (size as usize)
+}
+
+fn section(offset: usize, count: u32) -> Section
+    requires { ⌜ offset ≤ none ⌝ }
+    ensures { λ r. ⌜ r ≡ sectionBy offset count ⌝ }
+{
+    Section {
+        offset: offset as u32,
+        count,
+    }
+}
+
+// The view with every section empty.
+fn without_sections(view: SleeperView) -> ImageView
+    ensures { λ r. ⌜ r ≡ unplaced view ⌝ }
+{
+    ImageView {
+        version: view.version,
+        ink_version: view.ink_version,
+        nodes: section(0, 0),
+        children: section(0, 0),
+        named: section(0, 0),
+        definitions: section(0, 0),
+        items: section(0, 0),
+        index: section(0, 0),
+        payload: section(0, 0),
+        strings: section(0, 0),
+    }
+}
+
+// The view of an image of so many bytes, for the functions of the technician's reader.
+fn with_places(length: usize, view: SleeperView) -> ImageView
+    ensures { λ r. ⌜ r ≡ withPlaces length view ⌝ }
+{
+    let children = nodes_end(view.nodes, view.version);
+    let named = end_of(children, view.children, ImageView::CHILD_SIZE);
+    let definitions = end_of(named, view.named, ImageView::NAMED_SIZE);
+    let items = end_of(definitions, view.definitions, ImageView::DEFINITION_SIZE);
+    let index = end_of(items, view.items, ImageView::ITEM_SIZE);
+    let payload = end_of(index, view.index, ImageView::INDEX_SIZE);
+    let strings = end_of(payload, view.payload, ImageView::PAYLOAD_SIZE);
+    if (NONE as usize) < length {
+        return without_sections(view);
+    }
+    if length < strings {
+        return without_sections(view);
+    }
+    ImageView {
+        version: view.version,
+        ink_version: view.ink_version,
+        nodes: section(ImageView::HEADER_LENGTH, view.nodes),
+        children: section(children, view.children),
+        named: section(named, view.named),
+        definitions: section(definitions, view.definitions),
+        items: section(items, view.items),
+        index: section(index, view.index),
+        payload: section(payload, view.payload),
+        strings: section(strings, (length - strings) as u32),
     }
 }
 
