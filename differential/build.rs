@@ -1,20 +1,23 @@
-//! Names the static library of the leaves to the linker, where it has been built beside the other.
+//! Names static libraries to the linker, where they have been built beside ours: that of the leaves, and that of the
+//! sleeper's reader.
 
 use std::{env, path::PathBuf};
 
 fn main() {
     println!("cargo:rerun-if-env-changed=STORY_IMAGE_LIBRARY");
-    println!("cargo:rustc-check-cfg=cfg(leaves)");
+    println!("cargo:rustc-check-cfg=cfg(leaves, sleeper_image)");
     let root = PathBuf::from(env::var_os("CARGO_MANIFEST_DIR").unwrap()).join("..");
     let folder = match env::var_os("STORY_IMAGE_LIBRARY") {
         Some(folder) => root.join(folder),
         None => root.join("target/staticlib"),
     };
-    let archive = folder.join("libleaves.a");
-    println!("cargo:rerun-if-changed={}", archive.display());
-    if archive.exists() {
-        println!("cargo:rustc-cfg=leaves");
-        println!("cargo:rustc-link-search=native={}", folder.display());
-        println!("cargo:rustc-link-lib=static=leaves");
+    println!("cargo:rustc-link-search=native={}", folder.display());
+    for name in ["leaves", "sleeper_image"] {
+        let archive = folder.join(format!("lib{name}.a"));
+        println!("cargo:rerun-if-changed={}", archive.display());
+        if archive.exists() {
+            println!("cargo:rustc-cfg={name}");
+            println!("cargo:rustc-link-lib=static={name}");
+        }
     }
 }

@@ -225,10 +225,12 @@ impl Technician for Ours<'_> {
         self.queries.definition_item(self.bytes, self.view, index, item)
     }
 
-    /// By the words of the section: it is no call of the technician's.
+    /// By the words of the section, as no call of the technician's tells it; where the name does not lie in the
+    /// strings there is no item.
     fn item(&self, number: u32) -> Option<Place> {
         let entry = section(self.bytes, self.view, 4).chunks_exact(ENTRY_SIZES[4]).nth(number as usize)?;
-        Some((word_at(entry, 0), word_at(entry, 4)))
+        let name = (word_at(entry, 0), word_at(entry, 4));
+        self.queries.text(self.bytes, self.view, name).map(|_| name)
     }
 
     fn list_item(&self, name: &[u8]) -> Looked {

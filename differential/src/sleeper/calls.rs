@@ -86,7 +86,7 @@ impl Copied {
 /// All sorts of room for a text: none, a byte too few, just enough, more, none for its length.
 pub fn rooms(text: Option<&[u8]>) -> Vec<Room> {
     let Some(length) = text.map(<[u8]>::len) else {
-        return vec![Room { bytes: 0, words: 1 }, Room { bytes: 9, words: 2 }, Room { bytes: 9, words: 0 }];
+        return vec![Room { bytes: 0, words: 0 }, Room { bytes: 9, words: 2 }];
     };
     let mut rooms = vec![Room { bytes: length, words: 1 }, Room { bytes: length + 3, words: 2 }];
     rooms.push(Room { bytes: length, words: 0 });

@@ -25,6 +25,12 @@ fn numbers(count: u32) -> impl Iterator<Item = u32> {
     (0..count).step_by(1 + (count / SOME) as usize).take(SOME as usize + 1).chain([count, NONE])
 }
 
+/// The same where there is a count, else 0 alone.
+fn numbers_if(count: Option<u32>) -> impl Iterator<Item = u32> {
+    let all = if count.is_some() { usize::MAX } else { 1 };
+    numbers(count.unwrap_or(0)).take(all)
+}
+
 impl Questions {
     /// Of an image of so many nodes and items.
     pub fn of(reader: &dyn Technician, nodes: u32, items: u32, random: &mut Random) -> Self {
@@ -57,20 +63,20 @@ impl Questions {
         // the second number is not looked at
         self.text(text_of::NODE, node, random.word());
         self.text(text_of::VARIABLE, node, random.word());
-        self.asks.extend(numbers(reader.child_count(node).unwrap_or(0)).map(|index| Ask::ChildAt(node, index)));
-        for index in numbers(reader.named_child_count(node).unwrap_or(0)) {
+        self.asks.extend(numbers_if(reader.child_count(node)).map(|index| Ask::ChildAt(node, index)));
+        for index in numbers_if(reader.named_child_count(node)) {
             self.asks.push(Ask::NamedChildAt(node, index));
             self.text(text_of::NAMED_CHILD, node, index);
         }
         let names = asked::names(reader, node, random).into_iter().map(String::into_bytes);
         self.asks.extend(names.chain([b"tech:".to_vec()]).map(|name| Ask::FindNamedChild(node, name)));
-        let [items, origins] = reader.list_counts(node).unwrap_or_default();
-        for index in numbers(items) {
+        let counts = reader.list_counts(node);
+        for index in numbers_if(counts.map(|[items, _]| items)) {
             self.asks.push(Ask::ListEntry(node, index));
             self.text(text_of::ENTRY_NAME, node, index);
             self.text(text_of::ENTRY_ORIGIN, node, index);
         }
-        for index in numbers(origins) {
+        for index in numbers_if(counts.map(|[_, origins]| origins)) {
             self.text(text_of::ORIGIN, node, index);
         }
     }
@@ -82,7 +88,7 @@ impl Questions {
             self.asks.extend([Ask::Definition(index), Ask::FirstItem(index)]);
             self.text(text_of::DEFINITION, index, random.word());
             let definition = reader.definition(index);
-            for item in numbers(definition.map_or(0, |(_, items)| items)) {
+            for item in numbers_if(definition.map(|(_, items)| items)) {
                 self.asks.push(Ask::DefinitionItem(index, item));
                 self.text(text_of::DEFINITION_ITEM, index, item);
             }
