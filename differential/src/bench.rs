@@ -41,34 +41,38 @@ const LONGEST: Duration = Duration::from_secs(10);
 const PUBLISHED: [&str; 2] = ["published", OURS];
 const OURS: &str = "ours";
 
-/// In the place of words: pages alone, of every input that is asked.
+/// In the place of words: pages alone, or the sleeper's reader alone, of every input that is asked.
 const PAGES: &str = "pages";
+const SLEEPER: &str = "sleeper";
 
 /// Measures each thing for so many seconds, or until all rounds are done; of the inputs, those with the words in their
-/// name, or pages alone. Whether a goal was missed.
+/// name, or one thing alone. Whether a goal was missed.
 pub fn run(seconds: u64, words: &str) -> bool {
     let mut sheet = Sheet { long: Duration::from_secs(seconds), input: "", lines: vec![] };
     let mut random = Random::new(5);
     println!("median of up to {ROUNDS} rounds; ratio of ours to the published Rust: median (lowest to highest)");
-    let pages_alone = words == PAGES;
+    let alone = [PAGES, SLEEPER].contains(&words);
     for make in inputs::ALL {
         let input = make(&mut random);
-        if !(if pages_alone { input.asked } else { input.name.contains(words) }) {
+        if !(if alone { input.asked } else { input.name.contains(words) }) {
             continue;
         }
         println!("{}: {} bytes, {} nodes", input.name, input.image.len(), input.nodes());
         sheet.input = input.name;
-        if !pages_alone {
+        if !alone {
             measure(&input, &mut sheet);
         }
-        if input.asked {
+        if input.asked && words != PAGES {
+            sleeper::run(&input, &mut sheet);
+        }
+        if input.asked && words != SLEEPER {
             pages::run(&input, &mut sheet);
         }
     }
-    if !pages_alone {
+    sleeper::notes(words, &mut sheet);
+    if !alone {
         targets::run(words, &mut sheet);
         texts::run(words, &mut sheet);
-        sleeper::notes(words, &mut sheet);
     }
     if words.is_empty() {
         leaves::run(&mut random, &mut sheet);
@@ -191,7 +195,6 @@ fn ask(input: &Input, ours: &ours::Measured, sheet: &mut Sheet) {
     let walked = || timed(|| walks.iter().filter_map(|(origin, walk)| theirs.walk(*origin, walk)).count());
     sheet.duel("node views", PUBLISHED, views, ours.views());
     sheet.duel("views as enums", PUBLISHED, views, ours.enums());
-    sleeper::run(input, sheet);
     sheet.duel("depths", PUBLISHED, depths, ours.depths());
     sheet.duel("walks", PUBLISHED, walked, ours.walks());
 }

@@ -26,9 +26,11 @@ use notes::Story;
 use questions::Questions;
 use seen::Seen;
 
-/// Of so many accepted images one is made into a pair: stories have all sorts of nodes, members of families few.
-const OF_STORIES: usize = 2;
-const OF_OTHERS: usize = 16;
+/// Accepted images that have all sorts of nodes: each is made into a pair.
+const STORIES: [&str; 2] = ["story", "written by us"];
+
+/// Of the others one in so many: members of families have few nodes.
+const OTHERS: usize = 12;
 
 /// An image, what is due of it, and our reader of it.
 struct Side<'a> {
@@ -43,13 +45,12 @@ impl<'a> Side<'a> {
     }
 }
 
-/// Makes a pair of an accepted image, now and then. The random numbers are those of a copy, so that the cases of a seed
+/// Makes a pair of an accepted image. The random numbers are those of a copy, so that the cases of a seed
 /// are the same with and without pairs.
 pub fn accepted(name: &str, bytes: &[u8], ours: Option<&dyn Library>, random: &Random, tally: &mut Tally) {
     let random = &mut random.clone();
-    let every = if ["story", "written by us"].contains(&name) { OF_STORIES } else { OF_OTHERS };
     let without = ours.is_some_and(|ours| ours.sleeper(bytes).is_none());
-    if without || !random.once_in(every) {
+    if without || !STORIES.contains(&name) && !random.once_in(OTHERS) {
         return;
     }
     let story = Story::noted(bytes, random);

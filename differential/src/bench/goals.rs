@@ -1,7 +1,7 @@
 //! What the benchmark is held to, one table. A quick path that is never taken gives the same answers, so its goal lies
 //! between the time with it and the time without.
 
-use super::{Line, PAGES};
+use super::{Line, PAGES, SLEEPER};
 
 /// How much of the other side's time a line may take, by the median of its ratios.
 struct Goal {
@@ -45,6 +45,7 @@ impl Goal {
     fn is_asked(&self, words: &str) -> bool {
         match words {
             PAGES => self.line.starts_with("page"),
+            SLEEPER => self.line.starts_with("sleeper"),
             "" => true,
             _ => self.input.contains(words),
         }
@@ -115,5 +116,6 @@ mod tests {
             assert!(held(&lines, ""), "{} is not measured", goal.line);
         }
         assert!(held(&[line("1 MB of random UTF-8", "page, any nodes", Some(0.71))], PAGES));
+        assert!(held(&[line("1 MB of random UTF-8", "sleeper's views", Some(1.21))], SLEEPER) && held(&[], SLEEPER));
     }
 }

@@ -1,7 +1,7 @@
 //! The sleeper's view of every node against the technician's, and a text copied by the sleeper's call against one that
 //! is copied from the place that the technician's call tells: both sides are ours.
 
-use super::{Duration, Input, Sheet, black_box, inputs, timed};
+use super::{Duration, Input, SLEEPER, Sheet, black_box, inputs, timed};
 use crate::library::header_view;
 use crate::library::sleeper::{VIEW_WORDS, sleeper_view, text_of};
 use crate::parts::NONE;
@@ -22,7 +22,7 @@ pub fn run(input: &Input, sheet: &mut Sheet) {
 
 /// Of tags, half of which are void to the sleeper.
 pub fn notes(words: &str, sheet: &mut Sheet) {
-    if !NOTES.contains(words) {
+    if words != SLEEPER && !NOTES.contains(words) {
         return;
     }
     let text = |number| format!("{} {number}", if number % 2 == 0 { "tech:" } else { "teach" });
