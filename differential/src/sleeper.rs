@@ -45,8 +45,8 @@ impl<'a> Side<'a> {
     }
 }
 
-/// Makes a pair of an accepted image. The random numbers are those of a copy, so that the cases of a seed
-/// are the same with and without pairs.
+/// Makes a pair of an accepted image. The random numbers are those of a copy, so that the cases of a seed are the same
+/// with and without pairs.
 pub fn accepted(name: &str, bytes: &[u8], ours: Option<&dyn Library>, random: &Random, tally: &mut Tally) {
     let random = &mut random.clone();
     let without = ours.is_some_and(|ours| ours.sleeper(bytes).is_none());
@@ -65,8 +65,7 @@ pub fn accepted(name: &str, bytes: &[u8], ours: Option<&dyn Library>, random: &R
         pair(&sides, ours, random, tally);
     }
     if let Some(ours) = ours.filter(|ours| ours.answers_all()) {
-        let (_, damaged) = damage::random(&story.parts, random);
-        refused(&damaged, ours, random, tally);
+        damaged(&damage::random(&story.parts, random).1, ours, random, tally);
         other_view(&one, ours, random, tally);
     }
 }
@@ -87,16 +86,17 @@ fn pair(sides: &[Side<'_>; 2], ours: Option<&dyn Library>, random: &mut Random, 
     short_view(&sides[0], &view[..random.below(VIEW_WORDS)], &questions, random, tally);
 }
 
-/// Loads with enough words, with one too few, and into a view that is too short; as those of an image with this row.
+/// Loads with enough words, with one too few, and into a view that is too short; as those of an image with this row. A
+/// header that is refused needs no words.
 fn load(side: &Side<'_>, due_of: &[u8], row: u32, past: usize, tally: &mut Tally) {
     let Some(reader) = side.reader.as_deref() else {
         return;
     };
-    let needed = load_words(due_of);
+    let needed = if (1..=5).contains(&row) { 0 } else { load_words(due_of) };
     let words = reader.load_words();
     tally.check(words == needed, || format!("sleeper's load: {needed} words due, ours {words}"), side.bytes);
     let enough = [needed + past, VIEW_WORDS + past];
-    for lent in [enough, [needed - 1, VIEW_WORDS], [needed, VIEW_WORDS - 1 - past]] {
+    for lent in [enough, [needed.saturating_sub(1), VIEW_WORDS], [needed, VIEW_WORDS - 1 - past]] {
         let (due, ours) = (Load::due(due_of, row, needed, lent), Load::of(reader, lent));
         tally.check(ours == due, || format!("sleeper's load: due {due:?}, ours {ours:?}"), side.bytes);
     }
@@ -151,53 +151,48 @@ fn short_view(side: &Side<'_>, view: &[u32], questions: &Questions, random: &mut
     copies(side, view, which, None, Asked::Pairs, tally);
 }
 
-/// An image that may be refused after its header: the load, and the answers under the view that its header makes.
-fn refused(bytes: &[u8], ours: &dyn Library, random: &mut Random, tally: &mut Tally) {
-    let row = path_index::row(bytes);
-    if row <= 5 {
+/// A damaged image: the load; where it is refused after its header, the answers under the view that this makes.
+fn damaged(bytes: &[u8], ours: &dyn Library, random: &mut Random, tally: &mut Tally) {
+    let Some(queries) = ours.queries() else {
         return;
+    };
+    let (row, view) = (path_index::row(bytes), if bytes.len() < HEADER { [0; 17] } else { header_view(bytes) });
+    let technician = technician::Ours { queries, bytes, view: &view };
+    let side = Side::new(bytes, &technician, Some(ours));
+    load(&side, bytes, row, random.below(3), tally);
+    if row > 5 {
+        let views = (0..view[2]).filter_map(|node| technician.node_view(node));
+        met::refused(views.filter(|view| side.seen.hides(view)).count(), tally);
+        let seen = sleeper_view(bytes);
+        let right = placed(&seen, bytes.len())[1..] == view[1..];
+        tally.check(right, || "the harness on places by a right header".to_owned(), bytes);
+        by_calls(&side, &seen, &view, Asked::Refused, random, tally);
     }
-    let placed = placed(&sleeper_view(bytes), bytes.len());
-    tally.check(placed[1..] == header_view(bytes)[1..], || "the places of a right header".to_owned(), bytes);
-    by_calls(bytes, &sleeper_view(bytes), ours, Some(row), Asked::Refused, random, tally);
 }
 
-/// Other bytes than the view's.
+/// Fewer bytes than the view's, or a view with another count: the answers by our technician's calls under the same view
+/// with its places.
 fn other_view(bytes: &[u8], ours: &dyn Library, random: &mut Random, tally: &mut Tally) {
-    let (mut view, mut bytes) = (sleeper_view(bytes), bytes.to_vec());
+    let Some(queries) = ours.queries() else {
+        return;
+    };
+    let (mut view, mut bytes) = (sleeper_view(bytes), bytes);
     if random.once_in(2) {
-        bytes.truncate(random.below(bytes.len()));
+        bytes = &bytes[..random.below(bytes.len())];
     } else {
         let count = &mut view[1 + random.below(VIEW_WORDS - 1)];
         let near = [count.wrapping_sub(1), *count + 1, 0, edge(random)];
         *count = *random.pick(&near);
     }
-    by_calls(&bytes, &view, ours, None, Asked::Other, random, tally);
+    let placed = placed(&view, bytes.len());
+    let technician = technician::Ours { queries, bytes, view: &placed };
+    by_calls(&Side::new(bytes, &technician, Some(ours)), &view, &placed, Asked::Other, random, tally);
 }
 
-/// Every call on any bytes under any view, by what our technician's calls show under the same view with its places.
-fn by_calls(
-    bytes: &[u8],
-    view: &[u32; VIEW_WORDS],
-    ours: &dyn Library,
-    row: Option<u32>,
-    asked: Asked,
-    random: &mut Random,
-    tally: &mut Tally,
-) {
-    let Some(queries) = ours.queries() else {
-        return;
-    };
-    let placed = placed(view, bytes.len());
-    let technician = technician::Ours { queries, bytes, view: &placed };
-    let side = Side::new(bytes, &technician, Some(ours));
-    if let Some(row) = row {
-        load(&side, bytes, row, random.below(3), tally);
-        let views = (0..placed[2]).filter_map(|node| technician.node_view(node));
-        met::refused(views.filter(|view| side.seen.hides(view)).count(), tally);
-    }
-    let questions = Questions::of(&technician, placed[2], placed[10], random);
-    all(std::slice::from_ref(&side), view, &questions, asked, tally);
+/// Every call, as our technician's calls answer.
+fn by_calls(side: &Side<'_>, view: &[u32], placed: &View, asked: Asked, random: &mut Random, tally: &mut Tally) {
+    let questions = Questions::of(side.seen.technician, placed[2], placed[10], random);
+    all(std::slice::from_ref(side), view, &questions, asked, tally);
 }
 
 /// The technician's view of so many bytes under a sleeper's: sections lie one behind the other, the strings are what is
