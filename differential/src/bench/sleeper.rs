@@ -5,7 +5,8 @@ use super::{Duration, Input, SLEEPER, Sheet, black_box, inputs, timed};
 use crate::library::header_view;
 use crate::library::sleeper::{VIEW_WORDS, sleeper_view, text_of};
 use crate::parts::NONE;
-use story_image::{ffi, sleeper_ffi};
+use crate::sleeper_ffi;
+use story_image::ffi;
 
 /// Views of a round, at least: so that the clock does not count.
 const VIEWS: usize = 100_000;
