@@ -1,5 +1,6 @@
-/* Story images: loading, reading and writing. docs/FORMAT.md has the format whole; this file is enough to call the
- * library.
+/* Story images: loading, reading and writing. docs/FORMAT.md has the format whole; this file and story_image_numbers.h,
+ * which it includes, are enough to call the library. This is the technician's reader, which sees every node as it is;
+ * the sleeper's, which does not see notes to the technician, is a library of its own: sleeper_image.h.
  *
  * A slice is lent as pointer and length (a count of elements, not of bytes). It must not be written by others during
  * the call; its pointer is not null, also where the length is 0, and is aligned for its type. Slices that are written

@@ -19,7 +19,8 @@
 #define STORY_IMAGE_LAST_INK_VERSION 21
 
 /* Numbers that a function returns: the first rule that is broken, in the fixed order of docs/FORMAT.md. Which of them a
- * function can return is said at each; that it returns no other is proved (docs/PROMISES.md, `ExportNumbers`). */
+ * function can return is said at each; that it returns no other is proved (docs/PROMISES.md, `ExportNumbers`,
+ * `SleeperExportNumbers`). */
 enum {
     STORY_IMAGE_OK = 0,              /* nothing is refused */
     /* of a load */

@@ -4,3 +4,5 @@ pub mod Records
 pub mod ListPlaces
 pub mod ViewWords
 pub mod LentSlices
+pub mod Sizes
+pub mod ItemNumbers

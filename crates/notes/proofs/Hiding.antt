@@ -1,12 +1,16 @@
 -- The technician's view with notes as void, case by case.
-use Prim.Native.Nat.{ℕ, _<_}
+use Prim.Native.Nat.{ℕ, _≤_, _<_}
 use mathlib.Core.Path.{_≡_, refl, sym, ap, _∙_}
-use mathlib.Core.List.{List}
+use mathlib.Core.List.{List, [], _∷_}
 use mathlib.Core.Bool.{Bool, true, false, cond}
 use native.Mathlib.Omega.{arith}
-use lib.ListN.{length, take, length-take}
+use native.Mathlib.Decide.{ℕ-discrete}
+use lib.ListN.{length, getD, take, length-take}
+use lib.Dec.{eqb}
+use lib.Seq.{getD-take}
+use borrow.Author.Tests.{eq-eqb, ne-eqb}
 use Rattle.texts.specs.Text.{ascii}
-use Rattle.texts.proofs.Text.{unlike-same}
+use Rattle.texts.proofs.Text.{equal-same, unlike-same}
 use Rattle.image.specs.Sections.{Sections}
 use Rattle.views.specs.declared.NodeKindView.{NodeKindView}
 use Rattle.views.specs.declared.NodeKindView.the-variants as kind
@@ -21,6 +25,25 @@ use Rattle.notes.specs.Notes.{notePrefix, isNote, noteKind, noteIn, note
 pub short-note : (t : List ℕ) → length t < 5 → false ≡ isNote t
 unfolding isNote notePrefix ascii
 short-note t h = sym (unlike-same (take 5 t) notePrefix (λ e. let l : length (take 5 t) ≡ 5 = ap length e in omega (arith, length-take 5 t)))
+
+-- a byte that is another than the prefix has there
+pub other-byte : (t : List ℕ) (k n : ℕ) → k < 5 → getD notePrefix k 0 ≡ n → (getD t k 0 ≡ n → ⊥) → false ≡ isNote t
+unfolding isNote notePrefix ascii
+other-byte t k n h p d = sym (unlike-same (take 5 t) notePrefix (λ e. d (sym (getD-take 5 t k 0 h) ∙ ap (λ (l : List ℕ). getD l k 0) e ∙ p)))
+
+-- five bytes, the last of which decides
+pub last-byte : (t : List ℕ) → 5 ≤ length t → getD t 0 0 ≡ 116 → getD t 1 0 ≡ 101 → getD t 2 0 ≡ 99 → getD t 3 0 ≡ 104 → eqb (getD t 4 0) 58 ≡ isNote t
+unfolding isNote notePrefix ascii
+last-byte [] h = absurd (omega arith)
+last-byte (a ∷ []) h = absurd (omega arith)
+last-byte (a ∷ b ∷ []) h = absurd (omega arith)
+last-byte (a ∷ b ∷ c ∷ []) h = absurd (omega arith)
+last-byte (a ∷ b ∷ c ∷ d ∷ []) h = absurd (omega arith)
+last-byte (a ∷ b ∷ c ∷ d ∷ e ∷ rest) h = λ pa pb pc pd.
+    elim (ℕ-discrete e 58) [
+      | yes q ↦ eq-eqb e 58 q ∙ sym (equal-same _ notePrefix (λ u. pa u ∷ pb u ∷ pc u ∷ pd u ∷ q u ∷ []))
+      | no q ↦ ne-eqb e 58 q ∙ sym (unlike-same _ notePrefix (λ z. q (ap (λ (l : List ℕ). getD l 4 0) z)))
+    ]
 
 module _ (strings : List ℕ) (k : NodeKindView) (b : Bool) (e : b ≡ noteKind strings k) where
   pub note-hidden : b ≡ true → kind.Void ≡ hideNote strings k

@@ -1,8 +1,7 @@
 -- A text copied, and its length, under lent words of a view.
 use Prim.Native.Nat.{ℕ, _≤_, _<_}
 use mathlib.Core.Path.{_≡_, refl, sym, ap, _∙_}
-use mathlib.Core.List.{List, [], _∷_}
-use mathlib.Core.Bool.{Bool, cond}
+use mathlib.Core.List.{List}
 use mathlib.Core.Option.{Option, none, some}
 use native.Mathlib.Omega.{arith}
 use lib.ListN.{length}
@@ -20,7 +19,7 @@ use Rattle.sleeper.specs.Reader.{sleeperSections}
 use Rattle.sleeper.specs.Texts.{orEmpty, lengthIf, sleeperText}
 use Rattle.sleeper_image.specs.Exported.{viewLength, viewBy, under}
 use Rattle.sleeper_image.specs.Texts.{textKinds, whichBy, textUnder, lengthWords, answerOfTextLength}
-use Rattle.sleeper_image.proofs.Views.{too-few, enough}
+use Rattle.sleeper_image.proofs.Views.{too-few}
 
 -- ---- a text and its length: a length is answered exactly where there is a text
 
@@ -58,7 +57,7 @@ module _ (bytes view : List ℕ) (kind a b : ℕ) where
   unfolding textUnder under
   under-none h k = rw (le-leb viewLength (length view) h, le-leb textKinds kind k) refl
 
-  under-some : viewLength ≤ length view → kind < textKinds → (v : SleeperView) → v ≡ viewBy view → (w : Which) → w ≡ whichBy kind a b
+  pub under-some : viewLength ≤ length view → kind < textKinds → (v : SleeperView) → v ≡ viewBy view → (w : Which) → w ≡ whichBy kind a b
       → sleeperText (sleeperSections bytes v) w ≡ textUnder bytes view kind a b
   unfolding textUnder under
   under-some h k v e w q =

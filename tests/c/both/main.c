@@ -172,10 +172,13 @@ int main(int count, char **arguments) {
         fprintf(stderr, "both SAMPLES\n");
         return 2;
     }
-    static const char *const samples[] = {"smallest", "step", "guide"};
-    for (size_t k = 0; k < 3; k++) {
-        uint8_t *bytes = sample_bytes(arguments[1], samples[k], &length);
-        same(bytes, length, samples[k], 0);
+    static const struct {
+        const char *name;
+        unsigned notes;
+    } samples[] = {{"smallest", 0}, {"step", 0}, {"guide", 0}, {"note-one", 2}, {"note-two", 2}};
+    for (size_t k = 0; k < sizeof samples / sizeof samples[0]; k++) {
+        uint8_t *bytes = sample_bytes(arguments[1], samples[k].name, &length);
+        same(bytes, length, samples[k].name, samples[k].notes);
     }
     uint8_t *bytes = guide_bytes(&guide, &layout, &length);
     same(bytes, length, "a guide with notes", 2);

@@ -6,6 +6,6 @@ void test_loads(const char *folder);
 void test_samples(const char *folder);
 void test_guide(void);
 void test_notes(void);
-void test_unseen(void);
+void test_unseen(const char *folder);
 
 #endif

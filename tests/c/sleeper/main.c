@@ -13,7 +13,7 @@ int main(int count, char **arguments) {
     test_samples(folder);
     test_guide();
     test_notes();
-    test_unseen();
+    test_unseen(folder);
     printf("%lu passed, %lu failed\n", passed, failed);
     return failed != 0;
 }

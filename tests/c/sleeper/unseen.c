@@ -110,8 +110,9 @@ static struct transcript everything(const struct story_image_sleeper *image) {
     static const uint32_t indices[] = {0, 1, 2, 18, NONE};
     ask_loads(&all, image);
     write_down(&all, image->view, sizeof image->view);
-    for (uint32_t node = 0; node <= GUIDE_NODES + 1; node++) {
-        uint32_t a = node > GUIDE_NODES ? NONE : node;
+    uint32_t count = image->view[STORY_IMAGE_SLEEPER_NODES_COUNT];
+    for (uint32_t node = 0; node <= count + 1; node++) {
+        uint32_t a = node > count ? NONE : node;
         ask_walks(&all, image, a);
         for (size_t k = 0; k < SIZE(indices); k++) {
             struct asked asked = {a, indices[k], 0, (const uint8_t *)"", 0};
@@ -135,10 +136,9 @@ static size_t first_difference(const struct transcript *one, const struct transc
     return at;
 }
 
-static bool same(const struct guide *guide, const struct layout *layout, const struct transcript *due) {
-    size_t length;
-    uint8_t *bytes = guide_bytes(guide, layout, &length);
-    struct story_image_sleeper image = accepted(bytes, length, guide->first);
+/* Whether an image gives these answers; its bytes are freed. */
+static bool answers_are(uint8_t *bytes, size_t length, const struct transcript *due) {
+    struct story_image_sleeper image = accepted(bytes, length, "one of two");
     struct transcript given = everything(&image);
     bool equal = given.length == due->length && first_difference(&given, due) == due->length;
     free(given.bytes);
@@ -146,7 +146,27 @@ static bool same(const struct guide *guide, const struct layout *layout, const s
     return equal;
 }
 
-void test_unseen(void) {
+static bool same(const struct guide *guide, const struct layout *layout, const struct transcript *due) {
+    size_t length;
+    uint8_t *bytes = guide_bytes(guide, layout, &length);
+    return answers_are(bytes, length, due);
+}
+
+/* The two samples with notes; a third sample. */
+static void samples(const char *folder) {
+    size_t one_length, length;
+    uint8_t *one = sample_bytes(folder, "note-one", &one_length), *two = sample_bytes(folder, "note-two", &length);
+    struct story_image_sleeper image = accepted(one, one_length, "note-one");
+    struct transcript due = everything(&image);
+    CHECK(one_length != length && answers_are(two, length, &due), "note-two is read as note-one is");
+    uint8_t *step = sample_bytes(folder, "step", &length);
+    CHECK(!answers_are(step, length, &due), "step is not");
+    free(due.bytes);
+    release(&image);
+}
+
+void test_unseen(const char *folder) {
+    samples(folder);
     static const struct layout plain = {false, false, ""};
     static const struct layout layouts[] = {
         {true, false, ""}, {false, true, ""}, {true, true, ""}, {false, false, "\xff"}, {true, true, "unused tech:"}};
