@@ -1,6 +1,10 @@
-//! Names the static library of the leaves to the linker, where it has been built beside the other.
+//! Names static libraries to the linker, where they have been built beside ours: that of the leaves, and that of the
+//! sleeper's reader.
 
-use std::{env, path::PathBuf};
+use std::{
+    env,
+    path::{Path, PathBuf},
+};
 
 fn main() {
     println!("cargo:rerun-if-env-changed=STORY_IMAGE_LIBRARY");
@@ -10,11 +14,20 @@ fn main() {
         Some(folder) => root.join(folder),
         None => root.join("target/staticlib"),
     };
-    let archive = folder.join("libleaves.a");
-    println!("cargo:rerun-if-changed={}", archive.display());
-    if archive.exists() {
+    println!("cargo:rustc-link-search=native={}", folder.display());
+    if linked(&folder, "leaves") {
         println!("cargo:rustc-cfg=leaves");
-        println!("cargo:rustc-link-search=native={}", folder.display());
-        println!("cargo:rustc-link-lib=static=leaves");
     }
+    linked(&folder, "sleeper_image");
+}
+
+/// Whether the library is there, and so is linked.
+fn linked(folder: &Path, name: &str) -> bool {
+    let archive = folder.join(format!("lib{name}.a"));
+    println!("cargo:rerun-if-changed={}", archive.display());
+    let there = archive.exists();
+    if there {
+        println!("cargo:rustc-link-lib=static={name}");
+    }
+    there
 }

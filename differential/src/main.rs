@@ -1,6 +1,7 @@
 //! Compares the verified story-image library with the published Rust on generated images and drafts. The script `run`
 //! says how to call it.
 
+mod asked;
 mod bench;
 mod corpus;
 mod damage;
@@ -31,11 +32,17 @@ mod rows;
 mod run;
 mod samples;
 mod searched;
+mod sleeper;
+// the wrapper's own file, which is linked by build.rs
+#[cfg(feature = "sleeper")]
+#[path = "../../bindings/rust/src/sleeper_ffi.rs"]
+mod sleeper_ffi;
 mod small;
 mod stories;
 mod strange;
 mod tally;
 mod targets;
+mod technician;
 mod texts;
 mod writes;
 mod wrong;

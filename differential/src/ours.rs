@@ -1,14 +1,19 @@
-//! Our library, through its Rust binding. What it has beside the load is told by the features `queries`, `write` and
-//! `targets`.
+//! Our library, through its Rust binding. What it has beside the load is told by the features `queries`, `write`,
+//! `targets`, `header` and `sleeper`.
 
 #[cfg(feature = "queries")]
 mod queries;
+#[cfg(feature = "sleeper")]
+mod sleeper;
 #[cfg(feature = "targets")]
 pub mod targets;
 #[cfg(feature = "write")]
 pub mod write;
 
+use crate::library::sleeper::Sleeper;
 use crate::library::{Library, Queries, Targets, View, Writer};
+#[cfg(feature = "header")]
+use story_image::raw;
 use story_image::{Image, NodeKindOf, ValueOf};
 
 pub struct Ours;
@@ -102,6 +107,26 @@ impl Library for Ours {
 
     #[cfg(not(feature = "targets"))]
     fn targets(&self) -> Option<&dyn Targets> {
+        None
+    }
+
+    #[cfg(feature = "sleeper")]
+    fn sleeper<'a>(&'a self, bytes: &'a [u8]) -> Option<Box<dyn Sleeper + 'a>> {
+        Some(Box::new(sleeper::Reader(bytes)))
+    }
+
+    #[cfg(not(feature = "sleeper"))]
+    fn sleeper<'a>(&'a self, _: &'a [u8]) -> Option<Box<dyn Sleeper + 'a>> {
+        None
+    }
+
+    #[cfg(feature = "header")]
+    fn header_words(&self, bytes: &[u8]) -> Option<[Option<u32>; 3]> {
+        Some([raw::total_length(bytes), raw::strings_length(bytes), raw::checksum(bytes)])
+    }
+
+    #[cfg(not(feature = "header"))]
+    fn header_words(&self, _: &[u8]) -> Option<[Option<u32>; 3]> {
         None
     }
 }

@@ -1,17 +1,23 @@
 -- Where sections lie by the counts, as the code adds them up.
-use Prim.Native.Nat.{ℕ, _+_, _*_, _-_, _≤_, _<_}
-use mathlib.Core.Path.{_≡_, refl, ap, _∙_}
+use Prim.Native.Nat.{ℕ, _+_, _*_, _-_, _/_, _≤_, _<_}
+use mathlib.Core.Path.{_≡_, refl, sym, ap, _∙_, subst}
+use mathlib.Core.List.{List}
+use mathlib.Core.Bool.{Bool, true, false, cond, _&&_}
 use native.Mathlib.Omega.{arith}
-use borrow.Author.Tests.{le-leb, lt-leb}
+use lib.ListN.{length}
+use lib.Dec.{leb}
+use borrow.Author.Tests.{leb-true, le-leb, lt-leb}
 use Rattle.laws.specs.Counted.{sumOf}
-use Rattle.words.specs.Words.{NONE}
+use Rattle.laws.proofs.Flags.{both-true}
+use Rattle.words.specs.Words.{NONE, wordsOf}
 use Rattle.image.specs.declared.Section.{Section}
 use Rattle.image.specs.declared.ImageView.{ImageView}
 use Rattle.image.specs.Sections.{nodeWords, nodeSize, mostNodeSize, childSize, textEntrySize, definitionSize}
-use Rattle.image.specs.Header.{headerLength, sizes}
-use Rattle.image.proofs.Widths.{size-words, number-words}
+use Rattle.image.specs.Header.{headerLength, sizes, sectionBytes}
+use Rattle.image.proofs.Widths.{words-some, size-words, number-words}
+use Rattle.image.proofs.Views.{Within, Inside, section-count}
 use Rattle.sleeper.specs.declared.SleeperView.{SleeperView}
-use Rattle.sleeper.specs.Reader.{startOf, sectionBy, fits, unplaced, withPlaces}
+use Rattle.sleeper.specs.Reader.{startOf, sectionBy, fits, placed, unplaced, withPlaces}
 
 -- so many nodes in bytes
 pub nodes-most : (n version size : ℕ) → n ≤ NONE → size ≡ 4 * nodeWords version → n * size ≤ NONE * mostNodeSize
@@ -69,3 +75,54 @@ module _ (n : ℕ) (v : SleeperView) (a : ℕ) (pa : a ≡ headerLength + v .nod
 pub too-long : (n : ℕ) (v : SleeperView) → NONE < n → (r : ImageView) → r ≡ unplaced v → r ≡ withPlaces n v
 unfolding withPlaces fits
 too-long n v h r q = rw (lt-leb n NONE h) q
+
+-- ---- all sections lie inside the bytes, also where they do not fit and are empty
+
+module _ (bs : List ℕ) (v : SleeperView) where
+  inside-placed : startOf v 7 ≤ length bs → Inside bs (placed (length bs) v)
+  unfolding startOf sumOf sizes
+  inside-placed h =
+      record {
+        nodes = omega arith;
+        children = omega arith;
+        named = omega arith;
+        definitions = omega arith;
+        items = omega arith;
+        index = omega arith;
+        payload = omega arith;
+        strings = omega arith;
+      }
+
+  inside-unplaced : Inside bs (unplaced v)
+  inside-unplaced =
+      record {
+        nodes = omega arith;
+        children = omega arith;
+        named = omega arith;
+        definitions = omega arith;
+        items = omega arith;
+        index = omega arith;
+        payload = omega arith;
+        strings = omega arith;
+      }
+
+  places-inside : Inside bs (withPlaces (length bs) v)
+  unfolding withPlaces fits
+  places-inside = by (leb (length bs) NONE && leb (startOf v 7) (length bs)) refl
+    where
+      by : (b : Bool) → (leb (length bs) NONE && leb (startOf v 7) (length bs)) ≡ b → Inside bs (cond b (placed (length bs) v) (unplaced v))
+      by true e = inside-placed (leb-true (startOf v 7) (length bs) (both-true (leb (length bs) NONE) (leb (startOf v 7) (length bs)) e .1))
+      by false e = inside-unplaced
+
+  pub view-inside : (u : ImageView) → u ≡ withPlaces (length bs) v → Inside bs u
+  view-inside u e = subst (λ (w : ImageView). Inside bs w) (sym e) places-inside
+
+-- the nodes of a view, where they lie inside: as many as the view counts
+module _ (bs : List ℕ) (u : ImageView) (size : ℕ) (q : size ≡ nodeSize (u .version)) (part : List ℕ) (e : part ≡ sectionBytes bs (u .nodes) size) where
+  pub nodes-there : part ≡ sectionBytes bs (u .nodes) (nodeSize (u .version))
+  nodes-there = e ∙ ap (sectionBytes bs (u .nodes)) q
+
+  pub nodes-counted : Within bs (u .nodes) (nodeSize (u .version)) → u .nodes .count ≡ length (wordsOf part) / nodeWords (u .version)
+  nodes-counted w =
+      sym (section-count bs (u .nodes) (nodeWords (u .version)) (omega (arith, words-some (u .version))) w)
+      ∙ ap (λ (x : List ℕ). length (wordsOf x) / nodeWords (u .version)) (sym nodes-there)

@@ -18,7 +18,7 @@ use Rattle.image.specs.declared.NodeRecord.{NodeRecord}
 use Rattle.image.specs.declared.ImageView.{ImageView}
 use Rattle.image.specs.Sections.{Sections, textOrEmpty}
 use Rattle.image.specs.Header.{sectionBytes, sectionsBy}
-use Rattle.image.proofs.Views.{payload-by, strings-by}
+use Rattle.image.proofs.Views.{strings-by}
 use Rattle.image.specs.Tags.{containerTag, divertTag, tagTag, stringTag, targetTag, pointerTag, assignmentTag, referenceTag, voidTag}
 use Rattle.records.specs.Fields as field
 use Rattle.records.specs.Fields.{Kind, kindOf}
@@ -326,11 +326,11 @@ module _ (bs : List ℕ) (v : SleeperView) (u : ImageView) (e : u ≡ withPlaces
   pub words-missing : r ≡ record-found.NotFound → none ≡ nodeAnswer (sleeperView (sleeperSections bs v) i)
   words-missing m = answer-seen node.NotFound (view-missing (sectionsBy bs u) i r h m)
 
-  pub words-found : (x : NodeRecord) → r ≡ record-found.Record x → (payload strings : List ℕ) → payload ≡ sectionBytes bs (u .payload) 1
+  pub words-found : (x : NodeRecord) → r ≡ record-found.Record x → (n : ℕ) → n ≡ length (sectionsBy bs u .payload) → (strings : List ℕ)
       → strings ≡ sectionBytes bs (u .strings) 1
-      → nodeAnswer (viewSeen (hideIn strings (recordView strings (length payload) x))) ≡ nodeAnswer (sleeperView (sleeperSections bs v) i)
-  words-found x m payload strings p q =
+      → nodeAnswer (viewSeen (hideIn strings (recordView strings n x))) ≡ nodeAnswer (sleeperView (sleeperSections bs v) i)
+  words-found x m n p strings q =
       let here = strings-by bs u ∙ sym q in
-      (λ j. nodeAnswer (viewSeen (hideIn (sym here j) (recordView strings (length payload) x))))
-      ∙ answer-seen (recordView strings (length payload) x)
-      (view-found (sectionsBy bs u) i r h x m (length payload) strings (ap length (payload-by bs u ∙ sym p)) here (recordView strings (length payload) x) refl)
+      (λ j. nodeAnswer (viewSeen (hideIn (sym here j) (recordView strings n x))))
+      ∙ answer-seen (recordView strings n x)
+      (view-found (sectionsBy bs u) i r h x m n strings (sym p) here (recordView strings n x) refl)

@@ -14,6 +14,9 @@ ghost use Rattle.sleeper.specs.Seen.{viewSeen, sleeperView};
 ghost use Rattle.sleeper.specs.NodeWords.{nodeAnswer};
 ghost use Rattle.sleeper.specs.RecordWords.{noteWords, hiddenWords, textGiven, sixOf};
 use crate::SleeperView;
+use crate::sections::node_of;
+use crate::sections::part;
+use crate::sections::payload_length;
 use crate::sections::with_places;
 use answers::node::KindFound;
 use answers::node::KindWords;
@@ -105,12 +108,11 @@ pub fn put_node_view(bytes: &[u8], view: SleeperView, id: u32, answer: &mut [u32
         Answered a (now (answer .entry)) (now (answer .exit)) r) ⌝ }
 {
     let whole = with_places(bytes.len(), view);
-    match views::entries::node_of(bytes, whole, id) {
+    match node_of(bytes, whole, id) {
         RecordFound::NotFound => NOT_FOUND,
         RecordFound::Record(node) => {
-            let payload = image::section_part(bytes, whole.payload, ImageView::PAYLOAD_SIZE);
-            let strings = image::section_part(bytes, whole.strings, ImageView::STRINGS_SIZE);
-            put_record_view(node, payload.len(), strings, answer)
+            let strings = part(bytes, whole.strings, ImageView::STRINGS_SIZE);
+            put_record_view(node, payload_length(whole), strings, answer)
         }
     }
 }

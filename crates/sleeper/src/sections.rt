@@ -1,14 +1,17 @@
 // Where the sections lie that a view counts: one behind the other, from the header on. Places stay inside the crate.
 ghost use mathlib.Core.Path.{_≡_};
 ghost use Prim.Native.Nat.{_+_, _*_, _≤_};
+ghost use lib.ListN.{length};
 ghost use Rattle.words.specs.Words.{NONE as none};
 ghost use Rattle.image.specs.Sections.{nodeSize, mostNodeSize};
-ghost use Rattle.image.specs.Header.{headerLength};
+ghost use Rattle.image.specs.Header.{headerLength, sectionBytes, sectionsBy};
+ghost use Rattle.views.specs.Found.{nodeFound};
 ghost use Rattle.sleeper.specs.Reader.{sectionBy, unplaced, withPlaces};
 use crate::SleeperView;
 use image::ImageView;
 use image::NONE;
 use image::Section;
+use views::entries::RecordFound;
 
 // Where the nodes end, which begin behind the header.
 fn nodes_end(count: u32, version: u32) -> usize
@@ -83,4 +86,33 @@ pub fn with_places(length: usize, view: SleeperView) -> ImageView
         payload: section(payload, view.payload),
         strings: section(strings, (length - strings) as u32),
     }
+}
+
+// The bytes of a section that is known to lie inside: nothing is tested again.
+pub fn part(bytes: &[u8], section: Section, size: u32) -> &[u8]
+    requires { ⌜ section .offset + section .count * size ≤ length (now bytes) ⌝ }
+    ensures { λ r. ⌜ now r ≡ sectionBytes (now (bytes .entry)) section size ⌝ }
+{
+    let start = section.offset as usize;
+    let end = start + (section.count as usize) * (size as usize);
+    &bytes[start..end]
+}
+
+// How long the payload is, where it is known to lie inside.
+pub fn payload_length(view: ImageView) -> usize
+    ensures { λ r. ⌜ r ≡ view .payload .count ⌝ }
+{
+    view.payload.count as usize
+}
+
+// Node `id` under a view whose nodes are known to lie inside, so that their count is the view's.
+pub fn node_of(bytes: &[u8], view: ImageView, id: u32) -> RecordFound
+    requires { ⌜ view .nodes .offset + view .nodes .count * nodeSize (view .version) ≤ length (now bytes) ⌝ }
+    ensures { λ r. ⌜ r ≡ nodeFound (sectionsBy (now (bytes .entry)) view) id ⌝ }
+{
+    let nodes = part(bytes, view.nodes, image::node_size(view.version));
+    if !image::is_inside(view.nodes.count as usize, id) {
+        return RecordFound::NotFound;
+    }
+    RecordFound::Record(image::node_record(nodes, view.version, id as usize))
 }
