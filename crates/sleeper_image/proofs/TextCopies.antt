@@ -3,15 +3,13 @@ use Prim.Native.Nat.{ℕ, _≤_, _<_}
 use mathlib.Core.Path.{_≡_, refl, sym, ap, _∙_}
 use mathlib.Core.List.{List}
 use mathlib.Core.Option.{Option, none, some}
-use native.Mathlib.Omega.{arith}
 use lib.ListN.{length}
 use borrow.Author.Tests.{le-leb, lt-leb, ne-eqb}
 use Rattle.answers.specs.AnswerWords.{Answered, countAnswer}
-use Rattle.answers.specs.Lent.{textOr, Spelled}
+use Rattle.answers.specs.Lent.{Spelled}
 use Rattle.answers.proofs.AnswerSlices.{unanswered, answered-as}
 use Rattle.answers.proofs.LentSlices.{unspelled, spelled-as}
 use Rattle.views.specs.declared.Count.{Count}
-use Rattle.views.specs.declared.Count.the-variants as count
 use Rattle.sleeper.specs.declared.SleeperView.{SleeperView}
 use Rattle.sleeper.specs.declared.Which.{Which}
 use Rattle.sleeper.specs.declared.Which.the-variants as which
@@ -21,26 +19,7 @@ use Rattle.sleeper_image.specs.Exported.{viewLength, viewBy, under}
 use Rattle.sleeper_image.specs.Texts.{textKinds, whichBy, textUnder, lengthWords, answerOfTextLength}
 use Rattle.sleeper_image.proofs.Views.{too-few}
 
--- ---- a text and its length: a length is answered exactly where there is a text
-
-no-text : (o : Option (List ℕ)) (a : Count) → a ≡ lengthIf o → a ≡ count.NotFound → o ≡ none
-no-text none a e h = refl
-no-text (some t) a e h = absurd (let z : _≡_ {A = ℕ} 0 1 = cc in omega arith)
-
-a-text : (o : Option (List ℕ)) (a : Count) (n : ℕ) → a ≡ lengthIf o → a ≡ count.Of n → (t : List ℕ) → t ≡ textOr o → (some t ≡ o) × (n ≡ length t)
-a-text none a n e h t q = absurd (let z : _≡_ {A = ℕ} 0 1 = cc in omega arith)
-a-text (some x) a n e h t q = (ap some q, let z : n ≡ length x = cc in z ∙ ap length (sym q))
-
-module _ (o : Option (List ℕ)) (a : Count) (e : a ≡ lengthIf o) where
-  pub none-there : a ≡ count.NotFound → (text size : List ℕ) → Spelled o text text size size 18
-  none-there h text size = unspelled o text size (no-text o a e h)
-
-  module _ (n : ℕ) (h : a ≡ count.Of n) (t : List ℕ) (q : t ≡ textOr o) where
-    pub text-long : n ≡ length t
-    text-long = a-text o a n e h t q .1
-
-    pub some-there : (text text₁ size size₁ : List ℕ) (r : ℕ) → Spelled (some t) text text₁ size size₁ r → Spelled o text text₁ size size₁ r
-    some-there text text₁ size size₁ r c = spelled-as (some t) o text text₁ size size₁ r (a-text o a n e h t q .0) c
+-- ---- the length of a text, in words
 
 length-words : (o : Option (List ℕ)) → countAnswer (lengthIf o) ≡ lengthWords o
 length-words none = refl
