@@ -5,8 +5,7 @@ use super::{Duration, Input, SLEEPER, Sheet, black_box, inputs, timed};
 use crate::library::header_view;
 use crate::library::sleeper::{VIEW_WORDS, sleeper_view, text_of};
 use crate::parts::NONE;
-use crate::sleeper_ffi;
-use story_image::ffi;
+use story_image::{ffi, sleeper_ffi};
 
 /// Views of a round, at least: so that the clock does not count.
 const VIEWS: usize = 100_000;
