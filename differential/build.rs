@@ -1,10 +1,6 @@
-//! Names static libraries to the linker, where they have been built beside ours: that of the leaves, and that of the
-//! sleeper's reader.
+//! Names the static library of the leaves to the linker, where it has been built beside the other.
 
-use std::{
-    env,
-    path::{Path, PathBuf},
-};
+use std::{env, path::PathBuf};
 
 fn main() {
     println!("cargo:rerun-if-env-changed=STORY_IMAGE_LIBRARY");
@@ -14,20 +10,11 @@ fn main() {
         Some(folder) => root.join(folder),
         None => root.join("target/staticlib"),
     };
-    println!("cargo:rustc-link-search=native={}", folder.display());
-    if linked(&folder, "leaves") {
-        println!("cargo:rustc-cfg=leaves");
-    }
-    linked(&folder, "sleeper_image");
-}
-
-/// Whether the library is there, and so is linked.
-fn linked(folder: &Path, name: &str) -> bool {
-    let archive = folder.join(format!("lib{name}.a"));
+    let archive = folder.join("libleaves.a");
     println!("cargo:rerun-if-changed={}", archive.display());
-    let there = archive.exists();
-    if there {
-        println!("cargo:rustc-link-lib=static={name}");
+    if archive.exists() {
+        println!("cargo:rustc-cfg=leaves");
+        println!("cargo:rustc-link-search=native={}", folder.display());
+        println!("cargo:rustc-link-lib=static=leaves");
     }
-    there
 }

@@ -9,7 +9,7 @@ mod inputs;
 mod leaves;
 #[cfg(feature = "queries")]
 mod pages;
-#[cfg(feature = "sleeper")]
+#[cfg(feature = "queries")]
 mod sleeper;
 mod targets;
 mod texts;
@@ -19,7 +19,7 @@ mod pages {
     pub fn run(_: &super::Input, _: &mut super::Sheet) {}
 }
 
-#[cfg(not(feature = "sleeper"))]
+#[cfg(not(feature = "queries"))]
 mod sleeper {
     pub fn run(_: &super::Input, _: &mut super::Sheet) {}
     pub fn notes(_: &str, _: &mut super::Sheet) {}

@@ -57,7 +57,7 @@ pub fn header(bytes: &[u8], ours: Option<&dyn Library>, tally: &mut Tally) {
     for (name, word) in HEADER_WORDS.iter().zip(&due) {
         tally.query(name, word);
     }
-    if let Some(ours) = ours.and_then(|ours| ours.header_words(bytes)) {
+    if let Some(ours) = ours.map(|ours| ours.header_words(bytes)) {
         tally.check(ours == due, || format!("{HEADER_WORDS:?}: due {due:x?}, ours {ours:x?}"), bytes);
     }
 }

@@ -44,7 +44,7 @@ pub trait Library {
     /// The sleeper's reader on some bytes.
     fn sleeper<'a>(&'a self, bytes: &'a [u8]) -> Option<Box<dyn Sleeper + 'a>>;
     /// Total length, length of the strings and checksum, as the technician's calls tell them.
-    fn header_words(&self, bytes: &[u8]) -> Option<[Option<u32>; 3]>;
+    fn header_words(&self, bytes: &[u8]) -> [Option<u32>; 3];
     /// Whether it answers where the published Rust does not: unaccepted bytes, broken drafts.
     fn answers_all(&self) -> bool {
         true

@@ -33,10 +33,6 @@ mod run;
 mod samples;
 mod searched;
 mod sleeper;
-// the wrapper's own file, which is linked by build.rs
-#[cfg(feature = "sleeper")]
-#[path = "../../bindings/rust/src/sleeper_ffi.rs"]
-mod sleeper_ffi;
 mod small;
 mod stories;
 mod strange;

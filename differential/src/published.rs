@@ -270,9 +270,9 @@ impl Library for Published {
     }
 
     /// By the words. The mistake: where the strings begin in the place of their length.
-    fn header_words(&self, bytes: &[u8]) -> Option<[Option<u32>; 3]> {
+    fn header_words(&self, bytes: &[u8]) -> [Option<u32>; 3] {
         let strings = if self.has(Mistake::HeaderStrings) { 76 } else { 80 };
-        Some([16, strings, 84].map(|at| Some(word_at(bytes.get(..HEADER)?, at))))
+        [16, strings, 84].map(|at| Some(word_at(bytes.get(..HEADER)?, at)))
     }
 }
 

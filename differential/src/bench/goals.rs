@@ -16,11 +16,12 @@ struct Goal {
 const ANY: &str = "";
 const WITH_PATHS: &str = "200,000 mixed nodes with paths";
 
-const ALL: [Goal; 13] = [
+const ALL: [Goal; 14] = [
     goal("chain of 5,000 containers", "load", 0.10, "an index text begins with its parent's (index::extends)"),
     goal("lapped chain of 20,000 containers", "load", 0.01, "the same, at one offset (index::extends)"),
     goal("sixty definitions of twenty items", "in the last", 0.2, "the last definition is searched first"),
     goal(ANY, "sleeper's views", 1.2, "words straight from the record (sleeper::node_words)"),
+    goal(ANY, "sleeper's tags", 1.4, "a note is told by five bytes, without a call (notes::is_note)"),
     goal(ANY, "page, any nodes", 0.7, "one call for forty nodes"),
     goal(ANY, "page, in a row", 0.7, "one call for forty nodes"),
     goal(WITH_PATHS, "resolve targets", 1.0, "tests and walks together"),

@@ -5,8 +5,7 @@ use super::{Duration, Input, SLEEPER, Sheet, black_box, inputs, timed};
 use crate::library::header_view;
 use crate::library::sleeper::{VIEW_WORDS, sleeper_view, text_of};
 use crate::parts::NONE;
-use crate::sleeper_ffi;
-use story_image::ffi;
+use story_image::{ffi, sleeper_ffi};
 
 /// Views of a round, at least: so that the clock does not count.
 const VIEWS: usize = 100_000;
@@ -21,7 +20,7 @@ pub fn run(input: &Input, sheet: &mut Sheet) {
     sheet.duel("sleeper's texts", SIDES, || readers.texts(false), Some(|| readers.texts(true)));
 }
 
-/// Of tags, half of which are void to the sleeper.
+/// Of tags, half of which are void to the sleeper: their texts are read, which the technician's view does not do.
 pub fn notes(words: &str, sheet: &mut Sheet) {
     if words != SLEEPER && !NOTES.contains(words) {
         return;
@@ -33,7 +32,7 @@ pub fn notes(words: &str, sheet: &mut Sheet) {
     println!("{NOTES}: {} bytes", image.len());
     sheet.input = NOTES;
     let readers = Readers::new(&image);
-    sheet.duel("sleeper's views", SIDES, || readers.views(false), Some(|| readers.views(true)));
+    sheet.duel("sleeper's tags", SIDES, || readers.views(false), Some(|| readers.views(true)));
 }
 
 /// Both readers of one image.

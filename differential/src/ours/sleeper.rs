@@ -2,7 +2,7 @@
 
 use crate::library::components;
 use crate::library::sleeper::{Ask, Sleeper, Which};
-use crate::sleeper_ffi as ffi;
+use story_image::sleeper_ffi as ffi;
 
 /// Of these bytes.
 pub struct Reader<'a>(pub &'a [u8]);
