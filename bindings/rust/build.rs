@@ -1,5 +1,5 @@
-//! Names the static library to the linker: in the folder STORY_IMAGE_LIBRARY, by default target/staticlib of the
-//! repository.
+//! Names the static libraries, the technician's reader and the sleeper's, to the linker: in the folder
+//! STORY_IMAGE_LIBRARY, by default target/staticlib of the repository.
 
 use std::{env, path::PathBuf};
 
@@ -10,7 +10,9 @@ fn main() {
         Some(folder) => root.join(folder),
         None => root.join("target/staticlib"),
     };
-    println!("cargo:rerun-if-changed={}", folder.join("libstory_image.a").display());
     println!("cargo:rustc-link-search=native={}", folder.display());
-    println!("cargo:rustc-link-lib=static=story_image");
+    for library in ["story_image", "sleeper_image"] {
+        println!("cargo:rerun-if-changed={}", folder.join(format!("lib{library}.a")).display());
+        println!("cargo:rustc-link-lib=static={library}");
+    }
 }

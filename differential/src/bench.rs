@@ -1,6 +1,7 @@
 //! Both sides measured in one process, in turns, by processor time: load, node views, depths, walks and list look-ups,
-//! writing; pages against lone calls; targets from paths; texts that a draft's rules test; then the leaves by
-//! themselves, and the size of the library. At the end the goals, which stand in `goals`.
+//! writing; the sleeper's views against the technician's; pages against lone calls; targets from paths; texts that a
+//! draft's rules test; then the leaves by themselves, and the size of the libraries. At the end the goals, which stand
+//! in `goals`.
 
 mod archive;
 mod goals;
@@ -8,12 +9,20 @@ mod inputs;
 mod leaves;
 #[cfg(feature = "queries")]
 mod pages;
+#[cfg(feature = "queries")]
+mod sleeper;
 mod targets;
 mod texts;
 
 #[cfg(not(feature = "queries"))]
 mod pages {
     pub fn run(_: &super::Input, _: &mut super::Sheet) {}
+}
+
+#[cfg(not(feature = "queries"))]
+mod sleeper {
+    pub fn run(_: &super::Input, _: &mut super::Sheet) {}
+    pub fn notes(_: &str, _: &mut super::Sheet) {}
 }
 
 pub use inputs::lapped_chain;
@@ -28,35 +37,40 @@ use std::time::{Duration, Instant};
 const ROUNDS: usize = 15;
 const LONGEST: Duration = Duration::from_secs(10);
 
-/// The sides of all but the leaves and pages: the other, and ours.
+/// The sides where the published Rust is one: the other, and ours.
 const PUBLISHED: [&str; 2] = ["published", OURS];
 const OURS: &str = "ours";
 
-/// In the place of words: pages alone, of every input that is asked.
+/// In the place of words: pages alone, or the sleeper's reader alone, of every input that is asked.
 const PAGES: &str = "pages";
+const SLEEPER: &str = "sleeper";
 
 /// Measures each thing for so many seconds, or until all rounds are done; of the inputs, those with the words in their
-/// name, or pages alone. Whether a goal was missed.
+/// name, or one thing alone. Whether a goal was missed.
 pub fn run(seconds: u64, words: &str) -> bool {
     let mut sheet = Sheet { long: Duration::from_secs(seconds), input: "", lines: vec![] };
     let mut random = Random::new(5);
     println!("median of up to {ROUNDS} rounds; ratio of ours to the published Rust: median (lowest to highest)");
-    let pages_alone = words == PAGES;
+    let alone = [PAGES, SLEEPER].contains(&words);
     for make in inputs::ALL {
         let input = make(&mut random);
-        if !(if pages_alone { input.asked } else { input.name.contains(words) }) {
+        if !(if alone { input.asked } else { input.name.contains(words) }) {
             continue;
         }
         println!("{}: {} bytes, {} nodes", input.name, input.image.len(), input.nodes());
         sheet.input = input.name;
-        if !pages_alone {
+        if !alone {
             measure(&input, &mut sheet);
         }
-        if input.asked {
+        if input.asked && words != PAGES {
+            sleeper::run(&input, &mut sheet);
+        }
+        if input.asked && words != SLEEPER {
             pages::run(&input, &mut sheet);
         }
     }
-    if !pages_alone {
+    sleeper::notes(words, &mut sheet);
+    if !alone {
         targets::run(words, &mut sheet);
         texts::run(words, &mut sheet);
     }

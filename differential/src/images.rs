@@ -3,15 +3,19 @@
 use crate::depths;
 use crate::library::{Library, View, header_view, load_words};
 use crate::pages;
-use crate::parts::HEADER;
+use crate::parts::{HEADER, word_at};
 use crate::path_index;
 use crate::queries;
 use crate::random::Random;
 use crate::rows::row_of;
 use crate::searched;
+use crate::sleeper;
 use crate::strange;
 use crate::tally::Tally;
 use reference::Image;
+
+/// What the technician's calls tell of a header, as it is counted.
+const HEADER_WORDS: [&str; 3] = ["total length", "strings length", "checksum"];
 
 /// Work words hold this before a call.
 pub const MARK: u32 = 0xa5a5_5a5a;
@@ -31,15 +35,30 @@ pub fn image(name: &'static str, bytes: &[u8], ours: Option<&dyn Library>, rando
     made[0] += 1;
     made[1] += u64::from(row == 0);
     let view = ours.and_then(|ours| load(name, bytes, row, ours, random, tally));
+    header(bytes, ours, tally);
     match theirs {
         Ok(image) => {
             if let (0, Some(view)) = (row, &view) {
                 accepted(name, &image, bytes, view, tally);
             }
             read(&image, bytes, ours, view, random, tally);
+            if row == 0 {
+                sleeper::accepted(name, bytes, ours, random, tally);
+            }
         }
         Err(_) if bytes.len() >= HEADER => refused(bytes, published, ours, random, tally),
         Err(_) => {}
+    }
+}
+
+/// The three calls that tell of the header: its words, on any bytes that have one.
+pub fn header(bytes: &[u8], ours: Option<&dyn Library>, tally: &mut Tally) {
+    let due = [16, 80, 84].map(|at| Some(word_at(bytes.get(..HEADER)?, at)));
+    for (name, word) in HEADER_WORDS.iter().zip(&due) {
+        tally.query(name, word);
+    }
+    if let Some(ours) = ours.map(|ours| ours.header_words(bytes)) {
+        tally.check(ours == due, || format!("{HEADER_WORDS:?}: due {due:x?}, ours {ours:x?}"), bytes);
     }
 }
 

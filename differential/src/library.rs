@@ -1,7 +1,10 @@
 //! What both sides are asked: the interface of a story-image library in plain types.
 
+pub mod sleeper;
+
 use crate::parts::ENTRY_SIZES;
 use reference::{Draft, Named, NodeView, Step};
+use sleeper::Sleeper;
 
 /// Ink version, then offset and count of each of the eight sections.
 pub type View = [u32; 17];
@@ -38,6 +41,10 @@ pub trait Library {
     fn queries(&self) -> Option<&dyn Queries>;
     fn writer(&self) -> Option<&dyn Writer>;
     fn targets(&self) -> Option<&dyn Targets>;
+    /// The sleeper's reader on some bytes.
+    fn sleeper<'a>(&'a self, bytes: &'a [u8]) -> Option<Box<dyn Sleeper + 'a>>;
+    /// Total length, length of the strings and checksum, as the technician's calls tell them.
+    fn header_words(&self, bytes: &[u8]) -> [Option<u32>; 3];
     /// Whether it answers where the published Rust does not: unaccepted bytes, broken drafts.
     fn answers_all(&self) -> bool {
         true
@@ -64,6 +71,8 @@ pub trait Queries {
     /// Item j and origin j of a list value, by its place in the payload.
     fn list_entry(&self, bytes: &[u8], view: &View, list: Place, index: u32) -> Option<Entry>;
     fn list_origin(&self, bytes: &[u8], view: &View, list: Place, index: u32) -> Option<Place>;
+    /// How many items and origins the list value has that a node is.
+    fn list_counts(&self, bytes: &[u8], view: &View, node: u32) -> Option<[u32; 2]>;
     fn definition_count(&self, bytes: &[u8], view: &View) -> Option<u32>;
     /// Name, and how many items.
     fn definition(&self, bytes: &[u8], view: &View, index: u32) -> Option<(Place, u32)>;

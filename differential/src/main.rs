@@ -1,6 +1,7 @@
 //! Compares the verified story-image library with the published Rust on generated images and drafts. The script `run`
 //! says how to call it.
 
+mod asked;
 mod bench;
 mod corpus;
 mod damage;
@@ -31,11 +32,13 @@ mod rows;
 mod run;
 mod samples;
 mod searched;
+mod sleeper;
 mod small;
 mod stories;
 mod strange;
 mod tally;
 mod targets;
+mod technician;
 mod texts;
 mod writes;
 mod wrong;

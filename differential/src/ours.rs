@@ -1,15 +1,17 @@
-//! Our library, through its Rust binding. What it has beside the load is told by the features `queries`, `write` and
-//! `targets`.
+//! Our libraries, through their Rust binding. What the technician's has beside the load is told by the features
+//! `queries`, `write` and `targets`.
 
 #[cfg(feature = "queries")]
 mod queries;
+mod sleeper;
 #[cfg(feature = "targets")]
 pub mod targets;
 #[cfg(feature = "write")]
 pub mod write;
 
+use crate::library::sleeper::Sleeper;
 use crate::library::{Library, Queries, Targets, View, Writer};
-use story_image::{Image, NodeKindOf, ValueOf};
+use story_image::{Image, NodeKindOf, ValueOf, raw};
 
 pub struct Ours;
 
@@ -64,11 +66,33 @@ fn texts_agree(image: &Image<'_>) {
     }
 }
 
+/// Sees of an accepted image that the wrapper's reader for the sleeper shows the first nodes as its technician's does, a
+/// note as void.
+fn sleeper_agrees(image: &Image<'_>) {
+    let sleeper = image.sleeper();
+    for node in 0..image.node_count().min(40) {
+        let (shown, seen) = (image.node_view(node).unwrap(), sleeper.node_view(node).unwrap());
+        assert_eq!((seen.parent, seen.child_index), (shown.parent, shown.child_index));
+        if matches!(shown.kind, NodeKindOf::Tag(text) if text.starts_with("tech:")) {
+            assert_eq!(seen.kind, NodeKindOf::Void);
+            continue;
+        }
+        let (shown, seen) = (texts(&shown.kind), texts(&seen.kind));
+        assert_eq!(shown.len(), seen.len());
+        for (text, which) in shown.into_iter().zip(seen) {
+            let mut buffer = vec![0; text.len()];
+            assert_eq!(sleeper.text(which, &mut buffer), Ok(text));
+            assert_eq!(sleeper.text_length(which), Some(text.len() as u32));
+        }
+    }
+}
+
 impl Library for Ours {
     fn load(&self, bytes: &[u8], work: &mut [u32]) -> (u32, View) {
         match Image::load(bytes, work) {
             Ok(image) => {
                 texts_agree(&image);
+                sleeper_agrees(&image);
                 (0, image.view().words())
             }
             Err(refusal) => (refusal.0, [0; 17]),
@@ -103,5 +127,13 @@ impl Library for Ours {
     #[cfg(not(feature = "targets"))]
     fn targets(&self) -> Option<&dyn Targets> {
         None
+    }
+
+    fn sleeper<'a>(&'a self, bytes: &'a [u8]) -> Option<Box<dyn Sleeper + 'a>> {
+        Some(Box::new(sleeper::Reader(bytes)))
+    }
+
+    fn header_words(&self, bytes: &[u8]) -> [Option<u32>; 3] {
+        [raw::total_length(bytes), raw::strings_length(bytes), raw::checksum(bytes)]
     }
 }

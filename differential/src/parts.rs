@@ -6,7 +6,7 @@ pub const NONE: u32 = u32::MAX;
 pub const HEADER: usize = 88;
 pub const ENTRY_SIZES: [usize; 8] = [40, 4, 12, 16, 12, 12, 1, 1];
 
-#[derive(Clone, Debug, Default)]
+#[derive(Clone, Debug, Default, PartialEq)]
 pub struct Parts {
     pub ink: u32,
     pub nodes: Vec<[u32; 10]>,
@@ -25,7 +25,33 @@ fn put<const N: usize>(out: &mut Vec<u8>, entries: &[[u32; N]]) {
     }
 }
 
+/// The words of a section, in entries.
+fn entries<const N: usize>(bytes: &[u8], section: usize) -> Vec<[u32; N]> {
+    part(bytes, section).chunks_exact(4 * N).map(|entry| std::array::from_fn(|k| word_at(entry, 4 * k))).collect()
+}
+
+/// The bytes of a section of a sound image.
+fn part(bytes: &[u8], section: usize) -> &[u8] {
+    let [start, count] = [20, 24].map(|at| word_at(bytes, at + 8 * section) as usize);
+    &bytes[start..][..count * ENTRY_SIZES[section]]
+}
+
 impl Parts {
+    /// The parts of an accepted image.
+    pub fn of(bytes: &[u8]) -> Self {
+        Parts {
+            ink: word_at(bytes, 12),
+            nodes: entries(bytes, 0),
+            children: entries::<1>(bytes, 1).concat(),
+            named: entries(bytes, 2),
+            definitions: entries(bytes, 3),
+            items: entries(bytes, 4),
+            index: entries(bytes, 5),
+            payload: part(bytes, 6).to_vec(),
+            strings: part(bytes, 7).to_vec(),
+        }
+    }
+
     pub fn counts(&self) -> [usize; 8] {
         [
             self.nodes.len(),

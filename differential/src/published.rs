@@ -1,10 +1,13 @@
 //! The published Rust in the place of our library, with a mistake planted in it: the comparison must notice.
 
+mod sleeper;
+
 use crate::depths::{Way, by_words};
+use crate::library::sleeper::Sleeper;
 use crate::library::{Entry, Found, Library, Looked, PathList, Place, Queries, Targets, View, Writer};
 use crate::library::{components, header_view, load_words, section, write_words};
 use crate::pages::{Nodes, SLOT, slot_of};
-use crate::parts::{ENTRY_SIZES, NONE, word_at};
+use crate::parts::{ENTRY_SIZES, HEADER, NONE, word_at};
 use crate::path_index;
 use crate::rows::writer_row;
 use crate::searched::{Lists, is_blank, split};
@@ -74,9 +77,21 @@ pub enum Mistake {
     TargetTested,
     TargetWork,
     TargetEmpty,
+    HeaderStrings,
+    NoteText,
+    NoteLength,
+    NotePlace,
+    NoteTag,
+    NoteCase,
+    NoteFour,
+    NoteString,
+    NoteChild,
+    SleeperStrings,
+    SleeperRoom,
+    SleeperShort,
 }
 
-pub const MISTAKES: [Mistake; 59] = [
+pub const MISTAKES: [Mistake; 71] = [
     Mistake::Number,
     Mistake::WorkLeft,
     Mistake::NoSeven,
@@ -136,6 +151,18 @@ pub const MISTAKES: [Mistake; 59] = [
     Mistake::TargetTested,
     Mistake::TargetWork,
     Mistake::TargetEmpty,
+    Mistake::HeaderStrings,
+    Mistake::NoteText,
+    Mistake::NoteLength,
+    Mistake::NotePlace,
+    Mistake::NoteTag,
+    Mistake::NoteCase,
+    Mistake::NoteFour,
+    Mistake::NoteString,
+    Mistake::NoteChild,
+    Mistake::SleeperStrings,
+    Mistake::SleeperRoom,
+    Mistake::SleeperShort,
 ];
 
 pub struct Published(pub Mistake);
@@ -236,6 +263,16 @@ impl Library for Published {
 
     fn targets(&self) -> Option<&dyn Targets> {
         Some(self)
+    }
+
+    fn sleeper<'a>(&'a self, bytes: &'a [u8]) -> Option<Box<dyn Sleeper + 'a>> {
+        sleeper::reader(self, bytes)
+    }
+
+    /// By the words. The mistake: where the strings begin in the place of their length.
+    fn header_words(&self, bytes: &[u8]) -> [Option<u32>; 3] {
+        let strings = if self.has(Mistake::HeaderStrings) { 76 } else { 80 };
+        [16, strings, 84].map(|at| Some(word_at(bytes.get(..HEADER)?, at)))
     }
 }
 
@@ -342,6 +379,11 @@ impl Queries for Published {
     fn list_origin(&self, bytes: &[u8], _: &View, list: Place, index: u32) -> Option<Place> {
         let index = if self.has(Mistake::ListOrigin) { 0 } else { index };
         Some(place_of(bytes, entries(bytes, list)?.origins.get(index as usize)?))
+    }
+
+    fn list_counts(&self, bytes: &[u8], _: &View, node: u32) -> Option<[u32; 2]> {
+        let entries = image(bytes)?.list_entries(node)?;
+        Some([entries.items.len() as u32, entries.origins.len() as u32])
     }
 
     /// The mistake: definitions without items are not counted.

@@ -1,21 +1,24 @@
 //! Every query on an image that the published Rust accepts, on both sides.
 
+use crate::asked::{self, Walk};
 use crate::depths;
 use crate::library::{Found, Queries, View, header_view};
 use crate::names::{kind, kind_name};
 use crate::pages;
 use crate::parts::NONE;
 use crate::random::Random;
-use crate::searched::{self, Lists};
+use crate::searched;
 use crate::tally::Tally;
+use crate::technician::{self, Theirs};
 use crate::texts;
-use reference::{Image, Kind, NodeView, Step};
+use reference::{Image, Kind, NodeView};
 use std::fmt::Debug;
 
 type Ours<'a> = Option<(&'a dyn Queries, &'a View)>;
 
 struct Asking<'a> {
     image: &'a Image<'a>,
+    theirs: Theirs<'a>,
     bytes: &'a [u8],
     ours: Ours<'a>,
     tally: &'a mut Tally,
@@ -47,7 +50,7 @@ impl Asking<'_> {
 }
 
 pub fn all(image: &Image<'_>, bytes: &[u8], ours: Ours<'_>, random: &mut Random, tally: &mut Tally) {
-    let mut asking = Asking { image, bytes, ours, tally };
+    let mut asking = Asking { image, theirs: Theirs::new(image, bytes), bytes, ours, tally };
     let count = image.node_count() as u32;
     // of large images, some nodes
     let step = 1 + count as usize / 100;
@@ -121,17 +124,8 @@ impl Asking<'_> {
 
     /// Where the texts of a view lie in the image.
     fn texts(&mut self, view: &NodeView) {
-        let places = match view.kind {
-            Kind::Container { name, .. } => [name, None],
-            Kind::Divert { path, variable, .. } => [path, variable],
-            Kind::Tag(text) | Kind::String(text) | Kind::DivertTarget(text) => [Some(text), None],
-            Kind::Pointer { name, .. } | Kind::Assignment { name, .. } | Kind::Reference { name, .. } => {
-                [Some(name), None]
-            }
-            _ => [None, None],
-        };
         let strings = crate::parts::word_at(self.bytes, 76) as usize;
-        for (offset, length) in places.into_iter().flatten() {
+        for (offset, length) in technician::texts(&view.kind).into_iter().flatten() {
             let part = (strings + offset as usize, length as usize);
             self.same("text", Some(part), |ours, bytes, view| ours.text(bytes, view, (offset, length)));
         }
@@ -163,19 +157,8 @@ impl Asking<'_> {
         }
     }
 
-    /// Named children by name: all that there are, and some that are not.
     fn names(&mut self, node: u32, random: &mut Random) {
-        let count = self.image.named_child_count(node).unwrap_or(0);
-        let mut names = vec![texts::name(random), String::new()];
-        for index in 0..count.min(40) {
-            let entry = self.image.named_child_at(node, index).expect("a named child");
-            let name = self.text_of(entry.name).to_owned();
-            if index == 0 || random.once_in(4) {
-                names.extend([format!("{name}a"), name.chars().skip(1).collect()]);
-            }
-            names.push(name);
-        }
-        for name in names {
+        for name in asked::names(&self.theirs, node, random) {
             let theirs = self.image.find_named_child(node, &name);
             self.same("find named child", theirs, |ours, bytes, view| {
                 ours.find_named_child(bytes, view, node, name.as_bytes())
@@ -189,9 +172,8 @@ impl Asking<'_> {
         self.same("definition count", Some(count as u32), |ours, bytes, view| ours.definition_count(bytes, view));
         let mut names = vec![texts::name(random), " \t\u{3000}".to_owned(), ".".to_owned(), "low".to_owned()];
         let mut origins = vec![];
-        let lists = Lists::published(image, self.bytes);
         // of many items, the names of some
-        let step = 1 + lists.item_count() / 60;
+        let step = 1 + self.theirs.lists.item_count() / 60;
         for index in (0..count as u32 + 1).chain([NONE]) {
             let theirs = image.definition(index as usize).map(|(name, items)| (name, items as u32));
             origins.extend(theirs.map(|(name, _)| self.text_of(name).to_owned()));
@@ -211,14 +193,15 @@ impl Asking<'_> {
             names.extend(dotted);
         }
         // of a copy of the random numbers, as for pages
-        let more = lists.names(2, &mut random.clone());
+        let more = self.theirs.lists.names(2, &mut random.clone());
         names.extend(more.into_iter().map(|name| String::from_utf8(name).expect("a text")));
         for name in names {
-            self.list_item(&lists, &name);
+            self.list_item(&name);
         }
     }
 
-    fn list_item(&mut self, lists: &Lists<'_>, name: &str) {
+    fn list_item(&mut self, name: &str) {
+        let lists = &self.theirs.lists;
         let (theirs, due) = (self.image.list_item(name), lists.due(self.image, name));
         assert_eq!(lists.looked(name.as_bytes()), due, "the harness on {name:?}");
         self.tally.query(searched::NAMES[0], &theirs);
@@ -239,58 +222,12 @@ impl Asking<'_> {
         Some((self.text_of(origin).to_owned(), self.text_of(item).to_owned(), found.value))
     }
 
-    /// A walk that mostly follows what is there.
     fn walk(&mut self, random: &mut Random) {
-        let count = self.image.node_count();
-        let origin = if random.once_in(12) { NONE } else { random.below(count + 1) as u32 };
-        let relative = random.once_in(2);
-        let mut at = if relative { Some(origin) } else { Some(0) };
-        let mut steps = vec![];
-        if let Some(view) = at.and_then(|at| self.image.node_view(at)).filter(|_| relative) {
-            if !matches!(view.kind, Kind::Container { .. }) {
-                steps.push(random_step(random));
-                at = view.parent;
-            }
-        }
-        for _ in 0..random.below(5) {
-            let step = match at {
-                Some(at) => self.step_from(at, random),
-                None => random_step(random),
-            };
-            at = at.and_then(|at| self.image.resolve_path(at, true, std::slice::from_ref(&step)));
-            steps.push(step);
-        }
+        let Walk { origin, relative, steps } = Walk::random(&self.theirs, self.image.node_count(), random);
         let theirs = self.image.resolve_path(origin, relative, &steps);
         let name = if relative { "relative walk" } else { "absolute walk" };
         self.same(name, theirs, |ours, bytes, view| ours.resolve_path(bytes, view, origin, relative, &steps));
     }
-
-    fn step_from(&self, node: u32, random: &mut Random) -> Step {
-        let (children, named) = (self.image.child_count(node), self.image.named_child_count(node));
-        match random.below(4) {
-            0 => Step::Parent,
-            1 if named.unwrap_or(0) > 0 => {
-                let index = random.below(named.unwrap_or(0));
-                let entry = self.image.named_child_at(node, index).expect("a named child");
-                named_step(self.text_of(entry.name))
-            }
-            1 | 2 if children.unwrap_or(0) > 0 => Step::Index(random.below(children.unwrap_or(0)) as u32),
-            _ => random_step(random),
-        }
-    }
-}
-
-fn random_step(random: &mut Random) -> Step {
-    match random.below(3) {
-        0 => Step::Parent,
-        1 => Step::Index(*random.pick(&[0, 1, 2, 0x8000_0000, NONE])),
-        _ => named_step(&texts::name(random)),
-    }
-}
-
-/// A name spelled like the published parent mark is outside the comparison.
-fn named_step(name: &str) -> Step {
-    if name == "^" { Step::Parent } else { Step::Name(name.to_owned()) }
 }
 
 /// The name of a kind that the published Rust shows.

@@ -98,8 +98,8 @@ fn packed(bytes: &[u8]) -> impl Iterator<Item = u32> {
     })
 }
 
-/// The words of `story_image_node`.
-fn node_words(view: &NodeView) -> [u32; 10] {
+/// The words of `story_image_node_view`.
+pub fn node_words(view: &NodeView) -> [u32; 10] {
     let absent = (NONE, NONE);
     let (mut text, mut variable, mut target, mut value, mut flags) = (absent, absent, None, 0, 0);
     let kind = match view.kind {

@@ -12,12 +12,16 @@ use crate::published::{MISTAKES, Mistake, Published};
 use crate::random::Random;
 use crate::rows::{REASONS, RESOLVER, WRITER, row_of};
 use crate::searched;
+use crate::sleeper::met;
 use crate::tally::Tally;
 use crate::targets;
 use crate::writes;
 
 /// From so many cases on, every row and reason must come up.
 const ENOUGH: u64 = 10_000;
+
+/// Queries that find something on every image that they are asked of.
+const ALWAYS_FOUND: [&str; 3] = ["text", "definition count", "sleeper's definition count"];
 
 /// True if something failed.
 pub fn compare(cases: u64, seed: u64, ours: Option<&dyn Library>) -> bool {
@@ -41,6 +45,7 @@ pub fn compare(cases: u64, seed: u64, ours: Option<&dyn Library>) -> bool {
             let (queries, written) = (compared(ours.queries().is_some()), compared(ours.writer().is_some()));
             let targets = compared(ours.targets().is_some());
             println!("loads: compared; queries: {queries}; written images: {written}; targets from paths: {targets}");
+            println!("words of the header: compared; sleeper's reader: compared");
         }
     }
     println!("{} passed, {} failed", tally.passed, tally.failed);
@@ -88,20 +93,15 @@ fn coverage(ours: Option<&dyn Library>, tally: &mut Tally) {
     }
     for (name, [found, nothing]) in &tally.queries {
         need(
-            *found > 0 && (*nothing > 0 || ["text", "definition count"].contains(name)),
+            *found > 0 && (*nothing > 0 || ALWAYS_FOUND.contains(name)),
             format!("query {name}, found {found}, nothing {nothing}"),
         );
     }
     for (what, count) in &tally.met {
         need(*count > 0, format!("depth, {what}"));
     }
-    for name in pages::NAMES.into_iter().chain(searched::NAMES) {
-        need(tally.queries.contains_key(name), format!("query {name}"));
-    }
-    let pages = pages::CASES.iter().zip(tally.pages);
-    for ((what, on_accepted), [accepted, others]) in pages.chain(searched::CASES.iter().zip(tally.searches)) {
-        need(others > 0 && (accepted > 0) == *on_accepted, format!("{what}: accepted {accepted}, others {others}"));
-    }
+    pages_met(tally, &mut need);
+    sleeper_met(ours, tally, &mut need);
     drafts_met(ours, tally, need);
     tally.passed += met;
     for what in missing {
@@ -115,6 +115,27 @@ fn index_met(tally: &Tally, mut need: impl FnMut(bool, String)) {
         need(counts.map(|count| count > 0) == *expected, format!("path index, {what}: {counts:?}"));
     }
     need(tally.turned.keys().eq(&path_index::TURNED), format!("16 in the place of rows {:?}", tally.turned));
+}
+
+/// What must have come up on pages and in look-ups.
+fn pages_met(tally: &Tally, mut need: impl FnMut(bool, String)) {
+    for name in pages::NAMES.into_iter().chain(searched::NAMES) {
+        need(tally.queries.contains_key(name), format!("query {name}"));
+    }
+    let pages = pages::CASES.iter().zip(tally.pages);
+    for ((what, on_accepted), [accepted, others]) in pages.chain(searched::CASES.iter().zip(tally.searches)) {
+        need(others > 0 && (accepted > 0) == *on_accepted, format!("{what}: accepted {accepted}, others {others}"));
+    }
+}
+
+/// What must have come up in pairs of images, and where the sleeper's reader was asked.
+fn sleeper_met(ours: Option<&dyn Library>, tally: &Tally, mut need: impl FnMut(bool, String)) {
+    for (what, count) in met::PAIRS.iter().zip(tally.pairs) {
+        need(count > 0, format!("pairs: {what}"));
+    }
+    for (what, count) in met::ANSWERS.iter().zip(tally.sleeper) {
+        need(count > 0 || ours.is_none(), format!("sleeper's reader: {what}"));
+    }
 }
 
 /// What must have come up where drafts were written and targets found.

@@ -1,4 +1,7 @@
-//! The images of samples/: the smallest, a guide, and damaged ones with the row that each is refused with.
+//! The images of samples/: the smallest, a guide, one story with notes twice, and damaged ones with the row that each is
+//! refused with.
+
+mod notes;
 
 use crate::guide::guide;
 use crate::parts::{NONE, Parts, repair, set_word, word_at};
@@ -157,6 +160,8 @@ pub fn run(folder: &str) -> bool {
     put(folder, "step", &short, &nodes(&short), "the same with the first step alone", &mut failed);
     let largest = largest();
     put(folder, "largest", &largest, "ok 21 1487", "as long as is read: a root of 1,486 glues", &mut failed);
+    put(folder, "note-one", &notes::one(), "ok 21 12", "a short story with two notes to the technician", &mut failed);
+    put(folder, "note-two", &notes::two(), "ok 21 12", "the same with other notes, and texts elsewhere", &mut failed);
     for (name, bytes, row, what) in damaged(&short) {
         put(folder, name, &bytes, &format!("no {row}"), what, &mut failed);
     }

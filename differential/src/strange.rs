@@ -11,6 +11,7 @@ use crate::random::Random;
 use crate::searched::{self, Lists};
 use crate::stories::edge;
 use crate::tally::Tally;
+use crate::technician::texts;
 use reference::{Kind, NodeView, Step};
 
 /// The view of an image that the published Rust accepts, over damaged or cut bytes, or itself damaged.
@@ -41,15 +42,9 @@ pub fn bytes(bytes: &[u8], view: &View, ours: &dyn Queries, random: &mut Random,
 /// Asks everything about a node; counts parts that lie outside.
 fn ask(bytes: &[u8], view: &View, node: u32, ours: &dyn Queries, random: &mut Random) -> usize {
     let mut places = vec![];
-    let kind = ours.node_view(bytes, view, node).map(|view| view.kind);
-    match kind {
-        Some(Kind::Container { name, .. }) => places.extend(name),
-        Some(Kind::Divert { path, variable, .. }) => places.extend(path.into_iter().chain(variable)),
-        Some(Kind::Tag(text) | Kind::String(text) | Kind::DivertTarget(text)) => places.push(text),
-        Some(Kind::Pointer { name, .. } | Kind::Assignment { name, .. } | Kind::Reference { name, .. }) => {
-            places.push(name)
-        }
-        Some(Kind::List(list)) => {
+    if let Some(NodeView { kind, .. }) = ours.node_view(bytes, view, node) {
+        places.extend(texts(&kind).into_iter().flatten());
+        if let Kind::List(list) = kind {
             for index in [0, 1, 2, 3, NONE] {
                 let entry = ours.list_entry(bytes, view, list, index);
                 places.extend(entry.iter().map(|entry| entry.name));
@@ -57,7 +52,6 @@ fn ask(bytes: &[u8], view: &View, node: u32, ours: &dyn Queries, random: &mut Ra
                 places.extend(ours.list_origin(bytes, view, list, index));
             }
         }
-        _ => {}
     }
     for index in [0, 1, 2, NONE] {
         let _ = ours.child_at(bytes, view, node, index);

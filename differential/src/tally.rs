@@ -3,6 +3,7 @@
 use crate::pages;
 use crate::path_index;
 use crate::searched;
+use crate::sleeper::met;
 use crate::targets;
 use std::collections::BTreeMap;
 
@@ -23,6 +24,10 @@ pub struct Tally {
     pub pages: [[u64; 2]; pages::CASES.len()],
     /// The same where list items were looked up.
     pub searches: [[u64; 2]; searched::CASES.len()],
+    /// What was met in pairs of images that the sleeper's reader does not tell apart.
+    pub pairs: [u64; met::PAIRS.len()],
+    /// What was compared of the sleeper's reader.
+    pub sleeper: [u64; met::ANSWERS.len()],
     /// By how they were made: how many, and how many of them are accepted.
     pub images: BTreeMap<&'static str, [u64; 2]>,
     pub drafts: BTreeMap<&'static str, u64>,
@@ -104,6 +109,8 @@ impl Tally {
         print("met where depth was asked", self.met.iter());
         print_cases("pages were asked", &pages::CASES, &self.pages);
         print_cases("list items were looked up", &searched::CASES, &self.searches);
+        print("met in pairs of images that differ in notes and in where texts lie", met::PAIRS.iter().zip(&self.pairs));
+        print("compared of the sleeper's reader", met::ANSWERS.iter().zip(&self.sleeper));
         print("drafts by how they were made", self.drafts.iter());
         print("what the published writer did", self.written.iter());
         if !self.numbers.is_empty() {

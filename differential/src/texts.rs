@@ -51,7 +51,7 @@ const NAMES: [&str; 40] = [
 ];
 
 /// Bytes that are no text, to lie unused among the strings.
-const NO_TEXTS: [&[u8]; 6] = [b"\xff", b"\x80\x80", b"\xc0\xaf", b"\xed\xa0\x80", b"\xf4\x90\x80\x80", b"\xe3\x81"];
+pub const NO_TEXTS: [&[u8]; 6] = [b"\xff", b"\x80\x80", b"\xc0\xaf", b"\xed\xa0\x80", b"\xf4\x90\x80\x80", b"\xe3\x81"];
 
 pub fn name(random: &mut Random) -> String {
     match random.below(12) {
@@ -100,6 +100,12 @@ pub enum Laying {
     Scattered,
 }
 
+/// Where a part stands first. Only where its first byte stands is the rest compared.
+fn position(bytes: &[u8], part: &[u8]) -> Option<usize> {
+    let (first, last) = (part.first()?, bytes.len().checked_sub(part.len())?);
+    (0..=last).find(|at| bytes[*at] == *first && bytes[*at..].starts_with(part))
+}
+
 pub struct Strings {
     pub bytes: Vec<u8>,
     laying: Laying,
@@ -124,7 +130,7 @@ impl Strings {
                 if text.is_empty() {
                     return place(random.below(self.bytes.len() + 1));
                 }
-                if let Some(at) = self.bytes.windows(text.len()).position(|part| part == text.as_bytes()) {
+                if let Some(at) = position(&self.bytes, text.as_bytes()) {
                     return place(at);
                 }
             }

@@ -1,55 +1,5 @@
 #include "common.h"
 
-#include <stdarg.h>
-
-unsigned long passed, failed;
-
-void check(bool right, const char *file, int line, const char *what, ...) {
-    if (right) {
-        passed++;
-        return;
-    }
-    failed++;
-    va_list words;
-    va_start(words, what);
-    printf("%s, line %d: ", file, line);
-    vprintf(what, words);
-    putchar('\n');
-    va_end(words);
-}
-
-void *room(size_t bytes) {
-    void *start = malloc(bytes == 0 ? 1 : bytes);
-    if (start == NULL)
-        abort();
-    return start;
-}
-
-void *copy_of(const void *from, size_t bytes) {
-    void *copy = room(bytes);
-    if (bytes != 0)
-        memcpy(copy, from, bytes);
-    return copy;
-}
-
-uint32_t *marked(size_t words) {
-    uint32_t *start = (uint32_t *)room(4 * words);
-    for (size_t i = 0; i < words; i++)
-        start[i] = MARK;
-    return start;
-}
-
-bool all_are(const uint32_t *words, size_t from, size_t to, uint32_t value) {
-    for (size_t i = from; i < to; i++)
-        if (words[i] != value)
-            return false;
-    return true;
-}
-
-uint32_t next(uint32_t *seed) {
-    return *seed = *seed * 1664525 + 1013904223;
-}
-
 struct story_image image_of(const uint8_t *bytes, size_t length) {
     struct story_image image;
     memset(&image, 0, sizeof image);
@@ -73,27 +23,18 @@ void release(struct story_image *image) {
 }
 
 struct story_image sample(const char *folder, const char *name) {
-    static uint8_t bytes[70000];
-    char path[4096];
-    snprintf(path, sizeof path, "%s/%s.image", folder, name);
-    FILE *file = fopen(path, "rb");
-    if (file == NULL) {
-        printf("%s: cannot be read\n", path);
-        exit(2);
-    }
-    size_t length = fread(bytes, 1, sizeof bytes, file);
-    fclose(file);
-    return image_of(bytes, length);
+    struct story_image image;
+    memset(&image, 0, sizeof image);
+    image.bytes = sample_bytes(folder, name, &image.length);
+    return image;
 }
 
 uint32_t word_at(const struct story_image *image, size_t at) {
-    const uint8_t *byte = image->bytes + at;
-    return byte[0] | (uint32_t)byte[1] << 8 | (uint32_t)byte[2] << 16 | (uint32_t)byte[3] << 24;
+    return word_of(image->bytes + at);
 }
 
 void set_word_at(struct story_image *image, size_t at, uint32_t value) {
-    for (int k = 0; k < 4; k++)
-        bytes_of(image)[at + (size_t)k] = (uint8_t)(value >> 8 * k);
+    put_word(bytes_of(image) + at, value);
 }
 
 void set_word(struct story_image *image, uint32_t node, size_t word, uint32_t value) {

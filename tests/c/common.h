@@ -1,28 +1,9 @@
-/* What the tests of the static library share: counting of checks, room of exact lengths, images. Every slice that is
- * lent has exactly its length, so that an access past it is seen; what must stay as it was is filled with a mark. */
+/* What the tests of the technician's library share: images. */
 #ifndef COMMON_H
 #define COMMON_H
 
-#include <stdio.h>
-#include <stdlib.h>
-#include <string.h>
-
+#include "check.h"
 #include "story_image.h"
-
-#define NONE STORY_IMAGE_NONE
-#define MARK UINT32_C(0x5a5a5a5a)
-#define SIZE(words) (sizeof(words) / 4)
-#define CHECK(right, ...) check((right), __FILE__, __LINE__, __VA_ARGS__)
-
-extern unsigned long passed, failed;
-
-void check(bool right, const char *file, int line, const char *what, ...);
-
-void *room(size_t bytes);
-void *copy_of(const void *from, size_t bytes);
-uint32_t *marked(size_t words);
-bool all_are(const uint32_t *words, size_t from, size_t to, uint32_t value);
-uint32_t next(uint32_t *seed);
 
 /* An image whose bytes are a copy, exactly as long as they are said to be; `release` frees them. */
 struct story_image image_of(const uint8_t *bytes, size_t length);

@@ -12,6 +12,7 @@ void test_writes(const char *folder);
 void test_depths(const char *folder);
 void test_index(void);
 void test_lists(const char *folder);
+void test_header(const char *folder);
 void test_pages(const char *folder);
 void test_targets(void);
 void test_texts(void);

@@ -10,6 +10,8 @@ static const struct {
     {"guide", STORY_IMAGE_OK},
     {"step", STORY_IMAGE_OK},
     {"largest", STORY_IMAGE_OK},
+    {"note-one", STORY_IMAGE_OK},
+    {"note-two", STORY_IMAGE_OK},
     {"cut-header", STORY_IMAGE_BAD_HEADER},
     {"version", STORY_IMAGE_BAD_VERSION},
     {"ink-version", STORY_IMAGE_BAD_INK_VERSION},

@@ -16,6 +16,7 @@ int main(int count, char **arguments) {
     test_depths(folder);
     test_index();
     test_lists(folder);
+    test_header(folder);
     test_pages(folder);
     test_targets();
     test_texts();

@@ -319,6 +319,12 @@ unsafe extern "C" {
         payload_length: usize,
     ) -> usize;
 
+    pub fn story_image_total_length(bytes: *const u8, length: usize, answer: *mut u32, answer_length: usize) -> u32;
+
+    pub fn story_image_strings_length(bytes: *const u8, length: usize, answer: *mut u32, answer_length: usize) -> u32;
+
+    pub fn story_image_checksum(bytes: *const u8, length: usize, answer: *mut u32, answer_length: usize) -> u32;
+
     pub fn story_image_command_name(
         number: u32,
         text: *mut u8,

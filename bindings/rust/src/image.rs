@@ -1,12 +1,14 @@
 //! An accepted image, and what a player asks of it.
 
+use crate::ask;
 use crate::ffi;
 use crate::lists::{DefinitionView, ListView};
 use crate::node::{NodeKindOf, NodeViewOf, Parts, ValueOf};
 use crate::page::{Page, Slot};
-use crate::path::{self, Step};
-use crate::raw::{ItemSearch, ListItem, Queries, TextPlace};
+use crate::path::Step;
+use crate::raw::{self, ItemSearch, ListItem, Queries, TextPlace};
 use crate::refusal::Refusal;
+use crate::sleeper::Sleeper;
 use crate::view::View;
 
 /// A node of an [`Image`].
@@ -94,19 +96,7 @@ impl<'a> Image<'a> {
     /// Tests the whole image. On return the work words that were needed are 0, or all are as they were (numbers 1 to 7).
     /// The path index of an accepted image has exactly one entry for each container, its canonical path.
     pub fn load(bytes: &'a [u8], work: &mut [u32]) -> Result<Self, Refusal> {
-        let mut words = [0; View::WORDS];
-        // SAFETY: the slices are ours, the mutable ones do not overlap, and all live through the call.
-        let number = unsafe {
-            ffi::story_image_load(
-                bytes.as_ptr(),
-                bytes.len(),
-                work.as_mut_ptr(),
-                work.len(),
-                words.as_mut_ptr(),
-                words.len(),
-            )
-        };
-        Refusal::of(number)?;
+        let words = ask::load(ffi::story_image_load, bytes, work)?;
         let asked = Queries::with_words(bytes, words);
         Ok(Image { asked, strings: asked.strings() })
     }
@@ -123,6 +113,48 @@ impl<'a> Image<'a> {
     /// The same queries with texts and lists by their places.
     pub fn raw(&self) -> &Queries<'a> {
         &self.asked
+    }
+
+    /// The same image as the sleeper's reader sees it. It is not loaded again.
+    ///
+    /// ```
+    /// # use story_image::{Image, NodeKindOf, Refusal, Text, load_words};
+    /// # let bytes = include_bytes!(concat!(env!("CARGO_MANIFEST_DIR"), "/../../samples/note-one.image"));
+    /// # let image = Image::load(bytes, &mut vec![0; load_words(bytes)])?;
+    /// assert_eq!(image.node_view(1).unwrap().kind, NodeKindOf::Tag("tech:Good evening."));
+    /// let sleeper = image.sleeper();
+    /// assert_eq!(sleeper.node_view(1).unwrap().kind, NodeKindOf::Void);
+    /// assert_eq!(sleeper.text(Text::Node(1), &mut [0; 40]), Err(Refusal::NOT_FOUND));
+    /// # Ok::<(), Refusal>(())
+    /// ```
+    pub fn sleeper(&self) -> Sleeper<'a> {
+        Sleeper::of_view(self.bytes(), &self.view())
+    }
+
+    /// The total length of the image, in bytes. This, [`strings_length`](Self::strings_length) and
+    /// [`checksum`](Self::checksum) are the technician's: the sleeper's reader tells none of them.
+    ///
+    /// ```
+    /// # use story_image::{Image, load_words};
+    /// # let bytes = include_bytes!(concat!(env!("CARGO_MANIFEST_DIR"), "/../../samples/step.image"));
+    /// # let image = Image::load(bytes, &mut vec![0; load_words(bytes)])?;
+    /// assert_eq!(image.total_length() as usize, bytes.len());
+    /// assert_eq!(image.strings_length(), image.view().strings.count);
+    /// assert_eq!(image.checksum().to_le_bytes(), bytes[84..88]);
+    /// # Ok::<(), story_image::Refusal>(())
+    /// ```
+    pub fn total_length(&self) -> u32 {
+        raw::total_length(self.bytes()).unwrap_or(0)
+    }
+
+    /// The length of the string section, in bytes.
+    pub fn strings_length(&self) -> u32 {
+        raw::strings_length(self.bytes()).unwrap_or(0)
+    }
+
+    /// The CRC-32 of all bytes but the checksum's own.
+    pub fn checksum(&self) -> u32 {
+        raw::checksum(self.bytes()).unwrap_or(0)
     }
 
     fn place(&self, text: TextPlace) -> &'a str {
@@ -302,7 +334,7 @@ impl<'a> Image<'a> {
     /// that is a container; from any other node it starts at that node's parent and skips the first component, which
     /// stands for the step up.
     pub fn resolve_path(&self, origin: u32, relative: bool, path: &[Step<'_>]) -> Option<u32> {
-        path::resolve(&self.asked, origin, relative, path)
+        self.asked.resolve_path(origin, relative, path)
     }
 
     /// A walk along components as the library takes them: three words each, and the bytes of names.

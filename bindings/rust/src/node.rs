@@ -6,7 +6,7 @@ use crate::names::{CommandType, Op, kind, kind_name};
 /// A node: parent, index among its parent's ordered children, kind.
 ///
 /// `T` is a text and `L` a list value: `&str` and [`ListView`](crate::ListView) of an [`Image`](crate::Image), places of
-/// [`raw::Queries`](crate::raw::Queries).
+/// [`raw::Queries`](crate::raw::Queries), of a [`Sleeper`](crate::Sleeper) what they are asked for by.
 #[derive(Clone, Copy, Debug, PartialEq)]
 pub struct NodeViewOf<T, L> {
     /// Absent of the root alone.
@@ -125,7 +125,8 @@ impl PushPopType {
 /// As many words the library writes: parent, place, kind, text and length, variable and length, target, value, flags.
 pub(crate) const WORDS: usize = 10;
 
-/// What texts and list values are handed back as, by their places; a list also by its node.
+/// What texts and list values are handed back as, by the two words of each, which are a place or, of a
+/// [`Sleeper`](crate::Sleeper), none; a list also by its node.
 pub(crate) trait Parts {
     type Text;
     type List;

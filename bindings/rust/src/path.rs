@@ -1,7 +1,6 @@
 //! Paths as texts, and walks along a path.
 
 use crate::NONE;
-use crate::raw::Queries;
 
 /// A component of a path.
 #[derive(Clone, Copy, Debug, PartialEq, Eq)]
@@ -122,18 +121,25 @@ impl<'a> Piece<'a> {
     }
 }
 
-/// The node at the end of a path, up to 16 components a call.
-pub(crate) fn resolve(asked: &Queries<'_>, origin: u32, relative: bool, path: &[Step<'_>]) -> Option<u32> {
+/// The node at the end of a path, up to 16 components a call of `walk`, which takes origin, whether the path is relative,
+/// components and names.
+pub(crate) fn resolve(
+    origin: u32,
+    relative: bool,
+    path: &[Step<'_>],
+    walk: impl Fn(u32, bool, &[u32], &[u8]) -> Option<u32>,
+    is_container: impl Fn(u32) -> bool,
+) -> Option<u32> {
     let (mut at, mut relative, mut rest) = (origin, relative, path);
     loop {
         let piece = Piece::new(rest)?;
-        at = asked.resolve_components(at, relative, &piece.words[..STEP_WORDS * piece.steps], piece.names())?;
+        at = walk(at, relative, &piece.words[..STEP_WORDS * piece.steps], piece.names())?;
         rest = &rest[piece.steps..];
         // the next call goes on here: from a node that is no container only a step to the parent leads on, and a
         // relative walk from such a node begins with that step
         match rest.first() {
             None => return Some(at),
-            Some(step) if *step != Step::Parent && asked.child_count(at).is_none() => return None,
+            Some(step) if *step != Step::Parent && !is_container(at) => return None,
             Some(_) => relative = true,
         }
     }

@@ -3,6 +3,7 @@
 //! On bytes that were not accepted a query still ends, with parts inside the bytes or with nothing.
 //! [`Image`](crate::Image) is the same on accepted bytes, where texts are `&str`.
 
+use crate::ask::{ask, search, word};
 use crate::ffi;
 use crate::node::{self, NodeViewOf, Parts};
 use crate::path::{self, Step};
@@ -10,7 +11,6 @@ use crate::refusal::Refusal;
 use crate::view::View;
 use crate::{NONE, Section};
 use core::fmt;
-use core::mem::MaybeUninit;
 
 /// A text, by its place in the strings.
 #[derive(Clone, Copy, Debug, Default, PartialEq, Eq)]
@@ -114,35 +114,6 @@ impl Parts for Places {
     }
 }
 
-/// Calls a query that writes its words into an answer and returns 0, or returns another number. The words are read where
-/// they were written: copied at once, they would have to wait for each other.
-#[inline]
-fn ask<const N: usize, R>(
-    call: impl FnOnce(*mut u32, usize) -> u32,
-    read: impl FnOnce(&[u32; N]) -> Option<R>,
-) -> Option<R> {
-    let mut answer = MaybeUninit::<[u32; N]>::uninit();
-    match call(answer.as_mut_ptr().cast(), N) {
-        // SAFETY: where it returns 0, a query has written as many words as its answer has, which are N here.
-        0 => read(unsafe { answer.assume_init_ref() }),
-        _ => None,
-    }
-}
-
-/// Asks a query on the bytes and the view's words; what else it takes follows, then what is made of the answer.
-macro_rules! ask {
-    ($asked:expr, $query:ident $(, $argument:expr)* => $read:expr) => {{
-        let (bytes, view) = ($asked.bytes, &$asked.words);
-        // SAFETY: the slices live through the call, and the answer, which alone is written, is ours.
-        ask(
-            |answer, length| unsafe {
-                ffi::$query(bytes.as_ptr(), bytes.len(), view.as_ptr(), view.len(), $($argument,)* answer, length)
-            },
-            $read,
-        )
-    }};
-}
-
 /// An item of a list value.
 #[inline]
 fn entry(&[origin, origin_length, offset, length, value]: &[u32; 5]) -> Option<ListEntry> {
@@ -154,12 +125,6 @@ fn entry(&[origin, origin_length, offset, length, value]: &[u32; 5]) -> Option<L
 #[inline]
 fn place(&[offset, length]: &[u32; 2]) -> Option<TextPlace> {
     Some(TextPlace { offset, length })
-}
-
-/// An answer of one word.
-#[inline]
-fn word(&[word]: &[u32; 1]) -> Option<u32> {
-    Some(word)
 }
 
 impl<'a> Queries<'a> {
@@ -182,7 +147,7 @@ impl<'a> Queries<'a> {
     /// The view, with texts and lists as `parts` hands them back.
     #[inline]
     pub(crate) fn node_view_with<P: Parts>(&self, node: u32, parts: &P) -> Option<NodeViewOf<P::Text, P::List>> {
-        ask!(self, story_image_node_view, node => |words| node::view_of(node, words, parts))
+        ask!(self, ffi::story_image_node_view, node => |words| node::view_of(node, words, parts))
     }
 
     pub fn node_view(&self, node: u32) -> Option<NodeView> {
@@ -191,7 +156,7 @@ impl<'a> Queries<'a> {
 
     /// The ten words of a node's view, as include/story_image.h has them.
     pub fn node_words(&self, node: u32) -> Option<[u32; node::WORDS]> {
-        ask!(self, story_image_node_view, node => |words| Some(*words))
+        ask!(self, ffi::story_image_node_view, node => |words| Some(*words))
     }
 
     /// Writes a slot of [`Slot::WORDS`](crate::Slot::WORDS) words for each number, in their order: the node's words as
@@ -217,44 +182,44 @@ impl<'a> Queries<'a> {
     /// The view of a slot's words: for a slot that [`page`](Self::page) wrote, what [`node_view`](Self::node_view)
     /// gives for its number. Any ten words are taken as a node's; nothing for fewer, and none past them is looked at.
     pub fn slot_view(&self, slot: &[u32]) -> Option<NodeView> {
-        ask!(self, story_image_slot_view, slot.as_ptr(), slot.len() => |words| node::view_of(NONE, words, &Places))
+        ask!(self, ffi::story_image_slot_view, slot.as_ptr(), slot.len() => |words| node::view_of(NONE, words, &Places))
     }
 
     /// The ten words of a slot's view, as include/story_image.h has them.
     pub fn slot_view_words(&self, slot: &[u32]) -> Option<[u32; node::WORDS]> {
-        ask!(self, story_image_slot_view, slot.as_ptr(), slot.len() => |words| Some(*words))
+        ask!(self, ffi::story_image_slot_view, slot.as_ptr(), slot.len() => |words| Some(*words))
     }
 
     /// The number of parent steps to node 0; nothing for a node outside, and where parents lead outside or in a circle.
     pub fn depth(&self, node: u32) -> Option<u32> {
-        ask!(self, story_image_depth, node => word)
+        ask!(self, ffi::story_image_depth, node => word)
     }
 
     pub fn child_count(&self, node: u32) -> Option<u32> {
-        ask!(self, story_image_child_count, node => word)
+        ask!(self, ffi::story_image_child_count, node => word)
     }
 
     pub fn child_at(&self, node: u32, index: u32) -> Option<u32> {
-        ask!(self, story_image_child_at, node, index => word)
+        ask!(self, ffi::story_image_child_at, node, index => word)
     }
 
     pub fn named_child_count(&self, node: u32) -> Option<u32> {
-        ask!(self, story_image_named_child_count, node => word)
+        ask!(self, ffi::story_image_named_child_count, node => word)
     }
 
     pub fn named_child_at(&self, node: u32, index: u32) -> Option<NamedChild> {
-        ask!(self, story_image_named_child_at, node, index => |&[offset, length, node]| {
+        ask!(self, ffi::story_image_named_child_at, node, index => |&[offset, length, node]| {
             Some(NamedChild { name: TextPlace { offset, length }, node })
         })
     }
 
     pub fn find_named_child(&self, node: u32, name: &[u8]) -> Option<u32> {
-        ask!(self, story_image_find_named_child, node, name.as_ptr(), name.len() => word)
+        ask!(self, ffi::story_image_find_named_child, node, name.as_ptr(), name.len() => word)
     }
 
     /// Where a text lies in the bytes: start and length.
     pub fn text_part(&self, text: TextPlace) -> Option<(usize, usize)> {
-        ask!(self, story_image_text, text.offset, text.length => |&[start, length]| {
+        ask!(self, ffi::story_image_text, text.offset, text.length => |&[start, length]| {
             Some((start as usize, length as usize))
         })
     }
@@ -277,21 +242,21 @@ impl<'a> Queries<'a> {
 
     /// Where the payload of a node's list value lies in the bytes: start and length.
     pub fn list_payload(&self, node: u32) -> Option<(usize, usize)> {
-        ask!(self, story_image_list_payload, node => |&[start, length]| Some((start as usize, length as usize)))
+        ask!(self, ffi::story_image_list_payload, node => |&[start, length]| Some((start as usize, length as usize)))
     }
 
     pub fn list_counts(&self, node: u32) -> Option<ListCounts> {
-        ask!(self, story_image_list_counts, node => |&[items, origins]| Some(ListCounts { items, origins }))
+        ask!(self, ffi::story_image_list_counts, node => |&[items, origins]| Some(ListCounts { items, origins }))
     }
 
     /// Item `index` of a node's list value.
     pub fn node_list_entry(&self, node: u32, index: u32) -> Option<ListEntry> {
-        ask!(self, story_image_node_list_entry, node, index => entry)
+        ask!(self, ffi::story_image_node_list_entry, node, index => entry)
     }
 
     /// Origin `index` of a node's list value.
     pub fn node_list_origin(&self, node: u32, index: u32) -> Option<TextPlace> {
-        ask!(self, story_image_node_list_origin, node, index => place)
+        ask!(self, ffi::story_image_node_list_origin, node, index => place)
     }
 
     /// The payload of a list value; empty where it is not inside the bytes.
@@ -310,23 +275,23 @@ impl<'a> Queries<'a> {
     }
 
     pub fn definition_count(&self) -> Option<u32> {
-        ask!(self, story_image_definition_count => word)
+        ask!(self, ffi::story_image_definition_count => word)
     }
 
     pub fn definition(&self, index: u32) -> Option<Definition> {
-        ask!(self, story_image_definition, index => |&[offset, length, items]| {
+        ask!(self, ffi::story_image_definition, index => |&[offset, length, items]| {
             Some(Definition { name: TextPlace { offset, length }, items })
         })
     }
 
     /// The first item of a definition among the items of all.
     pub fn first_item(&self, definition: u32) -> Option<u32> {
-        ask!(self, story_image_definition_first_item, definition => word)
+        ask!(self, ffi::story_image_definition_first_item, definition => word)
     }
 
     /// Item `item` of a definition, counted from its first.
     pub fn definition_item(&self, index: u32, item: u32) -> Option<DefinitionItem> {
-        ask!(self, story_image_definition_item, index, item => |&[offset, length, value]| {
+        ask!(self, ffi::story_image_definition_item, index, item => |&[offset, length, value]| {
             Some(DefinitionItem { name: TextPlace { offset, length }, value: value as i32 })
         })
     }
@@ -334,39 +299,20 @@ impl<'a> Queries<'a> {
     /// The item that a name means, with or without its definition's name and a dot in front, and how many definitions'
     /// items were searched.
     pub fn list_item(&self, name: &[u8]) -> ItemSearch {
-        let (bytes, view) = (self.bytes, &self.words);
-        let mut searched = 0;
-        // SAFETY: the slices live through the call, and answer and count, which alone are written, are ours.
-        let item = ask(
-            |answer, length| unsafe {
-                ffi::story_image_find_list_item(
-                    bytes.as_ptr(),
-                    bytes.len(),
-                    view.as_ptr(),
-                    view.len(),
-                    name.as_ptr(),
-                    name.len(),
-                    answer,
-                    length,
-                    &mut searched,
-                    1,
-                )
-            },
-            |&[definition, item, value]| Some(ListItem { definition, item, value: value as i32 }),
-        );
-        ItemSearch { item, searched }
+        search(ffi::story_image_find_list_item, self.bytes, &self.words, name)
     }
 
     /// The node at the end of a path, as [`Image::resolve_path`](crate::Image::resolve_path).
     pub fn resolve_path(&self, origin: u32, relative: bool, path: &[Step<'_>]) -> Option<u32> {
-        path::resolve(self, origin, relative, path)
+        let walk = |at, relative, words: &[u32], names: &[u8]| self.resolve_components(at, relative, words, names);
+        path::resolve(origin, relative, path, walk, |node| self.child_count(node).is_some())
     }
 
     /// A walk along components as the library takes them: three words each, and the bytes of names.
     pub fn resolve_components(&self, origin: u32, relative: bool, path: &[u32], names: &[u8]) -> Option<u32> {
         let (path_length, names_length) = (path.len(), names.len());
         let (path, names) = (path.as_ptr(), names.as_ptr());
-        ask!(self, story_image_resolve_path, origin, relative, path, path_length, names, names_length => word)
+        ask!(self, ffi::story_image_resolve_path, origin, relative, path, path_length, names, names_length => word)
     }
 }
 
@@ -394,4 +340,33 @@ pub fn list_origin(payload: &[u8], strings: &[u8], index: u32) -> Option<TextPla
         },
         place,
     )
+}
+
+/// A word of the header, of the bytes alone; nothing under 88 bytes.
+fn header_word(bytes: &[u8], query: unsafe extern "C" fn(*const u8, usize, *mut u32, usize) -> u32) -> Option<u32> {
+    // SAFETY: as in `ask!`.
+    ask(|answer, length| unsafe { query(bytes.as_ptr(), bytes.len(), answer, length) }, word)
+}
+
+/// The total length, in bytes, that a header gives.
+///
+/// ```
+/// use story_image::raw;
+///
+/// # let bytes = include_bytes!(concat!(env!("CARGO_MANIFEST_DIR"), "/../../samples/step.image"));
+/// assert_eq!(raw::total_length(&bytes[..88]), Some(bytes.len() as u32));
+/// assert_eq!(raw::total_length(&bytes[..87]), None);
+/// ```
+pub fn total_length(bytes: &[u8]) -> Option<u32> {
+    header_word(bytes, ffi::story_image_total_length)
+}
+
+/// The length of the string section, in bytes, that a header gives.
+pub fn strings_length(bytes: &[u8]) -> Option<u32> {
+    header_word(bytes, ffi::story_image_strings_length)
+}
+
+/// The checksum that a header gives.
+pub fn checksum(bytes: &[u8]) -> Option<u32> {
+    header_word(bytes, ffi::story_image_checksum)
 }

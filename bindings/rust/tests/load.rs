@@ -5,7 +5,7 @@ use story_image::{Image, Refusal, Section, ffi, load_words};
 const SMALLEST: &[u8] = include_bytes!("../../../samples/smallest.image");
 const FORMAT: &str = include_str!("../../../docs/FORMAT.md");
 const README: &str = include_str!("../../../README.md");
-const HEADER: &str = include_str!("../../../include/story_image.h");
+const HEADER: &str = include_str!("../../../include/story_image_numbers.h");
 
 fn refusal(bytes: &[u8], words: usize) -> Option<Refusal> {
     Image::load(bytes, &mut vec![0; words]).err()

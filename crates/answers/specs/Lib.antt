@@ -1,3 +1,5 @@
 pub mod AnswerWords
 pub mod NodeViewWords
 pub mod RecordWords
+pub mod Lent
+pub mod Exports

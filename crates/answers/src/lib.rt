@@ -6,6 +6,7 @@ pub mod view_words; // view_words.rt: a node's view, as it is answered
 pub mod lists; // lists.rt: list values, definitions, items
 
 use image::NONE;
+use image::refusal::NO_ROOM;
 use image::refusal::NOT_FOUND;
 use views::Count;
 use views::Found;
@@ -14,6 +15,7 @@ use views::NamedChildView;
 use views::OptionalText;
 use views::Span;
 use views::TextAnswer;
+use words::output::put_bytes;
 ghost use mathlib.Core.Path.{_≡_};
 ghost use Prim.Native.Nat.{_≤_};
 ghost use mathlib.Core.List.{_++_};
@@ -21,6 +23,7 @@ ghost use mathlib.Core.Option.{some};
 ghost use lib.ListN.{length, drop};
 ghost use Rattle.answers.specs.AnswerWords.{spanOr, noSpan, unsigned, namedViewWords};
 ghost use Rattle.answers.specs.AnswerWords.{Answered, foundAnswer, countAnswer, namedAnswer, placeAnswer, partWords, partAnswer};
+ghost use Rattle.answers.specs.Lent.{Spelled};
 
 // The largest number that a word holds.
 const LARGEST_WORD: usize = 4294967295;
@@ -163,4 +166,21 @@ pub fn put_text(bytes: usize, strings: u32, found: TextAnswer, answer: &mut [u32
         TextAnswer::NotFound => NOT_FOUND,
         TextAnswer::Text(text) => put_part(bytes, strings, text, answer),
     }
+}
+
+// Copies a text of `long` bytes to the start of the lent one, and writes its length as the first of the words that are lent for it; 23 where either has
+// no room, and then both stay.
+pub fn put_text_copy(part: &[u8], long: u32, text: &mut [u8], size: &mut [u32]) -> u32
+    requires { ⌜ long ≡ length (now part) ⌝ }
+    ensures { λ r. ⌜ Spelled (some (now (part .entry))) (now (text .entry)) (now (text .exit)) (now (size .entry)) (now (size .exit)) r ⌝ }
+{
+    if size.len() < 1 {
+        return NO_ROOM;
+    }
+    if text.len() < part.len() {
+        return NO_ROOM;
+    }
+    put_bytes(part, text);
+    size[0] = long;
+    0
 }

@@ -156,7 +156,7 @@ fn text_kind(tag: u32, f0: u32, f1: u32, f2: u32, f4: u32, strings: &[u8]) -> Ki
 
 // The words of a record's kind: one decision over the tag's number. Kinds made of a text share one arm, so that the strings are not laid
 // down in memory for a call.
-fn kind_words(node: NodeRecord, payload: usize, strings: &[u8]) -> KindFound
+pub fn kind_words(node: NodeRecord, payload: usize, strings: &[u8]) -> KindFound
     ensures { λ r. ⌜ wordsFound r ≡ wordsOfKind (kindView (now (strings .entry)) payload node (kindOf (node .tag))) ⌝ }
 {
     let tag = node.tag;

@@ -12,7 +12,7 @@ use Rattle.laws.proofs.First.{first, second, pass}
 use Rattle.image.specs.declared.ImageView.{ImageView}
 use Rattle.image.specs.Header.{headerRule, startBy, viewOf, sectionsOf}
 use Rattle.image.proofs.OpenedHeader.{Opens, opens}
-use Rattle.promises.proofs.FirstSections.{first-sections}
+use Rattle.load.proofs.FirstSections.{first-sections}
 use Rattle.load.specs.Load.{checksumRule, sectionsRule, loadRule, loadWords, loadedBy, loadedOf}
 use Rattle.load.specs.declared.Loaded.{Loaded}
 use Rattle.load.specs.declared.Loaded.the-variants as Loaded

@@ -4,3 +4,6 @@ pub mod Rows
 pub mod Indexes
 pub mod NumbersFrom8
 pub mod Answers
+pub mod Numbered
+pub mod FirstSections
+pub mod WorkWords

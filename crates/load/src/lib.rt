@@ -1,5 +1,6 @@
 // The load of an image: its view, or the number of the first rule broken.
 mod nodes; // nodes.rt: rows 8 to 13, node by node
+pub mod needed; // needed.rt: how many work words a load needs, and its number without any
 
 use image::ImageView;
 use image::Opened;

@@ -3,7 +3,6 @@ pub mod Fields
 pub mod Way
 pub mod Acceptance
 pub mod Premises
-pub mod FirstSections
 pub mod Views
 pub mod Counts
 pub mod Nodes

@@ -1,9 +1,10 @@
-// Runs FORMAT.md's examples of list items by name, of a relative walk, of depths and of pages through the code. Standard input holds ten
+// Runs FORMAT.md's examples of list items by name, of a relative walk, of depths and of pages through the code. Standard input holds twelve
 // images, each behind its length. Of the first three items and walks are asked: one with the definitions red and size, which both hold low;
 // one whose root has a glue as its child; and that one with a bit of its checksum turned, which is refused. Of the next four the depths of
 // nodes: the smallest; one whose nodes 1 and 2 are each the other's parent, which is refused; one with a container that is only a named
 // child; and a chain of six containers, the last of which is node 1. Pages of the one with the named child, and of the next two: a root
-// with a child of tag 15, which is refused; and forty nodes of all kinds but lists. The last has sixty definitions of twenty items.
+// with a child of tag 15, which is refused; and forty nodes of all kinds but lists. The tenth has sixty definitions of twenty items. The last two
+// are asked by both readers: they differ only in what notes to the technician hold, in where texts lie and in their lengths.
 ghost use Prim.Native.Nat.{_≤_};
 use image::ImageView;
 use image::Opened;
@@ -16,6 +17,7 @@ use views::Found;
 
 mod items; // items.rt: list items by name
 mod page; // page.rt: pages of nodes
+mod readers; // readers.rt: the technician's reader and the sleeper's
 
 fn print(text: &[u8]) {
     io::write_all(STDOUT_FILENO, text);
@@ -160,4 +162,5 @@ fn main() {
     run_depths(&buffer[..n]);
     run_pages(&buffer[..n]);
     items::run_sixty(part(&buffer[..n], 3833));
+    readers::run_both(&buffer[..n]);
 }

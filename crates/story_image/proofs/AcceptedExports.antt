@@ -1,26 +1,24 @@
 -- Nothing sticks at the edge: on accepted bytes an exported query answers exactly if the inner one does, with its words.
-use Prim.Native.Nat.{ℕ, zero, suc, _+_, _≤_, _<_, _^_}
+use Prim.Native.Nat.{ℕ, _+_, _≤_, _<_, _^_}
 use mathlib.Core.Path.{_≡_, refl, sym, ap, _∙_}
 use mathlib.Core.List.{List, [], _∷_}
-use mathlib.Core.Bool.{Bool, true, false, cond, not, _||_}
+use mathlib.Core.Bool.{Bool, true, false, cond}
 use mathlib.Core.Option.{Option, none, some, Option·some-injective, Option·none-ne-some}
 use native.Mathlib.Omega.{arith}
 use lib.ListN.{length}
 use lib.Dec.{leb}
-use borrow.Author.Tests.{le-leb, leb-true, eqb-true}
-use Rattle.laws.specs.Counted.{lastOf}
+use borrow.Author.Tests.{leb-true, eqb-true}
 use Rattle.laws.proofs.First.{both}
 use Rattle.laws.proofs.Flags.{both-true}
-use Rattle.words.specs.Words.{NONE, wordAt}
+use Rattle.words.specs.Words.{wordAt}
+use Rattle.checksum.specs.Crc.{checksumOf}
 use Rattle.image.specs.declared.ImageView.{ImageView}
-use Rattle.image.specs.Sections.{Sections, definitionCount, itemCount, present}
-use Rattle.image.specs.Header.{version, headerRule, viewOf, sectionsBy, sectionsOf, versionAt}
+use Rattle.image.specs.Sections.{Sections, definitionCount, present}
+use Rattle.image.specs.Header.{version, headerRule, viewOf, sectionsBy, sectionsOf, lengthAt, checksumAt, versionAt}
 use Rattle.image.proofs.OpenedHeader.{Opens, opens, view-inside, view-counts, length-word}
-use Rattle.definitions.specs.Definitions.{firstItem, numberOfItems, definitionsRule}
-use Rattle.load.specs.Load.{loadRule}
+use Rattle.definitions.specs.Definitions.{definitionsRule}
+use Rattle.load.specs.Load.{loadRule, loadedOf, loadedBy}
 use Rattle.views.specs.declared.Span.{Span}
-use Rattle.views.specs.declared.Found.{Found}
-use Rattle.views.specs.declared.Found.the-variants as found
 use Rattle.views.specs.declared.Count.{Count}
 use Rattle.views.specs.declared.Count.the-variants as count
 use Rattle.views.specs.declared.NamedAnswer.{NamedAnswer}
@@ -41,46 +39,29 @@ use Rattle.views.specs.Lists.{listPart, listEntry, listOrigin, definitionQuery,
 use Rattle.walks.specs.Walk.{components, resolve}
 use Rattle.depth.specs.Depth.{depthOf}
 use Rattle.pages.specs.Page.{slotView}
-use Rattle.lookups.specs.declared.ListItem.{ListItem}
-use Rattle.lookups.specs.declared.ListItemAnswer.{ListItemAnswer}
-use Rattle.lookups.specs.declared.ListItemAnswer.the-variants as listed
 use Rattle.texts.specs.Text.{same}
-use Rattle.texts.specs.Dots.{hasDot, beforeDot, afterDot}
-use Rattle.utf8.specs.White.{blank}
-use Rattle.lookups.specs.Lookup.{definitionName, itemPlace, answeringPlace, searched, answers, listItemIn, listItemAt, lastItem, findNamed, listItem}
-use Rattle.lookups.proofs.Lookups.{place-below}
+use Rattle.lookups.specs.Lookup.{searched, findNamed, listItem}
 use Rattle.list_items.specs.Search.{listSearch}
 use Rattle.list_items.proofs.Plain.{same-answer}
+use Rattle.promises.specs.Answers.{Answer, given, ofCount, ofLoaded}
 use Rattle.promises.proofs.Acceptance.{load-accepted, accepted-passed}
-use Rattle.answers.specs.AnswerWords.{answerAfter, numberOf, foundAnswer, countAnswer, namedAnswer, placeAnswer, partWords, partAnswer, entryAnswer, definitionAnswer, itemAnswer, listItemAnswer, listCountWords}
+use Rattle.technician.specs.Technician.{stringsCountAt, headerWord, HeaderTells}
+use Rattle.technician.proofs.Accepted.{accepted-header}
+use Rattle.answers.specs.AnswerWords.{answerAfter, countAnswer, namedAnswer, placeAnswer, partWords, partAnswer, entryAnswer, definitionAnswer, itemAnswer, listItemAnswer, listCountWords}
+use Rattle.answers.specs.Exports.{Answers}
 use Rattle.answers.specs.NodeViewWords.{nodeAnswer, listPlace}
 use Rattle.answers.proofs.AnswerSlices.{count-some, part-some}
+use Rattle.answers.proofs.Sizes.{Size, some-size, none-size, found-size, count-size, list-item-size, answering}
+use Rattle.answers.proofs.ItemNumbers.{definitions-few, item-words}
 use Rattle.answers.proofs.Records.{eight}
 use Rattle.answers.proofs.ListPlaces.{Lies, list-lies}
 use Rattle.story_image.specs.Exported.{viewLength, wordsOfView, viewBy, under, writtenAfter}
 use Rattle.story_image.specs.Queries.{atList, firstWords, searchedAfter}
-use Rattle.story_image.specs.Accepted.{Answers, ViewOf, PageExports, Exports, AcceptedExports, wordsOfPart, wordsOfText, wordsOfListItem}
+use Rattle.story_image.specs.Accepted.{ViewOf, PageExports, Exports, AcceptedExports, wordsOfPart, wordsOfText}
 use Rattle.story_image.proofs.Views.{view-back, enough, searched-under}
 use Rattle.story_image.proofs.Pages.{page-under}
 
 -- ---- how many words an answer has
-
-abbrev Size : ℕ → Option (List ℕ) → Type 0
-Size k o = (ws : List ℕ) → o ≡ some ws → length ws ≡ k
-
-some-size : (k : ℕ) (us : List ℕ) → length us ≡ k → Size k (some us)
-some-size k us h ws e = ap length (sym (Option·some-injective us ws e)) ∙ h
-
-none-size : (k : ℕ) → Size k none
-none-size k ws e = absurd (Option·none-ne-some _ e)
-
-found-size : (a : Found) → Size 1 (foundAnswer a)
-found-size (found.Node n) = some-size 1 (n ∷ []) refl
-found-size found.NotFound = none-size 1
-
-count-size : (a : Count) → Size 1 (countAnswer a)
-count-size (count.Of n) = some-size 1 (n ∷ []) refl
-count-size count.NotFound = none-size 1
 
 named-size : (a : NamedAnswer) → Size 3 (namedAnswer a)
 named-size (named.Named e) = some-size 3 _ refl
@@ -110,10 +91,6 @@ item-size : (a : ItemAnswer) → Size 3 (itemAnswer a)
 item-size (item.Item i) = some-size 3 _ refl
 item-size item.NotFound = none-size 3
 
-list-item-size : (a : ListItemAnswer) → Size 3 (wordsOfListItem a)
-list-item-size (listed.Item i) = some-size 3 _ refl
-list-item-size listed.NotFound = none-size 3
-
 node-size : (a : NodeAnswer) → Size 10 (nodeAnswer a)
 node-size (node.View v) = let e = eight (v .kind) in some-size 10 _ (omega arith)
 node-size node.NotFound = none-size 10
@@ -128,17 +105,6 @@ counts-size payload = by (leb 8 (length payload))
 list-size : (k : ℕ) (o : Option Span) (query : Span → Option (List ℕ)) → ((t : Span) → Size k (query t)) → Size k (atList o query)
 list-size k none query h = none-size k
 list-size k (some t) query h = h t
-
--- ---- an exported query against the inner one
-
-answering : (k : ℕ) (exported inner : Option (List ℕ)) → exported ≡ inner → Size k inner → Answers k exported inner
-unfolding numberOf
-answering k exported inner e size =
-    record {
-      words = e;
-      found = λ ws h. (size ws h, λ n l. ap (λ (o : Option (List ℕ)). numberOf o n) (e ∙ h) ∙ ap (λ (b : Bool). cond b 0 18) (le-leb (length ws) n (rw (size ws h) l)));
-      missing = λ h n. ap (λ (o : Option (List ℕ)). numberOf o n) (e ∙ h);
-    }
 
 -- ---- the view that a load wrote
 
@@ -170,70 +136,14 @@ module _ (bs view : List ℕ) (versioned : viewOf bs .version ≡ version) (v : 
       → searchedAfter bs view name searched ≡ answerAfter (some (listSearch (sectionsBy bs (viewOf bs)) name .searched ∷ [])) searched
   searched-as name searched = sym (searched-under bs view name searched view-long (viewOf bs) view-same _ refl _ refl)
 
--- ---- the numbers of a list item are below the counts
+-- ---- words of the header
 
-last-below : (n : ℕ) (t : ℕ → Bool) (d : ℕ) → lastOf n t ≡ some d → d < n
-unfolding lastOf
-last-below zero t d e = absurd (Option·none-ne-some _ e)
-last-below (suc n) t d e = by (t n) e (last-below n t d)
-  where
-    by : (b : Bool) → cond b (some n) (lastOf n t) ≡ some d → (lastOf n t ≡ some d → d < n) → d < suc n
-    by true q r = let z = Option·some-injective n d q in omega arith
-    by false q r = let h = r q in omega arith
-
-module _ (s : Sections) where
-  abbrev Numbers : ListItemAnswer → Type 0
-  Numbers a = (i : ListItem) → a ≡ listed.Item i → (i .definition < definitionCount s) × (i .item < itemCount s)
-
-  item-apart : (i : ListItem) → listed.NotFound ≡ listed.Item i → ⊥
-  item-apart i e = let z : _≡_ {A = ℕ} 0 1 = cc in omega arith
-
-  item-inner : (x y : ListItem) → listed.Item x ≡ listed.Item y → x ≡ y
-  item-inner x y e = cc
-
-  item-below : (d : ℕ) (name : List ℕ) (j : ℕ) → itemPlace s d name ≡ some j → firstItem s d + j < itemCount s
-  unfolding itemPlace
-  item-below d name j e = by (leb (firstItem s d + numberOfItems s d) (itemCount s)) refl e
-    where
-      by : (b : Bool) → leb (firstItem s d + numberOfItems s d) (itemCount s) ≡ b
-          → cond b (searched (s .items) (s .strings) (firstItem s d) (numberOfItems s d) name) none ≡ some j → firstItem s d + j < itemCount s
-      by true h q =
-          let below = place-below (s .items) (s .strings) (firstItem s d) (numberOfItems s d) name j q in
-          let whole = leb-true (firstItem s d + numberOfItems s d) (itemCount s) h in
-          omega arith
-      by false h q = absurd (Option·none-ne-some _ q)
-
-  place-item : (given : Bool) (origin name : List ℕ) (d j : ℕ) → answeringPlace s given origin name d ≡ some j → itemPlace s d name ≡ some j
-  unfolding answeringPlace
-  place-item given origin name d j e = by (not given || same origin (definitionName s d)) e
-    where
-      by : (b : Bool) → cond b (itemPlace s d name) none ≡ some j → itemPlace s d name ≡ some j
-      by true q = q
-      by false q = absurd (Option·none-ne-some _ q)
-
-  last-numbers : (given : Bool) (origin name : List ℕ) → Numbers (lastItem s given origin name)
-  unfolding lastItem
-  last-numbers given origin name = by (lastOf (definitionCount s) (answers s given origin name)) refl
-    where
-      at : (d : ℕ) → d < definitionCount s → (o : Option ℕ) → answeringPlace s given origin name d ≡ o → Numbers (listItemAt s d o)
-      at d h none p i e = absurd (item-apart i e)
-      at d h (some j) p i e =
-          let z = item-inner _ i e in
-          rw (← z) (h, item-below d name j (place-item given origin name d j p))
-
-      by : (o : Option ℕ) → lastOf (definitionCount s) (answers s given origin name) ≡ o → Numbers (listItemIn s given origin name o)
-      by none p i e = absurd (item-apart i e)
-      by (some d) p i e = at d (last-below (definitionCount s) (answers s given origin name) d p) (answeringPlace s given origin name d) refl i e
-
-  pub item-numbers : (name : List ℕ) → Numbers (listItem s name)
-  unfolding listItem
-  item-numbers name = by (blank name) (hasDot name)
-    where
-      by : (a b : Bool)
-          → Numbers (cond a listed.NotFound (cond b (lastItem s true (beforeDot name) (afterDot name)) (lastItem s false name name)))
-      by true b i e = absurd (item-apart i e)
-      by false true i e = last-numbers true (beforeDot name) (afterDot name) i e
-      by false false i e = last-numbers false name name i e
+-- a count that is given, in words
+count-given : (a : Count) (n : ℕ) → ofCount a ≡ given n → Answers 1 (countAnswer a) (some (n ∷ []))
+count-given (count.Of m) n e =
+    let same : m ≡ n = Option·some-injective m n (ap (λ (x : Answer ℕ). x .value) e) in
+    answering 1 _ _ (ap (λ (k : ℕ). some (k ∷ [])) same) (some-size 1 (n ∷ []) refl)
+count-given count.NotFound n e = absurd (Option·none-ne-some n (ap (λ (x : Answer ℕ). x .value) e))
 
 -- ---- accepted bytes
 
@@ -264,27 +174,7 @@ module _ (bs : List ℕ) (o : Opens bs) (short : length bs < 2 ^ 32) where
       let long = view-counts bs o .payload in
       sym (part-some (length bs) (viewOf bs .payload .offset) t (omega arith) (omega arith))
 
-  definitions-few : definitionCount own ≤ NONE
-  definitions-few =
-      let within = view-inside bs o .definitions in
-      let long = view-counts bs o .definitions in
-      omega arith
-
-  items-few : itemCount own ≤ NONE
-  items-few =
-      let within = view-inside bs o .items in
-      let long = view-counts bs o .items in
-      omega arith
-
-  item-whole : (a : ListItemAnswer) → Numbers own a → listItemAnswer a ≡ wordsOfListItem a
-  item-whole (listed.Item i) h =
-      let below = h i refl in
-      let d = below .0 in
-      let j = below .1 in
-      rw (le-leb (i .definition) NONE (omega (arith, definitions-few)), le-leb (i .item) NONE (omega (arith, items-few)))
-  item-whole listed.NotFound h = refl
-
-module _ (bs view : List ℕ) (o : Opens bs) (short : length bs < 2 ^ 32) (lists : definitionsRule (sectionsOf bs) ≡ 0) (v : ViewOf bs view) where
+module _ (bs view : List ℕ) (o : Opens bs) (short : length bs < 2 ^ 32) (lists : definitionsRule (sectionsOf bs) ≡ 0) (t : HeaderTells bs (viewOf bs)) (v : ViewOf bs view) where
   abbrev s : Sections
   s = sectionsOf bs
 
@@ -320,15 +210,19 @@ module _ (bs view : List ℕ) (o : Opens bs) (short : length bs < 2 ^ 32) (lists
         definition-item = λ d j. answering 3 _ _ (asked-as bs view (right-version bs o) v _) (item-size (itemQuery s d j));
         list-item = λ name.
             answering 3 _ _
-            (asked-as bs view (right-version bs o) v _ ∙ ap listItemAnswer (same-answer s lists name) ∙ item-whole bs o short (listItem s name) (item-numbers s name))
+            (asked-as bs view (right-version bs o) v _ ∙ ap listItemAnswer (same-answer s lists name) ∙ item-words bs o short name)
             (list-item-size (listItem s name));
         searched = searched-as bs view (right-version bs o) v;
         walk = λ origin relative path names.
             answering 1 _ _ (asked-as bs view (right-version bs o) v _) (found-size (resolve s relative origin (components names path)));
+        total-length = count-given (headerWord bs lengthAt) (length bs) (t .total);
+        strings-length = count-given (headerWord bs stringsCountAt) (length (s .strings)) (t .strings);
+        checksum = count-given (headerWord bs checksumAt) (checksumOf bs) (t .checksum);
       }
 
 pub accepted-exports : AcceptedExports
-unfolding loadRule
+unfolding loadRule loadedOf
 accepted-exports bs view work b h v =
     let o = opens bs (both (headerRule bs) _ h .0) in
-    exports bs view o (length-word bs b o) (accepted-passed bs (load-accepted bs work h) .definitions) v
+    let t = accepted-header bs work (viewOf bs) (ap (λ (n : ℕ). ofLoaded (loadedBy n (viewOf bs))) h) in
+    exports bs view o (length-word bs b o) (accepted-passed bs (load-accepted bs work h) .definitions) t v

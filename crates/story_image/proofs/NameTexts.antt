@@ -1,60 +1,21 @@
--- Texts of commands and operators: their numbers, and the slices that are lent for a text and its length.
-use Prim.Native.Nat.{ℕ, zero, suc, _+_, _-_, _≤_, _<_}
-use mathlib.Core.Path.{_≡_, refl, sym, ap, _∙_}
-use mathlib.Core.List.{List, [], _∷_, _++_}
-use mathlib.Core.Bool.{Bool, true, false, cond, _&&_}
-use mathlib.Core.Option.{Option, none, some}
+-- Texts of commands and operators: their numbers, and the bytes that hold them.
+use Prim.Native.Nat.{ℕ, _-_, _≤_, _<_}
+use mathlib.Core.Path.{_≡_, refl, sym, _∙_}
+use mathlib.Core.List.{List, [], _∷_}
+use mathlib.Core.Option.{none, some}
 use native.Mathlib.Omega.{arith}
 use native.Mathlib.Nat.{not-suc-le-zero}
-use lib.ListN.{length, getD, set, drop, replicate, length-replicate, length-append}
+use lib.ListN.{length, getD, replicate, length-replicate, length-append}
 use lib.Seq.{length-take-le}
 use lib.Dec.{leb}
-use borrow.Author.Tests.{le-leb, lt-leb, leb-true}
+use borrow.Author.Tests.{leb-true}
 use Rattle.laws.specs.Refusal.{firstOf, unless, refusals}
 use Rattle.names.specs.Names.{commands, operators, numberIn, names}
-use Rattle.names.specs.Spelling.{elementAt, elementNamed, nameOf, spelled}
+use Rattle.names.specs.Spelling.{elementAt, nameOf, spelled}
 use Rattle.names.specs.declared.Name.{Name}
 use Rattle.names.proofs.Distinct.{place-number}
-use Rattle.names.proofs.Numbers.{Numbered, nameIn, every, at-element, past-element, named-number, named-yes}
+use Rattle.names.proofs.Numbers.{Numbered, every, at-element, past-element, named-number, named-yes}
 use Rattle.names.proofs.Spellings.{name-spelled}
-use Rattle.story_image.specs.Exported.{writtenAfter}
-use Rattle.story_image.specs.Spelling.{Spelled, spelledNumber, textOr}
-use Rattle.story_image.proofs.Writes.{first-set}
-
--- ---- the lent slices
-
-pub unspelled : (o : Option (List ℕ)) (text size : List ℕ) → o ≡ none → Spelled o text text size size 18
-unfolding writtenAfter
-unspelled o text size e = record { number = sym (ap (λ (p : Option (List ℕ)). spelledNumber p (length text) (length size)) e); spelling = refl; size = refl }
-
-module _ (t text size : List ℕ) where
-  pub no-size : length size < 1 → Spelled (some t) text text size size 23
-  unfolding writtenAfter
-  no-size h = record { number = rw (lt-leb 1 (length size) h); spelling = refl; size = refl }
-
-  pub no-room : 1 ≤ length size → length text < length t → Spelled (some t) text text size size 23
-  unfolding writtenAfter
-  no-room k h = record { number = rw (le-leb 1 (length size) k, lt-leb (length t) (length text) h); spelling = refl; size = refl }
-
-module _ (t text size : List ℕ) where
-  pub roomy : 1 ≤ length size → length t ≤ length text → (now : List ℕ) (n : ℕ) → now ≡ t ++ drop (length t) text → n ≡ length t
-      → Spelled (some t) text now size (set size 0 n) 0
-  unfolding writtenAfter
-  roomy k h now n e q =
-      record {
-        number = rw (le-leb 1 (length size) k, le-leb (length t) (length text) h);
-        spelling = e;
-        size = first-set size n k ∙ ap (λ (m : ℕ). m ∷ drop 1 size) q;
-      }
-
--- a text that equals another is spelled as it
-pub spelled-as : (p o : Option (List ℕ)) (text now size long : List ℕ) (r : ℕ) → p ≡ o → Spelled p text now size long r → Spelled o text now size long r
-spelled-as p o text now size long r e h =
-    record {
-      number = h .number ∙ ap (λ (q : Option (List ℕ)). spelledNumber q (length text) (length size)) e;
-      spelling = h .spelling ∙ ap (λ (q : Option (List ℕ)). writtenAfter r (textOr q) text) e;
-      size = h .size ∙ ap (λ (q : Option (List ℕ)). writtenAfter r (length (textOr q) ∷ []) size) e;
-    }
 
 -- ---- a name fits its bytes
 

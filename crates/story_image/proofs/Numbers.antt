@@ -6,13 +6,13 @@ use mathlib.Core.Option.{Option, none, some}
 use lib.ListN.{length}
 use Rattle.laws.specs.Lists.{has}
 use Rattle.answers.specs.AnswerWords.{numberOf}
+use Rattle.answers.specs.Lent.{spelledNumber}
 use Rattle.pages.specs.Page.{pageRule}
 use Rattle.refusal_numbers.specs.Numbers.{queryNumbers, encodeNumbers}
 use Rattle.refusal_numbers.proofs.OneOf.{In, among, numbers}
 use Rattle.refusal_numbers.proofs.Loads.{load-numbers}
 use Rattle.refusal_numbers.proofs.Drafts.{encode-numbers, resolve-numbers}
 use Rattle.story_image.specs.Queries.{pageNumber}
-use Rattle.story_image.specs.Spelling.{spelledNumber}
 use Rattle.story_image.specs.Numbers.{pageExportNumbers, spellNumbers, ExportNumbers}
 
 query-number : (o : Option (List ℕ)) (n : ℕ) → In queryNumbers (numberOf o n)

@@ -1,23 +1,15 @@
 -- How many work words suffice.
-use Prim.Native.Nat.{ℕ, zero, suc, _+_, _*_, _/_, _≤_, _<_}
+use Prim.Native.Nat.{ℕ, _≤_}
 use mathlib.Core.Path.{_≡_, refl, sym, ap, _∙_}
-use mathlib.Core.List.{List}
 use mathlib.Core.Bool.{Bool, true, false, cond, true≢false}
 use native.Mathlib.Omega.{arith}
 use native.Mathlib.Decide.{ℕ-discrete}
-use lib.ListN.{length}
-use lib.Dec.{leb, eqb}
-use borrow.Author.Tests.{le-leb, lt-leb, leb-true, leb-false, eq-eqb, ne-eqb}
-use Rattle.laws.specs.Refusal.{unless, countsAs, _▸_, firstOf}
-use Rattle.image.specs.declared.ImageView.{ImageView}
-use Rattle.image.specs.declared.Opened.{Opened}
-use Rattle.image.specs.declared.Opened.the-variants as opened
-use Rattle.image.specs.Header.{inkRight, headerRule, startBy, viewOf, sectionsOf, openedOf}
-use Rattle.image.proofs.OpenedHeader.{opens}
-use Rattle.promises.proofs.FirstSections.{first-sections}
-use Rattle.load.specs.Load.{checksumRule, sectionsRule, loadRule, loadWords, early}
-use Rattle.load.proofs.NumbersFrom8.{late-sections, late-not-early}
-use Rattle.load.proofs.Answers.{header-broken, header-kept, needed-is}
+use lib.Dec.{leb}
+use borrow.Author.Tests.{le-leb}
+use Rattle.laws.specs.Refusal.{unless}
+use Rattle.image.specs.Header.{inkRight}
+use Rattle.load.specs.Load.{loadRule}
+use Rattle.load.proofs.WorkWords.{Other, other-test, other-count, other-both, other-first, words-suffice}
 use Rattle.draft.specs.declared.Needed.{Needed}
 use Rattle.draft.specs.declared.Needed.the-variants.{Words, TooMany}
 use Rattle.draft.specs.Needs.{neededOf}
@@ -27,22 +19,7 @@ use Rattle.writer.proofs.Answers.{ink-wrong, tables-wrong, cleared}
 use Rattle.image.specs.Sections.{Sections, nodeCount, childCount, namedCount, definitionCount, itemCount}
 use Rattle.story_image.specs.Exported.{viewLength, lentWords}
 use Rattle.story_image.specs.Writing.{wordsWithLength}
-use Rattle.story_image.specs.Needed.{wordsToLoad, wordsToWrite, largestSize, longestSlice, LoadWordsSuffice, WriteWordsSuffice}
-
--- ---- a load's
-
-module _ (bs : List ℕ) (a : Opened) (e : a ≡ openedOf bs) where
-  pub none-to-load : (r : ℕ) → a ≡ opened.Refused r → 0 ≡ wordsToLoad bs
-  unfolding wordsToLoad
-  none-to-load r h =
-      let broken = header-broken bs a r e h in
-      rw (ne-eqb (headerRule bs) 0 (λ z. broken .1 (broken .0 ∙ z)))
-
-  pub some-to-load : (v : ImageView) → a ≡ opened.View v → v .nodes .count + v .children .count + v .named .count + 1 ≡ wordsToLoad bs
-  unfolding wordsToLoad
-  some-to-load v h =
-      let kept = header-kept bs a v e h in
-      rw (eq-eqb (headerRule bs) 0 (kept .0)) (needed-is bs v (kept .0) (kept .1))
+use Rattle.story_image.specs.Needed.{wordsToWrite, largestSize, longestSlice, LoadWordsSuffice, WriteWordsSuffice}
 
 -- ---- a writer's
 
@@ -67,41 +44,6 @@ module _ (s : Sections) (a : Needed) (e : a ≡ neededOf (writeWords s) largestS
 
 -- ---- 7 is no other rule's number
 
-Other : ℕ → Type 0
-Other r = r ≡ 7 → ⊥
-
-module _ (k : ℕ) (d : k ≡ 7 → ⊥) where
-  other-test : (t : Bool) → Other (unless t k)
-  unfolding Other unless
-  other-test true e = omega arith
-  other-test false e = d e
-
-  other-count : (r : ℕ) → Other (countsAs k r)
-  unfolding Other countsAs
-  other-count zero e = omega arith
-  other-count (suc r) e = d e
-
-other-both : (a b : ℕ) → Other a → Other b → Other (a ▸ b)
-unfolding _▸_
-other-both zero b p q = q
-other-both (suc a) b p q = p
-
-other-first : (n : ℕ) (f : ℕ → ℕ) → ((i : ℕ) → Other (f i)) → Other (firstOf n f)
-unfolding firstOf Other
-other-first zero f p = λ e. omega arith
-other-first (suc n) f p = other-both (firstOf n f) (f n) (other-first n f p) (p n)
-
-header-other : (bs : List ℕ) → Other (headerRule bs)
-unfolding headerRule
-header-other bs =
-    other-both _ _ (other-test 1 (λ e. omega arith) _)
-    (other-both _ _ (other-test 2 (λ e. omega arith) _)
-    (other-both _ _ (other-test 3 (λ e. omega arith) _) (other-both _ _ (other-test 4 (λ e. omega arith) _) (other-test 5 (λ e. omega arith) _))))
-
-sections-other : (s : Sections) → Other (sectionsRule s)
-unfolding Other
-sections-other s e = true≢false (sym (ap early e) ∙ late-not-early (sectionsRule s) (late-sections s))
-
 tables-other : (s : Sections) → Other (tablesRule s)
 unfolding tablesRule draftNodeRule draftChildRule draftNamedRule draftDefinitionRule draftItemRule
 tables-other s =
@@ -121,46 +63,13 @@ tables-other s =
 
 -- ---- a load's words suffice
 
-quarter : (bs : List ℕ) → headerRule bs ≡ 0 → loadWords (sectionsOf bs) ≤ length bs / 4
-quarter bs h =
-    let e = opens bs h .ends 2 (omega arith) in
-    let f = first-sections bs in
-    let n = needed-is bs (viewOf bs) h refl in
-    omega arith
-
-load-quarter : (bs : List ℕ) → wordsToLoad bs ≤ length bs / 4
-unfolding wordsToLoad
-load-quarter bs =
-    elim (ℕ-discrete (headerRule bs) 0) [
-      | yes h ↦ rw (eq-eqb (headerRule bs) 0 h) (quarter bs h)
-      | no d ↦ rw (ne-eqb (headerRule bs) 0 d) (omega arith)
-    ]
-
-never-seven : (bs : List ℕ) (work : ℕ) → wordsToLoad bs ≤ work → Other (loadRule bs work)
-unfolding wordsToLoad loadRule checksumRule
-never-seven bs work l =
-    elim (ℕ-discrete (headerRule bs) 0) [
-      | yes h ↦
-          let enough : loadWords (sectionsOf bs) ≤ work = rw (eq-eqb (headerRule bs) 0 h) at l in
-          other-both _ _ (header-other bs)
-          (other-both _ _ (other-test 6 (λ e. omega arith) _)
-          (other-both _ _ (words-pass (loadWords (sectionsOf bs)) work enough) (sections-other (sectionsOf bs))))
-      | no d ↦ stopped (headerRule bs) _ d (header-other bs)
-    ]
-  where
-    words-pass : (n m : ℕ) → n ≤ m → Other (unless (leb n m) 7)
-    words-pass n m h = unfold Other unless in rw (le-leb n m h) (λ e. omega arith)
-
-    stopped : (a b : ℕ) → (a ≡ 0 → ⊥) → Other a → Other (a ▸ b)
-    stopped zero b d p = absurd (d refl)
-    stopped (suc a) b d p = unfold _▸_ in p
-
 lent-all : (view work : ℕ) → viewLength ≤ view → lentWords view work ≡ work
 lent-all view work h = ap (λ (b : Bool). cond b work 0) (le-leb viewLength view h)
 
 pub load-words-suffice : LoadWordsSuffice
-unfolding Other
-load-words-suffice bs = (load-quarter bs, λ work view l k e. never-seven bs work l (ap (loadRule bs) (sym (lent-all view work k)) ∙ e))
+load-words-suffice bs =
+    let suffice = words-suffice bs in
+    (suffice .0, λ work view l k e. suffice .1 work l (ap (loadRule bs) (sym (lent-all view work k)) ∙ e))
 
 -- ---- a writer's words suffice
 

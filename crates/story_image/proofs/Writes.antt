@@ -1,10 +1,9 @@
 -- A written image handed over: number, length, output and work words.
 use Prim.Native.Nat.{ℕ, _≤_, _<_}
 use mathlib.Core.Path.{_≡_, refl, sym, ap, _∙_}
-use mathlib.Core.List.{List, [], _∷_}
+use mathlib.Core.List.{List, _∷_}
 use mathlib.Core.Bool.{Bool, true, false, cond, _&&_, _||_, true≢false}
 use native.Mathlib.Omega.{arith}
-use native.Mathlib.Nat.{not-suc-le-zero}
 use native.Mathlib.Decide.{ℕ-discrete}
 use lib.ListN.{length, set, drop}
 use lib.Dec.{leb, eqb}
@@ -21,6 +20,7 @@ use Rattle.writer.specs.Answer.{encodedOf, ofEncoded}
 use Rattle.draft_image.proofs.Numbers.{tables-leave}
 use Rattle.writer.proofs.AnswerByRule.{number-by, written-by, short-by, refused-by}
 use Rattle.writer.proofs.Answers.{ink-wrong, tables-wrong, words-few}
+use Rattle.answers.proofs.LentSlices.{first-set}
 use Rattle.story_image.specs.Writing.{wordsWithLength, lengthAfter}
 
 -- ---- what the writer answers
@@ -68,10 +68,6 @@ no-length ink s work written room needed long r h e =
     (e ∙ ap (λ (m : ℕ). encodeRule ink s m room) (sym none), work-left needed r work left, length-left r long written (left-some r left .0) (λ z. absurd (left-some r left .1 z)))
 
 -- ---- with a word for the length
-
-pub first-set : (written : List ℕ) (n : ℕ) → 1 ≤ length written → set written 0 n ≡ n ∷ drop 1 written
-first-set [] n h = absurd (not-suc-le-zero h)
-first-set (x ∷ written) n h = refl
 
 length-set : (r long : ℕ) (written : List ℕ) (n : ℕ) → (eqb r 0 || (eqb r 23 && leb long NONE)) ≡ true → 1 ≤ length written → n ≡ long
     → set written 0 n ≡ lengthAfter r long written

@@ -8,9 +8,9 @@ use mathlib.Core.Bool.{Bool}
 use mathlib.Core.Option.{Option, none, some}
 use lib.ListN.{length, getD, take, drop}
 use Rattle.laws.specs.Lists.{Below}
+use Rattle.checksum.specs.Crc.{checksumOf}
 use Rattle.image.specs.Sections.{Sections, definitionCount}
 use Rattle.image.specs.Header.{viewOf, sectionsOf}
-use Rattle.image.specs.Refusals.{notFound}
 use Rattle.load.specs.Load.{loadRule}
 use Rattle.views.specs.declared.Span.{Span}
 use Rattle.views.specs.declared.TextAnswer.{TextAnswer}
@@ -18,17 +18,16 @@ use Rattle.views.specs.declared.TextAnswer.the-variants as place
 use Rattle.views.specs.View.{span, nodeView}
 use Rattle.views.specs.Children.{childCountOf, namedCountOf, childQuery, namedQuery, textQuery}
 use Rattle.views.specs.Lists.{listPart, listEntry, listOrigin, definitionQuery, itemQuery}
-use Rattle.lookups.specs.declared.ListItemAnswer.{ListItemAnswer}
-use Rattle.lookups.specs.declared.ListItemAnswer.the-variants as listed
 use Rattle.lookups.specs.Lookup.{findNamed, listItem}
 use Rattle.list_items.specs.Search.{listSearch}
 use Rattle.walks.specs.Walk.{components, resolve}
 use Rattle.depth.specs.Depth.{depthOf}
 use Rattle.pages.specs.Page.{slotWords, pageRule, pageAfter, slotView}
-use Rattle.answers.specs.AnswerWords.{answerAfter, numberOf, unsigned, foundAnswer, countAnswer, namedAnswer, placeAnswer, entryAnswer, definitionAnswer, itemAnswer, listCountWords}
+use Rattle.answers.specs.AnswerWords.{answerAfter, foundAnswer, countAnswer, namedAnswer, placeAnswer, entryAnswer, definitionAnswer, itemAnswer, listCountWords}
+use Rattle.answers.specs.Exports.{Answers, wordsOfListItem}
 use Rattle.answers.specs.NodeViewWords.{nodeAnswer, listPlace}
 use Rattle.story_image.specs.Exported.{viewLength, wordsOfView, writtenAfter}
-use Rattle.story_image.specs.Queries.{atList, firstWords, answerOfNodeView, pageNumber, pageWritten, answerOfSlotView, answerOfDepth, answerOfText, answerOfChildCount, answerOfChild, answerOfNamedChildCount, answerOfNamedChild, answerOfFindNamedChild, answerOfListPayload, answerOfListCounts, answerOfNodeListEntry, answerOfNodeListOrigin, answerOfDefinitionCount, answerOfDefinition, answerOfFirstItem, answerOfDefinitionItem, answerOfListItem, searchedAfter, answerOfWalk}
+use Rattle.story_image.specs.Queries.{atList, firstWords, answerOfNodeView, pageNumber, pageWritten, answerOfSlotView, answerOfDepth, answerOfText, answerOfChildCount, answerOfChild, answerOfNamedChildCount, answerOfNamedChild, answerOfFindNamedChild, answerOfListPayload, answerOfListCounts, answerOfNodeListEntry, answerOfNodeListOrigin, answerOfDefinitionCount, answerOfDefinition, answerOfFirstItem, answerOfDefinitionItem, answerOfListItem, searchedAfter, answerOfWalk, answerOfTotalLength, answerOfStringsLength, answerOfChecksum}
 
 -- ---- the words of answers, without a case for numbers that a word does not hold
 
@@ -40,18 +39,7 @@ abbrev pub wordsOfText : ℕ → TextAnswer → Option (List ℕ)
 wordsOfText strings (place.Text t) = some (wordsOfPart strings t)
 wordsOfText strings place.NotFound = none
 
-abbrev pub wordsOfListItem : ListItemAnswer → Option (List ℕ)
-wordsOfListItem (listed.Item i) = some (i .definition ∷ i .item ∷ unsigned (i .value) ∷ [])
-wordsOfListItem listed.NotFound = none
-
 -- ---- an exported query against the inner one
-
--- with k words or more lent for the answer, the query returns 0 exactly if the inner one answers, and 18 exactly if it does not; its words
--- are then the inner one's
-pub record Answers (k : ℕ) (exported inner : Option (List ℕ)) : Type 0 where
-  pub words : exported ≡ inner
-  pub found : (ws : List ℕ) → inner ≡ some ws → (length ws ≡ k) × ((n : ℕ) → k ≤ n → numberOf exported n ≡ 0)
-  pub missing : inner ≡ none → (n : ℕ) → numberOf exported n ≡ notFound
 
 -- the words of a view as a load wrote them, in a lent slice that was long enough
 pub record ViewOf (bs view : List ℕ) : Type 0 where
@@ -91,6 +79,10 @@ pub record Exports (bs view : List ℕ) (s : Sections) : Type 0 where
   pub searched : (name words : List ℕ) → searchedAfter bs view name words ≡ answerAfter (some (listSearch s name .searched ∷ [])) words
   pub walk : (origin : ℕ) (relative : Bool) (path names : List ℕ)
       → Answers 1 (answerOfWalk bs view origin relative path names) (foundAnswer (resolve s relative origin (components names path)))
+  -- of the bytes alone
+  pub total-length : Answers 1 (answerOfTotalLength bs) (some (length bs ∷ []))
+  pub strings-length : Answers 1 (answerOfStringsLength bs) (some (length (s .strings) ∷ []))
+  pub checksum : Answers 1 (answerOfChecksum bs) (some (checksumOf bs ∷ []))
 
 -- of all bytes that a load accepts
 abbrev pub AcceptedExports : Type 0

@@ -1,13 +1,14 @@
 -- A view in words, and what is asked under lent words of a view.
-use Prim.Native.Nat.{ℕ, zero, suc, _+_, _*_}
-use mathlib.Core.List.{List, [], _∷_, _++_}
+use Prim.Native.Nat.{ℕ, _+_, _*_}
+use mathlib.Core.List.{List, [], _∷_}
 use mathlib.Core.Bool.{cond}
 use mathlib.Core.Option.{Option, none}
-use lib.ListN.{length, drop, getD}
+use lib.ListN.{length, getD}
 use lib.Dec.{leb}
 use Rattle.image.specs.declared.Section.{Section}
 use Rattle.image.specs.declared.ImageView.{ImageView}
 use Rattle.image.specs.Header.{version}
+unfoldable pub use Rattle.answers.specs.Lent.{writtenAfter}
 
 abbrev sectionThen : Section → List ℕ → List ℕ
 sectionThen s ws = s .offset ∷ s .count ∷ ws
@@ -51,8 +52,3 @@ under view query = cond (leb viewLength (length view)) (query (viewBy view)) non
 -- work words that count: none where the lent view is too short
 abbrev pub lentWords : ℕ → ℕ → ℕ
 lentWords view work = cond (leb viewLength view) work 0
-
--- what is lent on return: written at its start where nothing is refused, else as it was
-unfoldable pub writtenAfter : ℕ → List ℕ → List ℕ → List ℕ
-writtenAfter zero ws view = ws ++ drop (length ws) view
-writtenAfter (suc r) ws view = view

@@ -2,6 +2,5 @@ pub mod Exported
 pub mod Queries
 pub mod Writing
 pub mod Needed
-pub mod Spelling
 pub mod Accepted
 pub mod Numbers

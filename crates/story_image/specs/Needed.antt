@@ -1,22 +1,18 @@
 -- How many work words a load and a write need.
-use Prim.Native.Nat.{ℕ, _+_, _*_, _/_, _≤_, _<_}
+use Prim.Native.Nat.{ℕ, _/_, _≤_}
 use mathlib.Core.Path.{_≡_}
 use mathlib.Core.List.{List}
 use mathlib.Core.Bool.{cond}
 use lib.ListN.{length}
-use lib.Dec.{leb, eqb}
+use lib.Dec.{leb}
 use Rattle.image.specs.Sections.{Sections}
-use Rattle.image.specs.Header.{headerRule, sectionsOf}
 use Rattle.image.specs.Refusals.{tooFewWords}
-use Rattle.load.specs.Load.{loadRule, loadWords}
+use Rattle.load.specs.Load.{loadRule}
+unfoldable pub use Rattle.load.specs.Needed.{wordsToLoad}
 use Rattle.draft.specs.Draft.{writeWords}
 use Rattle.draft_image.specs.Encode.{encodeRule}
 use Rattle.story_image.specs.Exported.{viewLength, lentWords}
 use Rattle.story_image.specs.Writing.{wordsWithLength}
-
--- of bytes whose header passes, as many as a load tests for; of others none, since a load refuses them before that test
-unfoldable pub wordsToLoad : List ℕ → ℕ
-wordsToLoad bs = cond (eqb (headerRule bs) 0) (loadWords (sectionsOf bs)) 0
 
 -- the largest number of a size
 abbrev pub largestSize : ℕ

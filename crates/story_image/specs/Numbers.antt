@@ -6,11 +6,11 @@ use Rattle.image.specs.Refusals.{notFound, noRoom, tooFewSlots}
 use Rattle.image.specs.Sections.{Sections}
 use Rattle.load.specs.Load.{loadRule}
 use Rattle.answers.specs.AnswerWords.{Answered}
+use Rattle.answers.specs.Lent.{Spelled}
 use Rattle.target_finding.specs.Targets.{PathList, resolveRule}
 use Rattle.refusal_numbers.specs.Numbers.{OneOf, loadNumbers, queryNumbers, encodeNumbers, resolveNumbers}
 use Rattle.story_image.specs.Exported.{lentWords}
 use Rattle.story_image.specs.Queries.{pageNumber}
-use Rattle.story_image.specs.Spelling.{Spelled}
 use Rattle.story_image.specs.Writing.{Wrote}
 
 -- 18, 24

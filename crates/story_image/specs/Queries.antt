@@ -6,7 +6,7 @@ use mathlib.Core.Option.{Option, none, some}
 use lib.ListN.{length}
 use lib.Dec.{leb}
 use Rattle.image.specs.Sections.{Sections, definitionCount}
-use Rattle.image.specs.Header.{sectionsBy}
+use Rattle.image.specs.Header.{lengthAt, checksumAt, sectionsBy}
 use Rattle.image.specs.Refusals.{notFound}
 use Rattle.definitions.specs.Definitions.{firstItem}
 use Rattle.views.specs.declared.Span.{Span}
@@ -20,6 +20,7 @@ use Rattle.list_items.specs.Search.{listSearch}
 use Rattle.walks.specs.Walk.{components, resolve}
 use Rattle.depth.specs.Depth.{depthOf}
 use Rattle.pages.specs.Page.{pageRule, pageAfter, slotView}
+use Rattle.technician.specs.Technician.{stringsCountAt, headerWord}
 use Rattle.answers.specs.AnswerWords.{answerAfter, countWords, foundAnswer, countAnswer, namedAnswer, placeAnswer, partWords, partAnswer, entryAnswer, definitionAnswer, itemAnswer, listItemAnswer, listCountWords}
 use Rattle.answers.specs.NodeViewWords.{nodeAnswer, listPlace}
 use Rattle.story_image.specs.Exported.{viewLength, viewBy, under}
@@ -117,3 +118,13 @@ answerOfListEntry payload strings j = entryAnswer (listEntry payload strings j)
 
 abbrev pub answerOfListOrigin : List ℕ → List ℕ → ℕ → Option (List ℕ)
 answerOfListOrigin payload strings j = placeAnswer (listOrigin payload strings j)
+
+-- of the bytes alone: words of the header
+abbrev pub answerOfTotalLength : List ℕ → Option (List ℕ)
+answerOfTotalLength bytes = countAnswer (headerWord bytes lengthAt)
+
+abbrev pub answerOfStringsLength : List ℕ → Option (List ℕ)
+answerOfStringsLength bytes = countAnswer (headerWord bytes stringsCountAt)
+
+abbrev pub answerOfChecksum : List ℕ → Option (List ℕ)
+answerOfChecksum bytes = countAnswer (headerWord bytes checksumAt)

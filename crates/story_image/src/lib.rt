@@ -4,6 +4,7 @@ pub mod node; // node.rt: a node's view, its depth, texts
 pub mod page; // page.rt: a page of nodes, the view of a slot's words
 pub mod children; // children.rt: ordered and named children
 pub mod lists; // lists.rt: list values, definitions, items
+pub mod header_words; // header_words.rt: total length, length of the strings, checksum
 pub mod walk; // walk.rt: walks along a path
 pub mod resolve; // resolve.rt: targets of a draft found from paths
 pub mod write; // write.rt: writing an image
@@ -18,7 +19,6 @@ ghost use Prim.Native.Nat.{_≤_};
 ghost use lib.ListN.{length};
 ghost use Rattle.image.specs.Header.{sectionsOf, viewOf};
 ghost use Rattle.load.specs.Load.{loadRule, loadWords, workAfter};
-ghost use Rattle.promises.specs.Answers.{ofLoaded};
 ghost use Rattle.story_image.specs.Exported.{wordsOfView, viewBy, viewLength, lentWords, writtenAfter};
 
 // Words of a view: the ink version, then offset and count of each section.
@@ -101,25 +101,6 @@ fn put_view(found: ImageView, view: &mut [u32])
     answers::put_words(&words, view);
 }
 
-// FORMAT.md's number for an answer.
-fn number_of(loaded: Loaded) -> u32
-    ensures { λ r. ⌜ r ≡ ofLoaded loaded .number ⌝ }
-{
-    match loaded {
-        Loaded::View(_) => 0,
-        Loaded::Refused(number) => number,
-    }
-}
-
-// The number of a load without work words.
-fn load_without_words(bytes: &[u8]) -> u32
-    ensures { λ r. ⌜ r ≡ loadRule (now (bytes .entry)) 0 ⌝ }
-{
-    let mut word = [0u32; 1];
-    let none: &mut [u32] = &mut word;
-    number_of(load::load(bytes, &mut none[..0]))
-}
-
 // Loads an image and writes its view; or gives the number of the first rule broken and leaves the view as it was. A view of fewer
 // than 17 words counts as a lack of work words.
 #[no_mangle]
@@ -129,7 +110,7 @@ pub extern "C" fn story_image_load(bytes: &[u8], work: &mut [u32], view: &mut [u
     ensures written { λ r. ⌜ now (view .exit) ≡ writtenAfter r (wordsOfView (viewOf (now (bytes .entry)))) (now (view .entry)) ⌝ }
 {
     if view.len() < VIEW_WORDS {
-        return load_without_words(bytes);
+        return load::needed::load_without_words(bytes);
     }
     match load::load(bytes, work) {
         Loaded::View(found) => {

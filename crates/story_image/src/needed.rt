@@ -3,9 +3,7 @@ use crate::VIEW_WORDS;
 use draft::Needed;
 use draft::source::Source;
 use image::ImageView;
-use image::Opened;
 ghost use mathlib.Core.Path.{_≡_};
-ghost use mathlib.Core.Bool.{Bool};
 ghost use mathlib.Core.List.{[]};
 ghost use lib.ListN.{length};
 ghost use lib.Dec.{leb};
@@ -30,12 +28,7 @@ pub extern "C" fn story_image_view_whole(view: &[u32]) -> bool
 pub extern "C" fn story_image_load_words(bytes: &[u8]) -> usize
     ensures { λ r. ⌜ r ≡ wordsToLoad (now (bytes .entry)) ⌝ }
 {
-    match ImageView::new(bytes) {
-        Opened::Refused(_) => 0,
-        Opened::View(view) => {
-            view.nodes.count as usize + view.children.count as usize + view.named.count as usize + 1
-        }
-    }
+    load::needed::load_words(bytes)
 }
 
 // Work words that suffice to write a draft: 16 a node, 4 for each other entry and payload byte; or the largest size, where that is less.

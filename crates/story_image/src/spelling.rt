@@ -1,17 +1,15 @@
 // Texts of commands and operators, by number.
-use image::refusal::NO_ROOM;
 use image::refusal::NOT_FOUND;
 use names::Name;
 use names::control_command::Command;
 use names::native_function_call::Operator;
-use words::output::put_bytes;
 ghost use mathlib.Core.Option.{some};
 ghost use Prim.Native.Nat.{_≤_};
 ghost use mathlib.Core.Path.{_≡_};
 ghost use lib.ListN.{length};
 ghost use Rattle.names.specs.Names.{commands, operators};
 ghost use Rattle.names.specs.Spelling.{spelled, elementAt};
-ghost use Rattle.story_image.specs.Spelling.{Spelled};
+ghost use Rattle.answers.specs.Lent.{Spelled};
 
 // Writes a name at the start of the text and its length as the first of the words that are lent for it.
 fn put_name(name: Name, text: &mut [u8], size: &mut [u32]) -> u32
@@ -20,15 +18,7 @@ fn put_name(name: Name, text: &mut [u8], size: &mut [u32]) -> u32
 {
     let len = name.len;
     let bytes = name.bytes;
-    if size.len() < 1 {
-        return NO_ROOM;
-    }
-    if text.len() < len {
-        return NO_ROOM;
-    }
-    put_bytes(&bytes[..len], text);
-    size[0] = len as u32;
-    0
+    answers::put_text_copy(&bytes[..len], len as u32, text, size)
 }
 
 // The text of a command's number, as a node's view gives it.

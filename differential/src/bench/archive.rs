@@ -1,16 +1,25 @@
-//! The size of the static library, and its largest stack frame, as `size` and `objdump` tell them.
+//! The size of the static libraries, and their largest stack frames, as `size` and `objdump` tell them.
 
+use std::path::Path;
 use std::process::Command;
 
-/// Prints both.
+/// Prints both of each library that is there.
 pub fn run() {
     let Some(folder) = std::env::var_os("STORY_IMAGE_LIBRARY") else {
         return;
     };
-    let archive = std::path::Path::new(&folder).join("libstory_image.a");
-    println!("the static library");
+    for (name, file) in [("the static library", "libstory_image.a"), ("the sleeper's", "libsleeper_image.a")] {
+        let archive = Path::new(&folder).join(file);
+        if archive.exists() {
+            println!("{name}");
+            tell(&archive);
+        }
+    }
+}
+
+fn tell(archive: &Path) {
     let told = |words: &[&str]| -> Option<String> {
-        let output = Command::new(words[0]).args(&words[1..]).arg(&archive).output().ok()?;
+        let output = Command::new(words[0]).args(&words[1..]).arg(archive).output().ok()?;
         output.status.success().then(|| String::from_utf8_lossy(&output.stdout).into_owned())
     };
     let size = told(&["size"]).and_then(|text| sizes(&text));

@@ -1,7 +1,7 @@
 //! What the benchmark is held to, one table. A quick path that is never taken gives the same answers, so its goal lies
 //! between the time with it and the time without.
 
-use super::{Line, PAGES};
+use super::{Line, PAGES, SLEEPER};
 
 /// How much of the other side's time a line may take, by the median of its ratios.
 struct Goal {
@@ -16,10 +16,12 @@ struct Goal {
 const ANY: &str = "";
 const WITH_PATHS: &str = "200,000 mixed nodes with paths";
 
-const ALL: [Goal; 12] = [
+const ALL: [Goal; 14] = [
     goal("chain of 5,000 containers", "load", 0.10, "an index text begins with its parent's (index::extends)"),
     goal("lapped chain of 20,000 containers", "load", 0.01, "the same, at one offset (index::extends)"),
     goal("sixty definitions of twenty items", "in the last", 0.2, "the last definition is searched first"),
+    goal(ANY, "sleeper's views", 1.2, "words straight from the record (sleeper::node_words)"),
+    goal(ANY, "sleeper's tags", 1.4, "a note is told by five bytes, without a call (notes::is_note)"),
     goal(ANY, "page, any nodes", 0.7, "one call for forty nodes"),
     goal(ANY, "page, in a row", 0.7, "one call for forty nodes"),
     goal(WITH_PATHS, "resolve targets", 1.0, "tests and walks together"),
@@ -44,6 +46,7 @@ impl Goal {
     fn is_asked(&self, words: &str) -> bool {
         match words {
             PAGES => self.line.starts_with("page"),
+            SLEEPER => self.line.starts_with("sleeper"),
             "" => true,
             _ => self.input.contains(words),
         }
@@ -114,5 +117,6 @@ mod tests {
             assert!(held(&lines, ""), "{} is not measured", goal.line);
         }
         assert!(held(&[line("1 MB of random UTF-8", "page, any nodes", Some(0.71))], PAGES));
+        assert!(held(&[line("1 MB of random UTF-8", "sleeper's views", Some(1.21))], SLEEPER) && held(&[], SLEEPER));
     }
 }

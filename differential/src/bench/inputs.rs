@@ -131,7 +131,7 @@ fn loaded(name: &'static str, parts: Parts) -> Input {
     Input { name, image, draft: None, asked: false, walks: vec![], look_ups: vec![] }
 }
 
-fn image_of(name: &str, draft: &Draft) -> Vec<u8> {
+pub fn image_of(name: &str, draft: &Draft) -> Vec<u8> {
     match reference::write(21, draft) {
         Written::Image(image) if path_index::row(&image) == 0 => image,
         _ => panic!("{name}: a sound draft"),

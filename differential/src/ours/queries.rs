@@ -162,6 +162,10 @@ impl Queries for Ours {
         asked(bytes, view).list_origin(list(place_of), index).map(place)
     }
 
+    fn list_counts(&self, bytes: &[u8], view: &View, node: u32) -> Option<[u32; 2]> {
+        asked(bytes, view).list_counts(node).map(|counts| [counts.items, counts.origins])
+    }
+
     fn definition_count(&self, bytes: &[u8], view: &View) -> Option<u32> {
         asked(bytes, view).definition_count()
     }

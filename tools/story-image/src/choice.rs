@@ -4,7 +4,7 @@
 //! which is said again when the choice is taken (flag 2), then that of the choice alone (flag 4), then perhaps a
 //! condition; `/ev` stands in front of the choice. The first is often a container by itself, and a divert leads to it.
 
-use inspect::library::{Image, Kind};
+use inspect::library::{Image, Kind, Reader};
 
 const START_CONTENT: i32 = 2;
 const CHOICE_ONLY_CONTENT: i32 = 4;

@@ -24,7 +24,7 @@ pub struct Command {
 pub const COMMANDS: &[Command] = &[
     command("check", "[FILE..]", "a line for each image: `ok V N` (ink version, nodes) or `no K`", check::MORE, check::run),
     command("explain", "[FILE..]", "what a load says in words, and where the first broken rule stands", explain::MORE, explain::run),
-    command("tree", "[-o OUT] [FILE..]", "the nodes of an accepted image as an indented tree", tree::MORE, tree::run),
+    command("tree", "[--sleeper] [-o OUT] [FILE..]", "the nodes of an accepted image as an indented tree", tree::MORE, tree::run),
     command("json", "[-o OUT] [FILE..]", "what explain and tree say for programs, one JSON object a line", json::MORE, json::run),
     command("graph", "[--all] [-o OUT] [FILE..]", "containers and what leads from one to another, for Graphviz", graph::MORE, graph::run),
     command("help", "[COMMAND]", "this, or what there is to say of a command", help::MORE, help::run),

@@ -1,6 +1,6 @@
 //! Depths of many nodes.
 
-use inspect::library::Image;
+use inspect::library::Reader;
 
 /// The library counts a node's depth step by step. So many steps are spent on an image; of its other nodes the depth is
 /// one more than the parent's, so that an image of many deep nodes is shown as soon as another.
@@ -12,18 +12,18 @@ pub struct Depths {
 }
 
 impl Depths {
-    pub fn new(image: &Image<'_>) -> Depths {
+    pub fn new(image: &impl Reader) -> Depths {
         Depths::with_steps(image, STEPS)
     }
 
-    pub fn with_steps(image: &Image<'_>, left: u64) -> Depths {
+    pub fn with_steps(image: &impl Reader, left: u64) -> Depths {
         let mut known = vec![None; image.node_count() as usize];
         known[0] = image.depth(0);
         Depths { known, left }
     }
 
     /// The number of parent steps from a node to node 0.
-    pub fn of(&mut self, image: &Image<'_>, node: u32) -> Option<u32> {
+    pub fn of(&mut self, image: &impl Reader, node: u32) -> Option<u32> {
         if self.left == 0 {
             return self.by_parent(image, node);
         }
@@ -34,7 +34,7 @@ impl Depths {
     }
 
     /// Up to the next node whose depth is known, and down again.
-    fn by_parent(&mut self, image: &Image<'_>, node: u32) -> Option<u32> {
+    fn by_parent(&mut self, image: &impl Reader, node: u32) -> Option<u32> {
         let (mut way, mut top) = (vec![], node);
         let mut depth = loop {
             match self.known[top as usize] {

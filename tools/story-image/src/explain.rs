@@ -3,7 +3,7 @@
 use crate::call::Call;
 use crate::each::{Manner, Shown, each};
 use crate::end::{Fault, Status, caller};
-use inspect::library::{self, Image};
+use inspect::library::{self, Image, Reader};
 use inspect::rules::{Broken, first_broken};
 use std::io::{self, Write};
 

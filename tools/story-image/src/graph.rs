@@ -5,7 +5,7 @@ use crate::choice;
 use crate::each::{Manner, Shown, each};
 use crate::end::{Fault, Status};
 use crate::explain;
-use inspect::library::{By, Image, Kind};
+use inspect::library::{By, Image, Kind, Reader};
 use std::collections::HashMap;
 use std::io::{self, Write};
 

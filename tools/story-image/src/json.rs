@@ -5,7 +5,7 @@ use crate::depths::Depths;
 use crate::each::{Manner, Shown, each};
 use crate::end::{Fault, Status};
 use crate::explain::{answer, broken};
-use inspect::library::{self, Definition, Divert, Image, Kind, List};
+use inspect::library::{self, Definition, Divert, Image, Kind, List, Reader};
 use std::io::{self, Write};
 
 pub const MORE: &str = "\

@@ -1,5 +1,5 @@
 -- `story_image::put_view` meets its contract.
-use Rattle.story_image.proofs.Loads.{view-put}
+use Rattle.answers.proofs.LentSlices.{words-put}
 use borrow.Author.Needs.{needs}
 use Rattle.story_image.proofs.put_view.Statement.{statement}
 use Rattle.story_image.proofs.put_view.Tie as tie
@@ -17,7 +17,7 @@ same-length : tie.Need-same-length
 same-length c = search needs
 
 returns : tie.Need-returns
-returns c = search (needs, view-put)
+returns c = search (needs, words-put)
 
 pub put-view-spec : {M : Type 1} → statement M
 put-view-spec =

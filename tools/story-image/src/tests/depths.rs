@@ -3,7 +3,7 @@
 use super::{sample, written};
 use crate::depths::Depths;
 use crate::{json, tree};
-use inspect::library;
+use inspect::library::{self, Reader};
 use story_image::{DraftBuilder, NodeKind};
 
 /// Containers, each in the one before: node k has depth k. Every other one is only a named child.

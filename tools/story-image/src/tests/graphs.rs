@@ -2,7 +2,7 @@
 
 use super::{sample, written};
 use crate::graph;
-use inspect::library;
+use inspect::library::{self, Reader};
 use story_image::{CommandType, DraftBuilder, NodeKind, PushPopType};
 
 fn graph(bytes: &[u8], all: bool) -> Vec<String> {

@@ -5,8 +5,9 @@ use lib.ListN.{getD}
 use Rattle.names.specs.Names.{commands}
 use Rattle.names.specs.ControlCommand.{commandNumber, knownCommand}
 use Rattle.names.proofs.Commands.{commandsNumbered, below}
+use Rattle.answers.proofs.LentSlices.{unspelled, spelled-as}
 use borrow.Author.Needs.{needs}
-use Rattle.story_image.proofs.NameTexts.{unspelled, spelled-as, name-fits, command-short, command-count, past-names, some-kind, kind-spelled}
+use Rattle.story_image.proofs.NameTexts.{name-fits, command-short, command-count, past-names, some-kind, kind-spelled}
 use Rattle.story_image.proofs.spelling.story_image_command_name.Statement.{statement}
 use Rattle.story_image.proofs.spelling.story_image_command_name.Tie as tie
 

@@ -5,8 +5,9 @@ use lib.ListN.{getD}
 use Rattle.names.specs.Names.{operators}
 use Rattle.names.specs.NativeFunctionCall.{operatorNumber, knownOperator}
 use Rattle.names.proofs.Operators.{operatorsNumbered, below}
+use Rattle.answers.proofs.LentSlices.{unspelled, spelled-as}
 use borrow.Author.Needs.{needs}
-use Rattle.story_image.proofs.NameTexts.{unspelled, spelled-as, name-fits, operator-short, operator-count, past-names, some-kind, kind-spelled}
+use Rattle.story_image.proofs.NameTexts.{name-fits, operator-short, operator-count, past-names, some-kind, kind-spelled}
 use Rattle.story_image.proofs.spelling.story_image_operator_name.Statement.{statement}
 use Rattle.story_image.proofs.spelling.story_image_operator_name.Tie as tie
 
