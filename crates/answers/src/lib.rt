@@ -1,6 +1,8 @@
 // Answers of queries in the words that C and Rust are given. NONE and 0 stand for what is not there. A function `put_..` writes an
 // answer's words at the start of a lent slice and returns 0; where there is no answer, or the slice is too short, it returns 18 and
 // leaves the slice as it was.
+#![tactic(auto)]
+
 pub mod node; // node.rt: a node's view
 pub mod view_words; // view_words.rt: a node's view, as it is answered
 pub mod lists; // lists.rt: list values, definitions, items

@@ -17,7 +17,7 @@ use views::entries::RecordFound;
 use views::{DefinitionAnswer, DefinitionView, EntryAnswer, ItemAnswer, ItemView, ListEntry, Span};
 
 // The place of a list value in the payload, where the node is one.
-#[derive(Drop)]
+#[derive(Clone, Copy)]
 pub enum ListPlace {
     List(Span),
     NotFound,

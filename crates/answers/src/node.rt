@@ -20,7 +20,7 @@ use views::{OptionalText, Span};
 pub const NODE_VIEW_WORDS: usize = 10;
 
 // The words of a node's view from the third on.
-#[derive(Drop)]
+#[derive(Clone, Copy)]
 pub struct KindWords {
     pub tag: u32,
     pub text: Span,
@@ -30,7 +30,7 @@ pub struct KindWords {
     pub flags: u32,
 }
 
-#[derive(Drop)]
+#[derive(Clone, Copy)]
 pub enum KindFound {
     Kind(KindWords),
     NotFound,

@@ -1,5 +1,7 @@
 // The checksum of an image: CRC-32 of every byte except its own four. A table of 256 words takes byte after byte; from LANES_FROM bytes on
 // four lanes take four bytes each, by four further tables. A table that is indexed in a loop has to be a local: they take about 5 KB of stack.
+#![tactic(auto)]
+
 ghost use Rattle.std.specs.Prelude.{◌≡◌, [], ◌∷◌, ◌+◌, ◌≤◌, min, length, take, drop};
 ghost use Rattle.std.specs.Int.Bits.{bit_xor};
 ghost use Rattle.checksum.specs.Crc.{shifts, crc_table, byte_step, crc_from, crc32, checksum_of};

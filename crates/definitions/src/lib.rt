@@ -1,4 +1,6 @@
 // List definitions and their items.
+#![tactic(auto)]
+
 ghost use Rattle.std.specs.Prelude.{◌≡◌, [], ◌+◌, ◌*◌, ◌≤◌, length};
 ghost use Rattle.laws.specs.Refusal.{first_of};
 ghost use Rattle.image.specs.Sections.{text_entry_size, definition_size};

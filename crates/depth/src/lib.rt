@@ -1,4 +1,6 @@
 // How deep a node lies: the number of parent steps from it to node 0.
+#![tactic(auto)]
+
 ghost use Rattle.std.specs.Prelude.{◌≡◌};
 ghost use Rattle.image.specs.Header.{sections_by};
 ghost use Rattle.depth.specs.Depth.{depth_of};

@@ -5,7 +5,7 @@
 // each of the first `texts` uses (offset and length in the draft's strings); from `paths` on, counted from `at`, a node for each path; from
 // `lengths` on, counted from `at`, two words for each node (the length of its path, low first). From `order` on stand the draft's numbers of
 // the image's nodes, from `new` on the image's numbers of the draft's nodes. What is not known yet is 0.
-#[derive(Drop)]
+#[derive(Clone, Copy)]
 pub struct Layout {
     pub at: usize,
     pub texts: usize,

@@ -1,4 +1,6 @@
 // A draft: how its entries are read out of word slices, the work words that it needs, and its rules 19 and 21.
+#![tactic(auto)]
+
 pub mod source; // source.rt: a draft's words and entries
 pub mod tables; // tables.rt: row 19
 pub mod shape; // shape.rt: row 21
@@ -13,7 +15,7 @@ use crate::source::Source;
 use image::{EntryCounts, ImageView};
 
 // How many work words a draft needs, or that they are more than are lent.
-#[derive(Drop)]
+#[derive(Clone, Copy)]
 pub enum Needed {
     Words(usize),
     TooMany,

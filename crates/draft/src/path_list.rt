@@ -18,7 +18,7 @@ const WINDOW_NODES: usize = 32768;
 pub const WINDOW_WORDS: usize = 1024;
 
 // An entry of the list: the node whose path it is, 0 for an absolute path or 1 for a relative one, the first component, how many components.
-#[derive(Drop)]
+#[derive(Clone, Copy)]
 pub struct PathEntry {
     pub node: u32,
     pub relative: u32,
@@ -27,7 +27,7 @@ pub struct PathEntry {
 }
 
 // Whether the nodes of the entries rise; if they do, the first entry that is not of an earlier node.
-#[derive(Drop)]
+#[derive(Clone, Copy)]
 pub struct Hint {
     pub rises: bool,
     pub next: usize,

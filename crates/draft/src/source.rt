@@ -9,7 +9,7 @@ ghost use Rattle.draft.specs.Source.{draft_of, word_of, path_node};
 use image::{Definition, ImageView, NodeRecord, TextEntry};
 
 // How the words of a draft are to be read: the format version decides how many of them a node has.
-#[derive(Drop)]
+#[derive(Clone, Copy)]
 pub struct Source {
     pub version: u32,
 }
@@ -60,7 +60,7 @@ pub fn word_of(nodes: &[u32], n: u32, k: usize, source: Source) -> u32
 }
 
 // What a path needs of a node: its parent, its place and its name.
-#[derive(Drop)]
+#[derive(Clone, Copy)]
 pub struct PathNode {
     pub parent: u32,
     pub place: u32,

@@ -1,1 +1,3 @@
 // The writer: the image that a draft becomes.
+
+#![tactic(auto)]

@@ -1,6 +1,8 @@
 // Whether the nodes of a draft stand in a tree, told without a walk from the root: every container's entries are right, every node but the root is
 // an entry, and parents lead to the root. A draft keeps 20 and 21 exactly if it stands, with its definitions in order. All is read in the order of
 // the tables, but for the nodes of entries and of parents.
+#![tactic(auto)]
+
 pub mod listed; // listed.rt: nodes that are entries, by marks in work words
 pub mod rooted; // rooted.rt: whether parents lead from every container to the root
 

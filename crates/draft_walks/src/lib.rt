@@ -1,4 +1,6 @@
 // Walks along a path over a draft's words. A component is lent in three words, as for a walk over an image.
+#![tactic(auto)]
+
 ghost use Rattle.std.specs.Prelude.{◌≡◌, List, ℕ, ◌+◌, ◌/◌, ◌≤◌, length, drop};
 ghost use Rattle.image.specs.Sections.{text_entry_words};
 ghost use Rattle.views.specs.declared.Found.TheVariants.{Node};
@@ -18,7 +20,7 @@ use views::entries::RecordFound;
 use walks::{COMPONENT_WORDS, INDEX, NAME, PARENT};
 
 // Where a walk begins: at a node, along the words of the path from there on.
-#[derive(Drop)]
+#[derive(Clone, Copy)]
 enum Start {
     Nowhere,
     At(u32, usize),

@@ -1,4 +1,6 @@
 // The slices of a recorded draft, out of the bytes of its record.
+#![tactic(auto)]
+
 ghost use Rattle.std.specs.Prelude.{◌≡◌, length, take, drop};
 ghost use Rattle.draft_words.specs.Slices.{BeginWith, lengths_in, behind_words, behind_nodes, behind_children, behind_named, behind_definitions, behind_items};
 
@@ -41,7 +43,7 @@ pub fn read_words(bytes: &[u8], to: &mut [u32])
 }
 
 // How long a recorded draft's slices are: tables in words, payload and strings in bytes.
-#[derive(Drop)]
+#[derive(Clone, Copy)]
 pub struct Lengths {
     pub nodes: u32,
     pub children: u32,

@@ -3,14 +3,14 @@ use crate::{DRAFT_AT, print_changes, print_line, print_number};
 use draft_words::{after, read_words};
 
 // How many words of a summary are lent, and how many calls there are.
-#[derive(Drop)]
+#[derive(Clone, Copy)]
 pub struct CallLengths {
     pub summary: u32,
     pub calls: u32,
 }
 
 // A call: of kind 0 it counts targets, of any other it sets the target of the node.
-#[derive(Drop)]
+#[derive(Clone, Copy)]
 struct Call {
     kind: u32,
     node: u32,

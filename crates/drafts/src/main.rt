@@ -5,6 +5,8 @@
 // targets, every node word that has changed, and how many of the lent work words are 0; or of each call, on a line of its own, the number,
 // every node word that has changed since the record was read, and the summary; then, of writing the draft, the number, the
 // length that was written or with 23 is needed, the CRC-32 of the lent output and how many of the lent work words are 0.
+#![tactic(auto)]
+
 ghost use Rattle.std.specs.Prelude.{◌≤◌};
 
 use calls::CallLengths;
@@ -16,7 +18,7 @@ use writer::Encoded;
 mod calls; // calls.rt: targets counted and changed
 
 // What a record begins with, before the lengths of its slices: the ink version, and what is lent.
-#[derive(Drop)]
+#[derive(Clone, Copy)]
 struct Head {
     ink: u32,
     out: u32,
@@ -24,7 +26,7 @@ struct Head {
 }
 
 // How long the slices of the list of paths are: paths and components in words, names in bytes.
-#[derive(Drop)]
+#[derive(Clone, Copy)]
 struct ListLengths {
     paths: u32,
     components: u32,

@@ -1,4 +1,6 @@
 // A story image: its header, the sections that the header bounds, and how records are read out of them.
+#![tactic(auto)]
+
 ghost use Rattle.std.specs.Prelude.{◌≡◌, true, ◌+◌, ◌*◌, ◌/◌, ◌≤◌, ◌<◌, length, get_or};
 ghost use Rattle.words.specs.Words.{words_of};
 ghost use Rattle.image.specs.Sections.{node_words, node_size, text_entry_size, definition_size};
@@ -14,14 +16,14 @@ pub mod refusal;
 pub mod tag;
 
 // Where a section begins, in bytes, and how many entries it has.
-#[derive(Drop)]
+#[derive(Clone, Copy)]
 pub struct Section {
     pub offset: u32,
     pub count: u32,
 }
 
 // How many entries each section has; of payload and strings, bytes.
-#[derive(Drop)]
+#[derive(Clone, Copy)]
 pub struct EntryCounts {
     pub nodes: usize,
     pub children: usize,
@@ -34,7 +36,7 @@ pub struct EntryCounts {
 }
 
 // What the header of an image says: the format version, the ink version and the eight sections.
-#[derive(Drop)]
+#[derive(Clone, Copy)]
 pub struct ImageView {
     pub version: u32,
     pub ink_version: u32,
@@ -49,7 +51,7 @@ pub struct ImageView {
 }
 
 // What a constructor of a view answers: the view, or the number of the row of refusals that the header falls under.
-#[derive(Drop)]
+#[derive(Clone, Copy)]
 pub enum Opened {
     View(ImageView),
     Refused(u32),
@@ -125,7 +127,7 @@ impl ImageView {
 }
 
 // The words of a node.
-#[derive(Drop)]
+#[derive(Clone, Copy)]
 pub struct NodeRecord {
     pub parent: u32,
     pub place: u32,
@@ -163,7 +165,7 @@ impl NodeRecord {
 }
 
 // An entry of three words: a text, and the node of a named or index entry or the value of an item.
-#[derive(Drop)]
+#[derive(Clone, Copy)]
 pub struct TextEntry {
     pub offset: u32,
     pub len: u32,
@@ -171,7 +173,7 @@ pub struct TextEntry {
 }
 
 // A definition: its text, its first item and how many items it has.
-#[derive(Drop)]
+#[derive(Clone, Copy)]
 pub struct Definition {
     pub offset: u32,
     pub len: u32,

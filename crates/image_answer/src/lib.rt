@@ -1,4 +1,6 @@
 // What the program image_check says of an image, and the line that it prints. All but the read and the write is proved.
+#![tactic(auto)]
+
 ghost use Rattle.std.specs.Prelude.{◌≡◌, ◌+◌, ◌≤◌, length};
 ghost use Rattle.words.specs.Output.{over};
 ghost use Rattle.texts.specs.Decimal.{decimal};
@@ -11,7 +13,7 @@ use texts::{decimal_len, put_decimal};
 // The longest image that is read, in bytes.
 const LIMIT: usize = 65536;
 
-#[derive(Drop)]
+#[derive(Clone, Copy)]
 pub enum Answer {
     Accepted(u32, u32),
     Refused(u32),

@@ -1,4 +1,6 @@
 // Canonical paths and the path index.
+#![tactic(auto)]
+
 ghost use Rattle.std.specs.Prelude.{◌≡◌, [], ℕ, ◌+◌, ◌*◌, ◌≤◌, ◌<◌, length, drop};
 ghost use Rattle.texts.specs.Text.{same};
 ghost use Rattle.words.specs.Words.{words_of};
@@ -16,7 +18,7 @@ use image::{ImageView, NodeRecord, TextEntry, order, refusal};
 const WORD_VALUES: usize = 4294967296;
 
 // What a path needs of a node: its parent, its place and its name.
-#[derive(Drop)]
+#[derive(Clone, Copy)]
 struct PathNode {
     parent: u32,
     place: u32,

@@ -1,4 +1,6 @@
 // The leaves, exported for the benchmark, which measures each by itself.
+#![tactic(auto)]
+
 ghost use Rattle.std.specs.Prelude.{◌≡◌};
 ghost use Rattle.checksum.specs.Crc.{crc32};
 ghost use Rattle.texts.specs.Text.{before, same};

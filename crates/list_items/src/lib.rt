@@ -1,4 +1,6 @@
 // A list item by name: definitions are searched from the last to the first, the items of each by halving.
+#![tactic(auto)]
+
 ghost use Rattle.std.specs.Prelude.{◌≡◌, [], ◌+◌, ◌/◌, ◌≤◌, length};
 ghost use Rattle.image.specs.Header.{sections_by};
 ghost use Rattle.image.specs.Sections.{definition_size};
@@ -12,7 +14,7 @@ use texts::Order;
 use views::view::signed_of;
 
 // What a search answers, and how many definitions' items it searched.
-#[derive(Drop)]
+#[derive(Clone, Copy)]
 pub struct ItemSearch {
     pub answer: ListItemAnswer,
     pub searched: u32,

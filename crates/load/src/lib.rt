@@ -1,4 +1,6 @@
 // The load of an image: its view, or the number of the first rule broken.
+#![tactic(auto)]
+
 mod nodes; // nodes.rt: rows 8 to 13, node by node
 pub mod needed; // needed.rt: how many work words a load needs, and its number without any
 
@@ -14,7 +16,7 @@ use image::refusal::{BAD_CHECKSUM, TOO_FEW_WORDS};
 use image::{ImageView, Opened};
 
 // An image that breaks no rule, by the view that its header gives; or the number of the first rule broken.
-#[derive(Drop)]
+#[derive(Clone, Copy)]
 pub enum Loaded {
     View(ImageView),
     Refused(u32),

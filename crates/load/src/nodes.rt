@@ -12,7 +12,7 @@ use image::{EntryCounts, ImageView, NodeRecord};
 use records::Sums;
 
 // What the nodes give: the sums of their counts, or the first refusal.
-#[derive(Drop)]
+#[derive(Clone, Copy)]
 pub enum Nodes {
     Passed(Sums),
     Refused(u32),

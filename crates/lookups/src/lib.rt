@@ -1,5 +1,7 @@
 // Named children by name, and what a look-up of a list item answers (list_items has the search). Texts rise, so each range of entries is
 // halved.
+#![tactic(auto)]
+
 ghost use Rattle.std.specs.Prelude.{◌≡◌, ◌+◌, ◌*◌, ◌/◌, ◌≤◌, ◌<◌, length};
 ghost use Rattle.words.specs.Words.{words_of};
 ghost use Rattle.image.specs.Header.{sections_by};
@@ -12,21 +14,21 @@ use views::Found;
 use views::entries::{RecordFound, container_of};
 
 // An item found by name: its definition, which is its origin, its number among all items, and its value.
-#[derive(Drop)]
+#[derive(Clone, Copy)]
 pub struct ListItem {
     pub definition: usize,
     pub item: usize,
     pub value: i32,
 }
 
-#[derive(Drop)]
+#[derive(Clone, Copy)]
 pub enum ListItemAnswer {
     Item(ListItem),
     NotFound,
 }
 
 // A place among the entries of a container, or among definitions.
-#[derive(Drop)]
+#[derive(Clone, Copy)]
 pub enum Place {
     At(usize),
     Nowhere,

@@ -7,7 +7,7 @@ ghost use Rattle.names.specs.ControlCommand.{command_number, command_types, know
 
 use crate::{Name, Number, hash, is_name_in, name_in, wide};
 
-#[derive(Drop)]
+#[derive(Clone, Copy)]
 pub enum CommandType {
     EvalStart,
     EvalOutput,
@@ -38,7 +38,7 @@ pub enum CommandType {
 }
 
 // The command of a text or a number, where there is one.
-#[derive(Drop)]
+#[derive(Clone, Copy)]
 pub enum Command {
     Known(CommandType),
     Unknown,

@@ -1,4 +1,6 @@
 // The names of 26 commands and 31 operators.
+#![tactic(auto)]
+
 pub mod control_command; // control_command.rt: the commands
 pub mod native_function_call; // native_function_call.rt: the operators
 
@@ -7,14 +9,14 @@ ghost use Rattle.texts.specs.Text.{same};
 ghost use Rattle.names.specs.Spelling.{name_of, hash_of};
 
 // A name's bytes, with zeros behind them.
-#[derive(Drop)]
+#[derive(Clone, Copy)]
 pub struct Name {
     pub len: usize,
     pub bytes: [u8; 11],
 }
 
 // The number of a text, where it is a known name.
-#[derive(Drop)]
+#[derive(Clone, Copy)]
 pub enum Number {
     Known(u8),
     Unknown,

@@ -7,7 +7,7 @@ ghost use Rattle.names.specs.NativeFunctionCall.{operator_number, ops, known_ope
 
 use crate::{Name, Number, hash, is_name_in, name_in, wide};
 
-#[derive(Drop)]
+#[derive(Clone, Copy)]
 pub enum Op {
     Add,
     Subtract,
@@ -43,7 +43,7 @@ pub enum Op {
 }
 
 // The operator of a text or a number, where there is one.
-#[derive(Drop)]
+#[derive(Clone, Copy)]
 pub enum Operator {
     Known(Op),
     Unknown,

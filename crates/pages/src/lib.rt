@@ -1,4 +1,6 @@
 // A page of nodes: many nodes in one call, in slots of twelve words, and the view of a slot's words.
+#![tactic(auto)]
+
 mod viewed; // viewed.rt: whether a record has a view
 
 ghost use Rattle.std.specs.Prelude.{◌≡◌, ◌≤◌, ◌++◌, length, drop};

@@ -7,6 +7,8 @@
 // are asked by both readers: they differ only in what notes to the technician hold, in where texts lie and in their lengths. Targets are counted of
 // the one with forty nodes, of the one with the named child, and of the last two: one with each kind of target, and that one with a target that
 // is no node.
+#![tactic(auto)]
+
 ghost use Rattle.std.specs.Prelude.{◌≤◌};
 
 use image::{ImageView, Opened, Section};

@@ -1,4 +1,6 @@
 // The record rules, over a record by value: load and writer use the same functions.
+#![tactic(auto)]
+
 mod list; // list.rt: a list's payload
 
 ghost use Rattle.std.specs.Prelude.{◌≡◌, true, ◌||◌, ◌<◌, leb};
@@ -19,7 +21,7 @@ use image::{EntryCounts, NONE, NodeRecord, is_inside, tag};
 use names::Number;
 
 // Sums over the nodes before a node: ordered children, named children, bytes of payload, containers.
-#[derive(Drop)]
+#[derive(Clone, Copy)]
 pub struct Sums {
     pub children: usize,
     pub named: usize,

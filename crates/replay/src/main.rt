@@ -1,6 +1,8 @@
 // Runs a sample of the published Rust's answers through the library. Standard input holds the records, in the form that README.md says.
 // A line is printed for each record that the library answers otherwise, then how many of each kind agree, and the sums. Some records are
 // wrong on purpose: a comparison that compared nothing would leave their lines out.
+#![tactic(auto)]
+
 mod compare; // compare.rt: answers against recorded words
 mod drafts; // drafts.rt: drafts and the images they become
 mod loads; // loads.rt: images, whole and damaged
@@ -19,7 +21,7 @@ const FORM: u32 = 1;
 const IMAGE: u32 = 1;
 
 // Where the run is: the next record, the image that it speaks of, and how many records agreed and differed.
-#[derive(Drop)]
+#[derive(Clone, Copy)]
 struct Run {
     at: u32,
     image: Section,

@@ -1,5 +1,7 @@
 // Runs the load on the small example of each of FORMAT.md's rows 1 to 17, and on the examples at the edges. Standard input holds
 // records: words of work lent, length of the image, the image's bytes. A line is printed for each: its place, and the answer.
+#![tactic(auto)]
+
 use image::Section;
 use libc::{STDIN_FILENO, STDOUT_FILENO};
 use load::Loaded;

@@ -1,4 +1,6 @@
 // A line for each image of samples/, which the arguments name: its name, and the line that image_check prints of it.
+#![tactic(auto)]
+
 use libc::STDOUT_FILENO;
 
 fn print(text: &[u8]) {

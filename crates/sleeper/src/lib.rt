@@ -1,5 +1,7 @@
 // The sleeper's reader: what the technician's shows, with notes to the technician as void, and texts as bytes, never as offsets. Its view of
 // an image holds no place; a query takes bytes and such a view and answers on any of them.
+#![tactic(auto)]
+
 pub mod view; // view.rt: the view of a node
 pub mod node_words; // node_words.rt: the view of a node in words
 pub mod text; // text.rt: texts as bytes
@@ -22,7 +24,7 @@ use views::{OptionalWord, PushPopType};
 
 // What the sleeper's reader keeps of a header: the versions, and how many entries each section has, of the payload bytes. It holds no place,
 // and not the strings' length, which is one of the three that only the technician's reader tells.
-#[derive(Drop)]
+#[derive(Clone, Copy)]
 pub struct SleeperView {
     pub version: u32,
     pub ink_version: u32,
@@ -36,14 +38,14 @@ pub struct SleeperView {
 }
 
 // As `load::Loaded`.
-#[derive(Drop)]
+#[derive(Clone, Copy)]
 pub enum SleeperLoaded {
     View(SleeperView),
     Refused(u32),
 }
 
 // As `views::ValueView`, without the places of texts and payload.
-#[derive(Drop)]
+#[derive(Clone, Copy)]
 pub enum SleeperValue {
     Bool(bool),
     Int(i32),
@@ -55,7 +57,7 @@ pub enum SleeperValue {
 }
 
 // As `views::NodeKindView`, with whether an optional text is there.
-#[derive(Drop)]
+#[derive(Clone, Copy)]
 pub enum SleeperKind {
     Container {
         count_flags: i32,
@@ -90,34 +92,34 @@ pub enum SleeperKind {
     Void,
 }
 
-#[derive(Drop)]
+#[derive(Clone, Copy)]
 pub struct SleeperNode {
     pub parent: OptionalWord,
     pub child_index: OptionalWord,
     pub kind: SleeperKind,
 }
 
-#[derive(Drop)]
+#[derive(Clone, Copy)]
 pub enum SleeperAnswer {
     View(SleeperNode),
     NotFound,
 }
 
 // An entry of a list value: whether it names an origin, and its value.
-#[derive(Drop)]
+#[derive(Clone, Copy)]
 pub struct SleeperEntry {
     pub origin: bool,
     pub value: i32,
 }
 
-#[derive(Drop)]
+#[derive(Clone, Copy)]
 pub enum SleeperEntryAnswer {
     Entry(SleeperEntry),
     NotFound,
 }
 
 // An item's value.
-#[derive(Drop)]
+#[derive(Clone, Copy)]
 pub enum SleeperItemAnswer {
     Item(i32),
     NotFound,
@@ -125,7 +127,7 @@ pub enum SleeperItemAnswer {
 
 // Which text: a node's (name, path or text), the variable of a divert; of a container the name of its j-th named child; of a definition, of
 // its j-th item, of item k of all; of a list value the name and the origin of its j-th item, its j-th origin.
-#[derive(Drop)]
+#[derive(Clone, Copy)]
 pub enum Which {
     Node(u32),
     Variable(u32),

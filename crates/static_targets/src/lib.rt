@@ -1,4 +1,6 @@
 // Targets found from paths: the nodes of a draft that follow a path of the list beside it get the node at its end as their target.
+#![tactic(auto)]
+
 ghost use Rattle.std.specs.Prelude.{◌≡◌, true, ◌/◌, length};
 ghost use Rattle.laws.specs.Refusal.{◌▸◌};
 ghost use Rattle.image.specs.Header.{version};

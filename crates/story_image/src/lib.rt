@@ -1,5 +1,7 @@
 // The library for C and Rust (include/story_image.h): each function on numbers and lent slices. A query returns 0 and writes its words
 // at the start of the lent answer, or returns 18 and leaves the answer as it was.
+#![tactic(auto)]
+
 pub mod node; // node.rt: a node's view, its depth, texts
 pub mod page; // page.rt: a page of nodes, the view of a slot's words
 pub mod children; // children.rt: ordered and named children

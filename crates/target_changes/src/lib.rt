@@ -1,4 +1,6 @@
 // One target of a draft changed, and the summary beside it (`target_counts`) kept right.
+#![tactic(auto)]
+
 mod steps; // steps.rt: the words of the old and the new node
 mod target_field; // target_field.rt: what may be a target, and its word
 

@@ -1,4 +1,6 @@
 // Who points at a node: how many targets name each node of an image or a draft, one word a node.
+#![tactic(auto)]
+
 mod count; // count.rt: the loops that count
 
 ghost use Rattle.std.specs.Prelude.{◌≡◌, length};

@@ -1,4 +1,6 @@
 // Rules 25 and 26: where the paths lead. The target of each node goes into the work words, nothing of the draft is written.
+#![tactic(auto)]
+
 ghost use Rattle.std.specs.Prelude.{◌≡◌, List, ℕ, ◌+◌, ◌*◌, ◌/◌, ◌≤◌, ◌<◌, length};
 ghost use Rattle.image.specs.Sections.{node_words};
 ghost use Rattle.draft.specs.Source.{draft_of};
@@ -16,7 +18,7 @@ use views::Found;
 use walks::{COMPONENT_WORDS, INDEX};
 
 // The target of a node, NONE if the node is passed over, or the number of the rule that its path breaks.
-#[derive(Drop)]
+#[derive(Clone, Copy)]
 pub enum Target {
     At(u32),
     Refused(u32),

@@ -1,4 +1,6 @@
 // The draft is written: each node for which a target was found gets it, and loses its path text, but for a divert-target value.
+#![tactic(auto)]
+
 ghost use Rattle.std.specs.Prelude.{◌≡◌, true, ◌+◌, ◌≤◌, length, get_or};
 ghost use Rattle.words.specs.Words.{NONE as none};
 ghost use Rattle.image.specs.Sections.{common_words};

@@ -1,4 +1,6 @@
 // Texts as bytes: order, equality, numbers in decimal, the first dot.
+#![tactic(auto)]
+
 ghost use Rattle.std.specs.Prelude.{◌≡◌, [], ◌∷◌, ◌++◌, ◌+◌, min, ◌<◌, ◌≤◌, eqb, length, drop, get_or};
 ghost use Rattle.laws.specs.Counted.{all_of};
 ghost use Rattle.texts.specs.Text.{order_of, before, same};
@@ -6,7 +8,7 @@ ghost use Rattle.texts.specs.Blocks.{Alike, number_from, WordAt};
 ghost use Rattle.texts.specs.Dots.{first_dot};
 ghost use Rattle.texts.specs.Decimal.{digit, decimal};
 
-#[derive(Drop)]
+#[derive(Clone, Copy)]
 pub enum Order {
     Less,
     Equal,

@@ -1,4 +1,6 @@
 // The tree: the rules of a container's entries, and the walk from the root.
+#![tactic(auto)]
+
 ghost use Rattle.std.specs.Prelude.{◌≡◌, [], ◌++◌, reverse, ℕ, ◌+◌, ◌*◌, ◌≤◌, ◌<◌, length, get_or, drop, replicate};
 ghost use Rattle.laws.specs.Counted.{all_of};
 ghost use Rattle.image.specs.Sections.{text_entry_size, node_count, child_count, named_count, f, inside_container};
@@ -124,7 +126,7 @@ fn push_named(
 }
 
 // What taking a node comes to: a refusal or 0, and the depth of the stack.
-#[derive(Drop)]
+#[derive(Clone, Copy)]
 struct Step {
     refused: u32,
     depth: usize,

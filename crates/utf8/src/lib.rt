@@ -1,5 +1,7 @@
 // Unicode's UTF-8 and White_Space. Short texts are tested sequence by sequence, long ones by blocks whose faults are gathered, which compiles
 // to vector code: a text is UTF-8 where every byte is right after the three before it and the last sequence is whole.
+#![tactic(auto)]
+
 ghost use Rattle.std.specs.Prelude.{◌≡◌, [], ◌∷◌, true, cond, ◌&&◌, ◌+◌, ◌-◌, ◌<◌, ◌≤◌, ltb, length, drop, get_or};
 ghost use Rattle.laws.specs.Counted.{all_of};
 ghost use Rattle.utf8.specs.Utf8.{◌··◌, within, rows, fits_row, size_in, utf8};

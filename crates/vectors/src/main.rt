@@ -1,4 +1,6 @@
 // Published vectors of CRC-32, UTF-8 and White_Space: one line for each, with its bytes in hexadecimal and what the code says of them.
+#![tactic(auto)]
+
 use libc::STDOUT_FILENO;
 
 fn print(text: &[u8]) {

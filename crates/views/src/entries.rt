@@ -7,21 +7,21 @@ use crate::Found;
 use image::{Definition, ImageView, NodeRecord, TextEntry, tag};
 
 // A node, if it was found.
-#[derive(Drop)]
+#[derive(Clone, Copy)]
 pub enum RecordFound {
     Record(NodeRecord),
     NotFound,
 }
 
 // A named entry or an item, if it was found.
-#[derive(Drop)]
+#[derive(Clone, Copy)]
 pub enum EntryFound {
     Entry(TextEntry),
     NotFound,
 }
 
 // A definition, if it was found.
-#[derive(Drop)]
+#[derive(Clone, Copy)]
 pub enum DefinitionFound {
     Definition(Definition),
     NotFound,

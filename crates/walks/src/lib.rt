@@ -1,5 +1,7 @@
 // Walks along a path. A component is lent as three words: its kind (0 parent, 1 index, 2 name), then the index, or offset and length of
 // the name in a lent byte slice.
+#![tactic(auto)]
+
 ghost use Rattle.std.specs.Prelude.{◌≡◌, Bool, drop};
 ghost use Rattle.image.specs.Header.{sections_by};
 ghost use Rattle.views.specs.declared.Found.TheVariants.{Node};

@@ -1,4 +1,6 @@
 // Little-endian words in bytes.
+#![tactic(auto)]
+
 pub mod output; // output.rt: words written into an output
 
 ghost use Rattle.std.specs.Prelude.{◌≡◌, ◌++◌, ◌+◌, ◌≤◌, length, take, drop};

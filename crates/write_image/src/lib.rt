@@ -1,4 +1,6 @@
 // An image written into the output: header, sections, checksum.
+#![tactic(auto)]
+
 pub mod size; // size.rt: how long an image is
 pub mod tree_part; // tree_part.rt: sections 0 to 2
 pub mod list_part; // list_part.rt: sections 3 to 5
@@ -24,7 +26,7 @@ use image::encoding::{nodes_length, put_checksum, put_header};
 use image::{EntryCounts, ImageView};
 
 // Where the sections that hold lists begin behind the header, where those that hold texts, and where they end.
-#[derive(Drop)]
+#[derive(Clone, Copy)]
 struct Places {
     lists: usize,
     texts: usize,

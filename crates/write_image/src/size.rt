@@ -8,7 +8,7 @@ use draft::source::{Source, node_words};
 use image::{EntryCounts, ImageView};
 
 // A number of bytes that a word can say, or that there are more.
-#[derive(Drop)]
+#[derive(Clone, Copy)]
 pub enum Size {
     Bytes(u32),
     TooLong,

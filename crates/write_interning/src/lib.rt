@@ -1,5 +1,7 @@
 // Interning: each text of the uses is stored once. The uses are sorted by their texts, the first use of each text is found from the sorted
 // order, and each use is given its text's offset.
+#![tactic(auto)]
+
 ghost use Rattle.std.specs.Prelude.{◌≡◌, ◌++◌, ℕ, ◌+◌, ◌-◌, ◌^◌, ◌≤◌, ◌<◌, length, take, drop};
 ghost use Rattle.laws.specs.Sorted.{isort};
 ghost use Rattle.texts.specs.Text.{by_key};
@@ -12,7 +14,7 @@ use draft::source;
 use draft::source::Source;
 
 // How long the stored texts are, or that they are too long for a word to say where each begins.
-#[derive(Drop)]
+#[derive(Clone, Copy)]
 pub enum Stored {
     Whole(usize),
     TooLong,

@@ -1,4 +1,6 @@
 // The numbering of a written image: the writer's walk over a draft, depth first in reading order.
+#![tactic(auto)]
+
 pub mod numbers; // numbers.rt: numbers of nodes in the work words
 
 ghost use Rattle.std.specs.Prelude.{◌≡◌, true, ℕ, ◌+◌, ◌*◌, ◌/◌, ◌≤◌, ◌<◌, length, get_or, drop};

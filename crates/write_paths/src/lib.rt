@@ -1,4 +1,6 @@
 // The paths of a draft's containers (rule 22): listed in the image's order, measured, and sorted by text.
+#![tactic(auto)]
+
 pub mod path_index; // path_index.rt: section 5
 
 ghost use Rattle.std.specs.Prelude.{◌≡◌, List, ◌∷◌, [], ℕ, ◌+◌, ◌/◌, ◌≤◌, ◌<◌, length, get_or};
@@ -179,7 +181,7 @@ fn sort_list(
 }
 
 // What the containers' paths come to: how many they are, in text order in the list, or rule 22.
-#[derive(Drop)]
+#[derive(Clone, Copy)]
 pub enum Indexed {
     Paths(usize),
     Refused(u32),

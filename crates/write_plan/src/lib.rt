@@ -1,5 +1,7 @@
 // What a draft's image will hold, worked out in the work words before a byte of the output is written: the numbers of the nodes, the
 // paths in text order, the offset of every text. Rules 20 to 22, and 23 where the texts alone are too long.
+#![tactic(auto)]
+
 pub mod sharing; // sharing.rt: texts that are alike, taken from one place
 
 ghost use Rattle.std.specs.Prelude.{◌≡◌, List, ℕ, ◌+◌, ◌≤◌, length};
@@ -22,7 +24,7 @@ use write_interning::Stored;
 use write_paths::Indexed;
 
 // What a plan comes to: the whole layout and the counts of the image, or the number of the first rule that the draft breaks.
-#[derive(Drop)]
+#[derive(Clone, Copy)]
 pub enum Plan {
     Ready(Layout, EntryCounts),
     Refused(u32),

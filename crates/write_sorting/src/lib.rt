@@ -1,5 +1,7 @@
 // A stable merge sort of uses by their texts, in one lent slice: the first words are sorted, those after them are worked in, and the tables
 // by which texts are compared lie behind both.
+#![tactic(auto)]
+
 ghost use Rattle.std.specs.Prelude.{◌≡◌, true, ◌≤◌, ◌<◌, ◌+◌, ◌-◌, ◌^◌, length, take, drop};
 ghost use Rattle.std.proofs.Math.Seq.{paste};
 ghost use Rattle.laws.specs.Sorted.{isort};

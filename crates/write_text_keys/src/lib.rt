@@ -1,5 +1,7 @@
 // The texts of the uses that the writer numbers: how they are compared, measured and written. A use is a text of the draft's strings, or
 // the canonical path of a container, which is read from its end and is never built.
+#![tactic(auto)]
+
 ghost use Rattle.std.specs.Prelude.{◌≡◌, List, ◌++◌, true, false, cond, ℕ, ◌+◌, ◌^◌, ◌≤◌, ◌<◌, ltb, length, get_or, drop};
 ghost use Rattle.texts.specs.Text.{before};
 ghost use Rattle.texts.specs.Decimal.{decimal};
@@ -16,7 +18,7 @@ use texts::{Order, comes_before};
 use words::output::put_bytes;
 
 // Where a text lies in the strings.
-#[derive(Drop)]
+#[derive(Clone, Copy)]
 struct Part {
     offset: u32,
     len: u32,
@@ -24,7 +26,7 @@ struct Part {
 
 // Where a text is read backward: a piece of it is a name at an offset of the strings, or a place. So many bytes of the piece are left,
 // and before them a dot and the piece of the node above.
-#[derive(Drop)]
+#[derive(Clone, Copy)]
 struct Cursor {
     named: bool,
     at: u32,

@@ -1,4 +1,6 @@
 // The texts of a draft in the order of use, as words: two a use, its offset and its length.
+#![tactic(auto)]
+
 ghost use Rattle.std.specs.Prelude.{◌≡◌, List, [], ◌∷◌, ◌++◌, ℕ, ◌+◌, ◌*◌, ◌/◌, ◌≤◌, ◌<◌, length};
 ghost use Rattle.laws.specs.Counted.{join_of};
 ghost use Rattle.image.specs.Sections.{node_words, definition_words, list_head_size, list_item_size, list_origin_size, node_count, absent, tag_of, f};

@@ -10,7 +10,7 @@ use image::{NONE, NodeRecord, tag};
 use write_numbering::numbers::new_number;
 
 // Where a node's ordered children, named children and payload start: the sums over the image's nodes before it.
-#[derive(Drop)]
+#[derive(Clone, Copy)]
 pub struct Starts {
     pub children: u32,
     pub named: u32,

@@ -1,4 +1,6 @@
 // The writer: a draft becomes an image, or the number of the first rule that it breaks.
+#![tactic(auto)]
+
 ghost use Rattle.std.specs.Prelude.{◌≡◌, length, ◌+◌, ◌*◌, ◌≤◌, true};
 ghost use Rattle.draft.specs.Source.{draft_of};
 ghost use Rattle.writer.specs.Answer.{encoded_of, fits_output, EncodeAnswered, WrittenWith};
@@ -23,7 +25,7 @@ use write_plan::Plan;
 
 // The length of the image that was written, or FORMAT.md's number. `Short` is 23 with the length that the image needs; `Refused(23)` an
 // image of more than 4294967295 bytes.
-#[derive(Drop)]
+#[derive(Clone, Copy)]
 pub enum Encoded {
     Written(u32),
     Short(u32),
