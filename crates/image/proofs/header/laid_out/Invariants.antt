@@ -1,0 +1,15 @@
+-- `image::header::laid_out_lem` meets its contract. The loop's invariant: the table is that of the definition, the sections before k are right, and the last of them ends at `end`.
+use Prim.Native.Nat.{◌-◌}
+use native.Mathlib.Omega.{arith}
+use borrow.Author.Rules.{rules}
+use Rattle.words.specs.Words.{NONE, word_at}
+use mathlib.Core.Path.{◌≡◌, ap, ◌∙◌}
+use Rattle.image.specs.Header.{sizes, version_at}
+use Rattle.image.proofs.Rows.{Laid, laid-start, laid-elsewhere, laid_more, laid-empty, laid-right, table-size, table-bound, table-past, table-next}
+use Rattle.image.proofs.header.laid_out.Given as goal
+
+abbrev pub invariant-loop-k : goal.invariant-loop-k
+invariant-loop-k l = (l.sizes ≡ sizes (word_at l.bytes version_at)) × Laid l.bytes l.end l.k
+
+abbrev pub decreases-loop-k : goal.decreases-loop-k
+decreases-loop-k l = 8 - l.k

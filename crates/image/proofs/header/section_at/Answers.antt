@@ -1,0 +1,6 @@
+-- `image::header::section_at` meets its contract.
+use borrow.Author.Rules.{rules}
+use Rattle.image.proofs.header.section_at.Goals as goal
+
+pub returns : goal.returns
+returns c = rw (c.word.ensures, c.word-2.ensures)

@@ -1,0 +1,10 @@
+-- `names::native_function_call::get_name` meets its contract.
+use borrow.Author.Rules.{rules}
+use Rattle.names.proofs.Operators.{below}
+use Rattle.names.proofs.native_function_call.get_name.Goals as goal
+
+pub name_at-requires : goal.name_at-requires
+name_at-requires c = rw c.number_of.ensures (below c.args.op)
+
+pub returns : goal.returns
+returns c = rw c.number_of.ensures at c.name_at.ensures

@@ -1,0 +1,13 @@
+-- The invariant: both are alike so far.
+use Prim.Native.Nat.{◌≤◌, ◌-◌}
+use native.Mathlib.Omega.{arith}
+use borrow.Author.Rules.{rules}
+use Rattle.texts.specs.Blocks.{Alike}
+use Rattle.texts.proofs.Blocks.{word-less, word_more, word_same}
+use Rattle.texts.proofs.compare_words.Given as goal
+
+abbrev pub invariant-loop-i : goal.invariant-loop-i
+invariant-loop-i l = (l.i ≤ l.n) × Alike l.a l.b l.i
+
+abbrev pub decreases-loop-i : goal.decreases-loop-i
+decreases-loop-i l = l.n - l.i

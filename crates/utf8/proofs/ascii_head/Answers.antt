@@ -1,0 +1,36 @@
+-- `utf8::ascii_head` meets its contract. The invariant: the bytes so far are ASCII.
+use Prim.Native.Nat.{◌-◌}
+use mathlib.Core.Path.{sym, ◌∙◌}
+use native.Mathlib.Omega.{arith}
+use borrow.Author.Rules.{rules}
+use borrow.Author.Tests.{not-false}
+use lib.ListN.{length}
+use Rattle.utf8.specs.Places.{AsciiTo}
+use Rattle.utf8.proofs.Blocks.{ascii-none, ascii-next, ascii-over}
+use Rattle.utf8.proofs.ascii_head.Goals as goal
+
+pub returns-then-s-ge128 : goal.returns-then-s-ge128
+returns-then-s-ge128 c = ascii-none _
+
+pub loop-i-init : goal.loop-i-init
+loop-i-init c = ascii-none _
+
+pub returns-then-not-eight_ascii : goal.returns-then-not-eight_ascii
+returns-then-not-eight_ascii c = c.loop-i.invariant
+
+pub loop-i-preserved : goal.loop-i-preserved
+loop-i-preserved c =
+    let f = c.eight_ascii in
+    ascii-next 8 c.loop-i.invariant (omega arith) (sym f.ensures ∙ not-false f.result c.if-not-eight_ascii.false-raw)
+
+pub returns-then-i-s : goal.returns-then-i-s
+returns-then-i-s c = c.loop-i.invariant
+
+pub returns-then-eight_ascii : goal.returns-then-eight_ascii
+returns-then-eight_ascii c =
+    let s = c.args.s.now in
+    let f = c.eight_ascii-2 in
+    ascii-over (length s - 8) 8 (length s) c.loop-i.invariant (omega arith) (omega arith) (omega arith) (sym f.ensures ∙ c.if-eight_ascii.true)
+
+pub returns : goal.returns
+returns c = c.loop-i.invariant

@@ -1,0 +1,14 @@
+-- The invariant: the bits so far are a byte below 128 where all bytes so far are.
+use Prim.Native.Nat.{◌≤◌, ◌-◌}
+use mathlib.Core.Path.{◌≡◌, refl}
+use lib.Dec.{ltb}
+use borrow.Author.Rules.{rules}
+use Rattle.laws.specs.Counted.{all_of}
+use Rattle.utf8.proofs.Ascii.{ascii_at, bits-next, bits_all}
+use Rattle.utf8.proofs.block_ascii.Given as goal
+
+abbrev pub invariant-loop-j : goal.invariant-loop-j
+invariant-loop-j l = (l.j ≤ l.n) × (ltb l.bits 0x80 ≡ all_of l.j (ascii_at l.s l.at))
+
+abbrev pub decreases-loop-j : goal.decreases-loop-j
+decreases-loop-j l = l.n - l.j

@@ -1,0 +1,14 @@
+-- `utf8::blocks_short` meets its contract. The invariant: where the faults so far are 0, all bytes so far are below 0xe0 and right.
+use Prim.Native.Nat.{◌≤◌, ◌-◌}
+use mathlib.Core.Path.{◌≡◌}
+use mathlib.Core.Bool.{true}
+use borrow.Author.Rules.{rules}
+use lib.Dec.{eqb}
+use Rattle.utf8.proofs.ShortBlocks.{Short, short-start, short-next, short_all}
+use Rattle.utf8.proofs.blocks_short.Given as goal
+
+abbrev pub invariant-loop-j : goal.invariant-loop-j
+invariant-loop-j l = (l.j ≤ 64) × (eqb l.e 0 ≡ true → Short l.s l.at l.j)
+
+abbrev pub decreases-loop-j : goal.decreases-loop-j
+decreases-loop-j l = 64 - l.j

@@ -1,0 +1,16 @@
+-- `utf8::three` meets its contract.
+use borrow.Author.Rules.{rules}
+use Rattle.utf8.proofs.Table.{next_fits, next_differs, next-missing, none_left}
+use Rattle.utf8.proofs.three.Goals as goal
+
+pub returns-then-s-at-lt3 : goal.returns-then-s-at-lt3
+returns-then-s-at-lt3 c = search (rules, next-missing)
+
+pub returns-then-not-lies : goal.returns-then-not-lies
+returns-then-not-lies c = search (rules, next_fits, next_differs)
+
+pub returns-then-not-lies-2 : goal.returns-then-not-lies-2
+returns-then-not-lies-2 c = search (rules, next_fits, next_differs)
+
+pub returns : goal.returns
+returns c = search (rules, next_fits, none_left)

@@ -1,0 +1,13 @@
+-- `utf8::two` meets its contract.
+use borrow.Author.Rules.{rules}
+use Rattle.utf8.proofs.Table.{next_fits, next_differs, next-missing, none_left}
+use Rattle.utf8.proofs.two.Goals as goal
+
+pub returns-then-s-at-lt2 : goal.returns-then-s-at-lt2
+returns-then-s-at-lt2 c = search (rules, next-missing)
+
+pub returns-then-not-lies : goal.returns-then-not-lies
+returns-then-not-lies c = search (rules, next_fits, next_differs)
+
+pub returns : goal.returns
+returns c = search (rules, next_fits, none_left)
