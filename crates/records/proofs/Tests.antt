@@ -13,7 +13,7 @@ use Rattle.image.specs.Sections.{inside_among}
 use Rattle.image.specs.Tags.{container_tag}
 use Rattle.records.specs.Shown.{container_among, starts_next}
 
-pub ruleset rules = (stop, go, stop-last, go_last)
+pub ruleset test_rules = (stop, go, stop-last, go_last)
 
 -- ---- words
 

@@ -1,0 +1,17 @@
+-- `records::list::items_rule` meets its contract.
+use Prim.Native.Nat.{◌≤◌, ◌-◌}
+use mathlib.Core.Path.{◌≡◌, refl, sym, ◌∙◌}
+use native.Mathlib.Numerals.{add-one}
+use borrow.Author.Rules.{rules}
+use Rattle.laws.specs.Refusal.{first_of}
+use Rattle.laws.proofs.First.{first_next}
+use Rattle.laws.proofs.Chains.{first-broken, first_done}
+use Rattle.records.specs.Records.{list_item_rule}
+use Rattle.records.specs.Shown.{bytes_only}
+use Rattle.records.proofs.list.items_rule.Given as goal
+
+abbrev pub invariant-loop-j : goal.invariant-loop-j
+invariant-loop-j l = (l.j ≤ l.items) × (first_of l.j (list_item_rule (bytes_only l.payload l.strings) l.at) ≡ 0)
+
+abbrev pub decreases-loop-j : goal.decreases-loop-j
+decreases-loop-j l = l.items - l.j

@@ -1,0 +1,27 @@
+-- `records::list::origins_rule` meets its contract.
+use Prim.Native.Nat.{◌≤◌, ◌-◌}
+use mathlib.Core.Path.{◌≡◌, refl, sym, ◌∙◌}
+use native.Mathlib.Numerals.{add-one}
+use borrow.Author.Rules.{rules}
+use Rattle.laws.specs.Refusal.{first_of}
+use Rattle.laws.proofs.First.{first_next}
+use Rattle.laws.proofs.Chains.{first-broken, first_done}
+use Rattle.records.specs.Records.{list_origin_rule}
+use Rattle.records.specs.Shown.{bytes_only}
+use Rattle.records.proofs.list.origins_rule.Goals as goal
+
+pub loop-j-init : goal.loop-j-init
+unfolding first_of
+loop-j-init c = (search rules, refl)
+
+pub origin-broken-requires : goal.origin-broken-requires
+origin-broken-requires c = (search rules, search rules)
+
+pub returns-then-broken-ne0 : goal.returns-then-broken-ne0
+returns-then-broken-ne0 c = first-broken _ _ _ _ (search rules) c.loop-j.invariant.1 c.origin-broken.ensures c.if-broken-ne0.true
+
+pub loop-j-preserved : goal.loop-j-preserved
+loop-j-preserved c = (search rules, rw add-one (first_next _ _ c.loop-j.invariant.1 (sym c.origin-broken.ensures ∙ c.if-broken-ne0.false)))
+
+pub returns : goal.returns
+returns c = first_done _ _ _ (search rules) (search rules) c.loop-j.invariant.1

@@ -1,0 +1,41 @@
+-- `tree::push_named` meets its contract.
+use mathlib.Core.Path.{sym, ◌∙◌}
+use mathlib.Core.List.{[]}
+use Prim.Native.Nat.{◌-◌}
+use native.Mathlib.Omega.{arith}
+use Rattle.words.proofs.Words.{length-words}
+use Rattle.tree.specs.Tree.{named_rule}
+use Rattle.tree.specs.Parts.{parts_of, named_node}
+use Rattle.tree.proofs.Stack.{Pushing, push_start, push_more, push_end, push_stop}
+use Rattle.tree.proofs.Tests.{named_is}
+use borrow.Author.Rules.{rules}
+use Rattle.tree.proofs.push_named.Goals as goal
+
+pub loop-j-init : goal.loop-j-init
+loop-j-init c = push_start _ _ _ _ _ _
+
+pub named_rule-refused-requires : goal.named_rule-refused-requires
+named_rule-refused-requires c =
+    let start = c in
+    record {
+      text_entry_size_in_bounds = omega (arith, length-words start.args.named.now);
+      first_value = start.requires.start_value;
+    }
+
+pub returns-then-refused-ne0 : goal.returns-then-refused-ne0
+returns-then-refused-ne0 c =
+    push_stop _ _ _ _ _ _ _ _ c.loop-j.invariant _ c.loop-j-test.true c.if-refused-ne0.true (sym c.named_Rule.ensures)
+
+pub overflow_add-start : goal.overflow_add-start
+overflow_add-start c = omega (arith, length-words c.args.named.now)
+
+pub text_entry-entry-requires : goal.text_entry-entry-requires
+text_entry-entry-requires c = omega (arith, length-words c.args.named.now)
+
+pub loop-j-preserved : goal.loop-j-preserved
+loop-j-preserved c =
+    push_more _ _ _ _ _ _ _ _ c.loop-j.invariant _ _ c.loop-j-test.true c.requires.count_bound.1
+    (named_is _ _ _ _ _ _ _ _ c.requires.start_value c.text_entry-entry.ensures) (sym c.named_Rule.ensures ∙ c.if-refused-ne0.false) (omega arith)
+
+pub returns : goal.returns
+returns c = push_end _ _ _ _ _ _ _ _ c.loop-j.invariant c.loop-j-test.false
