@@ -9,28 +9,22 @@ use Rattle.tree.proofs.NodeTurn.{enter-leaf, enter-refused, enter-pushed, leaf, 
 use borrow.Author.Rules.{rules}
 use Rattle.tree.proofs.enter.Goals as goal
 
--- `tree::enter` meets its contract.
--- what is known once the node is read
-abbrev St : tie.After-node-record → tie.Start
-St c = c.before.before.before.before.before.before
-
-abbrev Parts : tie.Start → Sections
-Parts s = parts_of s.args.version s.args.nodes.now s.args.children.now s.args.named.now s.args.strings.now
-
 pub node_record-node-requires : goal.node_record-node-requires
 node_record-node-requires c = c.requires.id_bound
 
 pub returns-then-node-ne-CONTAINER : goal.returns-then-node-ne-CONTAINER
 returns-then-node-ne-CONTAINER c =
-    let node_is : IsNode (Parts (St c)) (St c).args.id c.node_record-node.result = read-node _ _ _ _ _ refl refl c.node_record-node.ensures in
+    let Parts : Sections = parts_of c.args.version c.args.nodes.now c.args.children.now c.args.named.now c.args.strings.now in
+    let node_is : IsNode Parts c.args.id c.node_record-node.result = read-node _ _ _ _ _ refl refl c.node_record-node.ensures in
     enter-leaf _ _ _ _ _ _ _ _ _ (leaf _ _ _ node_is c.if-node-ne-CONTAINER.true)
 
 pub push_children-first-requires : goal.push_children-first-requires
 push_children-first-requires c =
-    let node_is : IsNode (Parts (St c)) (St c).args.id c.node_record-node.result = read-node _ _ _ _ _ refl refl c.node_record-node.ensures in
+    let Parts : Sections = parts_of c.args.version c.args.nodes.now c.args.children.now c.args.named.now c.args.strings.now in
+    let node_is : IsNode Parts c.args.id c.node_record-node.result = read-node _ _ _ _ _ refl refl c.node_record-node.ensures in
     let room_of : c.node_record-node.result.tag ≡ 1
-    → Room (St c).args.version (St c).args.nodes.now (St c).args.children.now (St c).args.named.now (St c).args.strings.now (St c).args.id (St c).args.base
-    (St c).args.depth (St c).args.work.now c.node_record-node.result node_is = λ e. room _ _ _ _ _ _ _ _ _ _ node_is (St c).requires.0 (St c).requires.1.0 (St c).requires.1.1 e in
+    → Room c.args.version c.args.nodes.now c.args.children.now c.args.named.now c.args.strings.now c.args.id c.args.base
+    c.args.depth c.args.work.now c.node_record-node.result node_is = λ e. room _ _ _ _ _ _ _ _ _ _ node_is c.requires.fit c.requires.id_bound c.requires.id_in_bounds e in
     let r = room_of c.if-node-ne-CONTAINER.false in
     record {
       start_value = r.children-start;
@@ -39,25 +33,28 @@ push_children-first-requires c =
 
 pub returns-then-first-ne0 : goal.returns-then-first-ne0
 returns-then-first-ne0 c =
-    let node_is : IsNode (Parts (St c)) (St c).args.id c.node_record-node.result = read-node _ _ _ _ _ refl refl c.node_record-node.ensures in
+    let Parts : Sections = parts_of c.args.version c.args.nodes.now c.args.children.now c.args.named.now c.args.strings.now in
+    let node_is : IsNode Parts c.args.id c.node_record-node.result = read-node _ _ _ _ _ refl refl c.node_record-node.ensures in
     enter-refused _ _ _ _ _ _ _ _ _ (container _ _ _ node_is c.if-node-ne-CONTAINER.false) _ node_is.f4 _ _
     c.push_children-first.ensures _ c.if-first-ne0.true
 
 pub overflow_add-top : goal.overflow_add-top
 overflow_add-top c =
-    let node_is : IsNode (Parts (St c)) (St c).args.id c.node_record-node.result = read-node _ _ _ _ _ refl refl c.node_record-node.ensures in
+    let Parts : Sections = parts_of c.args.version c.args.nodes.now c.args.children.now c.args.named.now c.args.strings.now in
+    let node_is : IsNode Parts c.args.id c.node_record-node.result = read-node _ _ _ _ _ refl refl c.node_record-node.ensures in
     let room_of : c.node_record-node.result.tag ≡ 1
-    → Room (St c).args.version (St c).args.nodes.now (St c).args.children.now (St c).args.named.now (St c).args.strings.now (St c).args.id (St c).args.base
-    (St c).args.depth (St c).args.work.now c.node_record-node.result node_is = λ e. room _ _ _ _ _ _ _ _ _ _ node_is (St c).requires.0 (St c).requires.1.0 (St c).requires.1.1 e in
-    let fits : c.node_record-node.result.tag ≡ 1 → (St c).args.depth + c.node_record-node.result.f4 + c.node_record-node.result.f6 < 2 ^ 63 = λ e. omega (arith, (room_of e).words) in
+    → Room c.args.version c.args.nodes.now c.args.children.now c.args.named.now c.args.strings.now c.args.id c.args.base
+    c.args.depth c.args.work.now c.node_record-node.result node_is = λ e. room _ _ _ _ _ _ _ _ _ _ node_is c.requires.fit c.requires.id_bound c.requires.id_in_bounds e in
+    let fits : c.node_record-node.result.tag ≡ 1 → c.args.depth + c.node_record-node.result.f4 + c.node_record-node.result.f6 < 2 ^ 63 = λ e. omega (arith, (room_of e).words) in
     omega (arith, fits c.if-node-ne-CONTAINER.false)
 
 pub push_named-second-requires : goal.push_named-second-requires
 push_named-second-requires c =
-    let node_is : IsNode (Parts (St c)) (St c).args.id c.node_record-node.result = read-node _ _ _ _ _ refl refl c.node_record-node.ensures in
+    let Parts : Sections = parts_of c.args.version c.args.nodes.now c.args.children.now c.args.named.now c.args.strings.now in
+    let node_is : IsNode Parts c.args.id c.node_record-node.result = read-node _ _ _ _ _ refl refl c.node_record-node.ensures in
     let room_of : c.node_record-node.result.tag ≡ 1
-    → Room (St c).args.version (St c).args.nodes.now (St c).args.children.now (St c).args.named.now (St c).args.strings.now (St c).args.id (St c).args.base
-    (St c).args.depth (St c).args.work.now c.node_record-node.result node_is = λ e. room _ _ _ _ _ _ _ _ _ _ node_is (St c).requires.0 (St c).requires.1.0 (St c).requires.1.1 e in
+    → Room c.args.version c.args.nodes.now c.args.children.now c.args.named.now c.args.strings.now c.args.id c.args.base
+    c.args.depth c.args.work.now c.node_record-node.result node_is = λ e. room _ _ _ _ _ _ _ _ _ _ node_is c.requires.fit c.requires.id_bound c.requires.id_in_bounds e in
     let r = room_of c.if-node-ne-CONTAINER.false in
     record {
       start_value = r.named_start;
@@ -66,15 +63,17 @@ push_named-second-requires c =
 
 pub overflow_add-result : goal.overflow_add-result
 overflow_add-result c =
-    let node_is : IsNode (Parts (St c)) (St c).args.id c.node_record-node.result = read-node _ _ _ _ _ refl refl c.node_record-node.ensures in
+    let Parts : Sections = parts_of c.args.version c.args.nodes.now c.args.children.now c.args.named.now c.args.strings.now in
+    let node_is : IsNode Parts c.args.id c.node_record-node.result = read-node _ _ _ _ _ refl refl c.node_record-node.ensures in
     let room_of : c.node_record-node.result.tag ≡ 1
-    → Room (St c).args.version (St c).args.nodes.now (St c).args.children.now (St c).args.named.now (St c).args.strings.now (St c).args.id (St c).args.base
-    (St c).args.depth (St c).args.work.now c.node_record-node.result node_is = λ e. room _ _ _ _ _ _ _ _ _ _ node_is (St c).requires.0 (St c).requires.1.0 (St c).requires.1.1 e in
-    let fits : c.node_record-node.result.tag ≡ 1 → (St c).args.depth + c.node_record-node.result.f4 + c.node_record-node.result.f6 < 2 ^ 63 = λ e. omega (arith, (room_of e).words) in
+    → Room c.args.version c.args.nodes.now c.args.children.now c.args.named.now c.args.strings.now c.args.id c.args.base
+    c.args.depth c.args.work.now c.node_record-node.result node_is = λ e. room _ _ _ _ _ _ _ _ _ _ node_is c.requires.fit c.requires.id_bound c.requires.id_in_bounds e in
+    let fits : c.node_record-node.result.tag ≡ 1 → c.args.depth + c.node_record-node.result.f4 + c.node_record-node.result.f6 < 2 ^ 63 = λ e. omega (arith, (room_of e).words) in
     omega (arith, fits c.if-node-ne-CONTAINER.false)
 
 pub returns : goal.returns
 returns c =
-    let node_is : IsNode (Parts (St c)) (St c).args.id c.node_record-node.result = read-node _ _ _ _ _ refl refl c.node_record-node.ensures in
+    let Parts : Sections = parts_of c.args.version c.args.nodes.now c.args.children.now c.args.named.now c.args.strings.now in
+    let node_is : IsNode Parts c.args.id c.node_record-node.result = read-node _ _ _ _ _ refl refl c.node_record-node.ensures in
     enter-pushed _ _ _ _ _ _ _ _ _ (container _ _ _ node_is c.if-node-ne-CONTAINER.false) _ node_is.f4 _ _
     c.push_children-first.ensures c.if-first-ne0.false _ node_is.f6 _ _ _ c.push_named-second.ensures refl

@@ -24,7 +24,7 @@ named_rule-refused-requires c =
 
 pub returns-then-refused-ne0 : goal.returns-then-refused-ne0
 returns-then-refused-ne0 c =
-    push_stop _ _ _ _ _ _ _ _ c.loop-j.invariant _ c.loop-j-test.true c.if-refused-ne0.true (sym c.named_Rule.ensures)
+    push_stop _ _ _ _ _ _ _ _ c.loop-j.invariant _ c.loop-j-test.true c.if-refused-ne0.true (sym c.named_rule-refused.ensures)
 
 pub overflow_add-start : goal.overflow_add-start
 overflow_add-start c = omega (arith, length-words c.args.named.now)
@@ -35,7 +35,7 @@ text_entry-entry-requires c = omega (arith, length-words c.args.named.now)
 pub loop-j-preserved : goal.loop-j-preserved
 loop-j-preserved c =
     push_more _ _ _ _ _ _ _ _ c.loop-j.invariant _ _ c.loop-j-test.true c.requires.count_bound.1
-    (named_is _ _ _ _ _ _ _ _ c.requires.start_value c.text_entry-entry.ensures) (sym c.named_Rule.ensures ∙ c.if-refused-ne0.false) (omega arith)
+    (named_is _ _ _ _ _ _ _ _ c.requires.start_value c.text_entry-entry.ensures) (sym c.named_rule-refused.ensures ∙ c.if-refused-ne0.false) (omega arith)
 
 pub returns : goal.returns
 returns c = push_end _ _ _ _ _ _ _ _ c.loop-j.invariant c.loop-j-test.false

@@ -10,28 +10,27 @@ use Rattle.tree.proofs.LoadWalk.{tree-refused, tree-passes, tree-unreached, clea
 use borrow.Author.Rules.{rules}
 use Rattle.tree.proofs.tree_rule.Goals as goal
 
--- `tree::tree_rule` meets its contract.
-abbrev Parts : tie.Start → Sections
-Parts s = parts_of s.args.version s.args.nodes.now s.args.children.now s.args.named.now s.args.strings.now
-
 pub clear-requires : goal.clear-requires
 clear-requires c =
-    let count_is : c.node_count-count.result ≡ node_count (Parts c) = c.node_count-count.ensures in
+    let Parts : Sections = parts_of c.args.version c.args.nodes.now c.args.children.now c.args.named.now c.args.strings.now in
+    let count_is : c.node_count-count.result ≡ node_count Parts = c.node_count-count.ensures in
     omega (arith, count_is, c.requires.strings_in_bounds)
 
 pub walk-refused-requires : goal.walk-refused-requires
 walk-refused-requires c =
-    let count_is : c.node_count-count.result ≡ node_count (Parts c) = c.node_count-count.ensures in
+    let Parts : Sections = parts_of c.args.version c.args.nodes.now c.args.children.now c.args.named.now c.args.strings.now in
+    let count_is : c.node_count-count.result ≡ node_count Parts = c.node_count-count.ensures in
     record {
       fit = c.requires.fit;
       count_value = count_is;
-      strings_in_bounds = omega (arith, c.clear.auto.0, c.requires.strings_in_bounds);
+      strings_in_bounds = omega (arith, c.clear.auto.work, c.requires.strings_in_bounds);
       by_index = λ i h. ap (λ (l : List ℕ). get_or l i 0) c.clear.ensures ∙ cleared-zero _ _ i h;
     }
 
 pub returns-then-refused-ne0 : goal.returns-then-refused-ne0
 returns-then-refused-ne0 c =
-    let count_is : c.node_count-count.result ≡ node_count (Parts c) = c.node_count-count.ensures in
+    let Parts : Sections = parts_of c.args.version c.args.nodes.now c.args.children.now c.args.named.now c.args.strings.now in
+    let count_is : c.node_count-count.result ≡ node_count Parts = c.node_count-count.ensures in
     record {
       answer = tree-refused _ _ _ _ c.walk-refused.ensures c.if-refused-ne0.true;
       rest = kept-words _ _ _ _ _ _ count_is c.clear.ensures c.walk-refused.ensures;
@@ -39,12 +38,14 @@ returns-then-refused-ne0 c =
 
 pub all_marked-requires : goal.all_marked-requires
 all_marked-requires c =
-    let count_is : c.node_count-count.result ≡ node_count (Parts c) = c.node_count-count.ensures in
-    omega (arith, c.walk-refused.auto.1.1.1.1.0, c.clear.auto.0, count_is, c.requires.strings_in_bounds)
+    let Parts : Sections = parts_of c.args.version c.args.nodes.now c.args.children.now c.args.named.now c.args.strings.now in
+    let count_is : c.node_count-count.result ≡ node_count Parts = c.node_count-count.ensures in
+    omega (arith, c.walk-refused.auto.work, c.clear.auto.work, count_is, c.requires.strings_in_bounds)
 
 pub returns-then-all_marked : goal.returns-then-all_marked
 returns-then-all_marked c =
-    let count_is : c.node_count-count.result ≡ node_count (Parts c) = c.node_count-count.ensures in
+    let Parts : Sections = parts_of c.args.version c.args.nodes.now c.args.children.now c.args.named.now c.args.strings.now in
+    let count_is : c.node_count-count.result ≡ node_count Parts = c.node_count-count.ensures in
     record {
       answer = sym (tree-passes _ _ _ _ c.walk-refused.ensures c.if-refused-ne0.false _ count_is _ c.all_marked.ensures c.if-all_marked.true);
       rest = kept-words _ _ _ _ _ _ count_is c.clear.ensures c.walk-refused.ensures;
@@ -52,7 +53,8 @@ returns-then-all_marked c =
 
 pub returns-else-all_marked : goal.returns-else-all_marked
 returns-else-all_marked c =
-    let count_is : c.node_count-count.result ≡ node_count (Parts c) = c.node_count-count.ensures in
+    let Parts : Sections = parts_of c.args.version c.args.nodes.now c.args.children.now c.args.named.now c.args.strings.now in
+    let count_is : c.node_count-count.result ≡ node_count Parts = c.node_count-count.ensures in
     record {
       answer = sym (tree-unreached _ _ _ _ c.walk-refused.ensures c.if-refused-ne0.false _ count_is _ c.all_marked.ensures c.if-all_marked.false);
       rest = kept-words _ _ _ _ _ _ count_is c.clear.ensures c.walk-refused.ensures;
