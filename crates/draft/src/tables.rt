@@ -328,7 +328,7 @@ fn items_rule(items: &[u32], strings: &[u8]) -> u32
 }
 
 // Row 19, or 0; of the nodes that follow a path of the list, the target is not tested.
-pub fn path_tables_rule(
+pub fn tables_rule(
     nodes: &[u32],
     children: &[u32],
     named: &[u32],
@@ -378,7 +378,7 @@ pub fn path_tables_rule(
 }
 
 // Row 19 of a draft with no list of paths, or 0.
-pub fn tables_rule(
+pub fn plain_tables_rule(
     nodes: &[u32],
     children: &[u32],
     named: &[u32],
@@ -393,7 +393,7 @@ pub fn tables_rule(
         items.now payload.now strings.now in
         result ≡ tables_rule s }
 {
-    path_tables_rule(
+    tables_rule(
         nodes,
         children,
         named,

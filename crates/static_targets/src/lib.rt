@@ -168,7 +168,7 @@ pub fn resolve_static_targets(
     if !path_list::list_right(paths, count, components.len() / COMPONENT_WORDS) {
         return BAD_DRAFT;
     }
-    let broken = tables::path_tables_rule(
+    let broken = tables::tables_rule(
         nodes,
         children,
         named,

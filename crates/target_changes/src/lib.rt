@@ -82,7 +82,7 @@ pub fn set_target(
     let source = Source {
         version: ImageView::VERSION,
     };
-    let refused = tables::tables_rule(
+    let refused = tables::plain_tables_rule(
         nodes,
         children,
         named,

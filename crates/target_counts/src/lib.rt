@@ -51,7 +51,7 @@ pub fn count_draft_targets(
     let source = Source {
         version: ImageView::VERSION,
     };
-    let refused = tables::tables_rule(
+    let refused = tables::plain_tables_rule(
         nodes,
         children,
         named,

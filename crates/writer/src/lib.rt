@@ -158,6 +158,35 @@ fn write(
     }
 }
 
+// Row 19 of a draft with no list of paths, or 0.
+fn tables_rule(
+    nodes: &[u32],
+    children: &[u32],
+    named: &[u32],
+    definitions: &[u32],
+    items: &[u32],
+    payload: &[u8],
+    strings: &[u8],
+    source: Source,
+) -> u32
+    ensures { let s =
+        draft_of source.version nodes.now children.now named.now definitions.now
+        items.now payload.now strings.now in
+        result ≡ tables_rule s }
+{
+    tables::tables_rule(
+        nodes,
+        children,
+        named,
+        definitions,
+        items,
+        payload,
+        strings,
+        &nodes[..0],
+        source,
+    )
+}
+
 // Writes the image of a draft at the start of the output and gives its length, or the number of the first rule that the draft breaks:
 // 3, 19, 7, 20, 21, 22, 23. An output that is too short is told how long the image is; an empty one asks for it. A refusal leaves the
 // output as it was; 3, 19 and 7 leave the work words too, otherwise as many as are needed are 0 on return.
@@ -194,7 +223,7 @@ pub fn encode(
     let source = Source {
         version: ImageView::VERSION,
     };
-    let broken = tables::tables_rule(
+    let broken = tables_rule(
         nodes,
         children,
         named,

@@ -40,8 +40,8 @@ returns-2 c =
     ended _ _ _ _ _ _ _
     (list-refused to.ink s p to.work.now right (list_is _ _ _ _ _ _ c.before.before.node-count.ensures c.before.list_right.ensures (not-true _ c.if2.true)))
 
-path-tables-rule-requires : tie.Need-path-tables-rule-requires
-path-tables-rule-requires c κs = search rules
+tables-rule-requires : tie.Need-tables-rule-requires
+tables-rule-requires c κs = search rules
 
 same-length-2 : tie.Need-same-length-2
 same-length-2 c = search rules
@@ -54,7 +54,7 @@ returns-3 c =
     let right = sym c.before.before.before.before.before.before.before.before.ink-right.ensures ∙ not-false _ c.before.before.before.before.before.before.before.if1.false in
     let listed = list_is _ _ _ _ _ _ c.before.before.before.before.before.node-count.ensures c.before.before.before.before.list_right.ensures (not-false _ c.before.before.before.if2.false) in
     ended _ _ _ _ _ _ _
-    (tables-refused to.ink s p to.work.now right listed _ c.before.path-tables-rule.ensures c.if3.true)
+    (tables-refused to.ink s p to.work.now right listed _ c.before.tables-rule.ensures c.if3.true)
 
 entry-counts-requires : tie.Need-entry-counts-requires
 entry-counts-requires c κs = search rules
@@ -92,7 +92,7 @@ resolve-requires c κs =
     let to = past.before.before.before.before.before.before.before.before.before.before.before.before.before.before.before.before.before.before.before.before.args in
     let s = draft_of version to.nodes.now to.children.now to.named.now to.definitions.now to.items.now to.payload.now to.strings.now in
     let listed = list_is _ _ _ _ _ _ past.before.before.before.before.before.node-count.ensures past.before.before.before.before.list_right.ensures (not-false _ past.before.before.before.if2.false) in
-    let ruled = no_rule _ _ past.before.path-tables-rule.ensures past.if3.false in
+    let ruled = no_rule _ _ past.before.tables-rule.ensures past.if3.false in
     let fit = rw c.before.before.before.before.before.before.entry-counts.ensures at c.before.before.before.before.before.work-words-fit.ensures in
     let known = c.before.before.before.needed.given.1 in
     ((ruled, listed), lent-needed (write_words s) _ to.work.now _ fit known)
@@ -118,7 +118,7 @@ returns-4 c =
     let p = path_list to.paths.now to.components.now to.names.now in
     let right = sym past.before.before.before.before.before.before.before.before.ink-right.ensures ∙ not-false _ past.before.before.before.before.before.before.before.if1.false in
     let listed = list_is _ _ _ _ _ _ past.before.before.before.before.before.node-count.ensures past.before.before.before.before.list_right.ensures (not-false _ past.before.before.before.if2.false) in
-    let ruled = no_rule _ _ past.before.path-tables-rule.ensures past.if3.false in
+    let ruled = no_rule _ _ past.before.tables-rule.ensures past.if3.false in
     let fit = rw c.before.before.before.entry-counts.ensures at c.before.before.work-words-fit.ensures in
     ended _ _ _ _ _ _ _ (words-refused to.ink s p to.work.now right listed ruled (few_words _ _ _ fit c.enum_told.given.1))
 
@@ -136,7 +136,7 @@ returns-5 c =
     let p = path_list to.paths.now to.components.now to.names.now in
     let right = sym past.before.before.before.before.before.before.before.before.ink-right.ensures ∙ not-false _ past.before.before.before.before.before.before.before.if1.false in
     let listed = list_is _ _ _ _ _ _ past.before.before.before.before.before.node-count.ensures past.before.before.before.before.list_right.ensures (not-false _ past.before.before.before.if2.false) in
-    let ruled = no_rule _ _ past.before.path-tables-rule.ensures past.if3.false in
+    let ruled = no_rule _ _ past.before.tables-rule.ensures past.if3.false in
     let fit = rw c.before.before.before.before.before.before.before.before.before.before.before.before.before.before.before.entry-counts.ensures at c.before.before.before.before.before.before.before.before.before.before.before.before.before.before.work-words-fit.ensures in
     let known = c.before.before.before.before.before.before.before.before.before.before.before.before.needed.given.1 in
     let work = c.before.before.before.before.before.before.before.before.resolve.new.1.1.1.1.1.1.1.1.1.1.0 in
@@ -154,7 +154,7 @@ resolve-static-targets-spec =
     list-right-requires
     same_length
     returns-2
-    path-tables-rule-requires
+    tables-rule-requires
     same-length-2
     returns-3
     entry-counts-requires
