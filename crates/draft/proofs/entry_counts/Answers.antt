@@ -1,0 +1,6 @@
+-- `draft::entry_counts` meets its contract.
+use borrow.Author.Rules.{rules}
+use Rattle.draft.proofs.entry_counts.Goals as goal
+
+pub returns : goal.returns
+returns c = rw c.node_count.ensures

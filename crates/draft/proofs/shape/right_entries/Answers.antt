@@ -1,0 +1,21 @@
+-- `draft::shape::right_entries` meets its contract. The invariant: the tests so far pass.
+use Prim.Native.Nat.{◌≤◌, ◌-◌}
+use mathlib.Core.Path.{◌≡◌}
+use mathlib.Core.Bool.{true}
+use borrow.Author.Rules.{rules}
+use Rattle.laws.specs.Counted.{all_of}
+use Rattle.draft.specs.Shown.{named_right}
+use Rattle.draft.proofs.Runs.{all_starts, all_stops, all_goes, all_ends}
+use Rattle.draft.proofs.shape.right_entries.Goals as goal
+
+pub loop-j-init : goal.loop-j-init
+loop-j-init c = (search rules, all_starts _)
+
+pub returns-then-not-right_entry : goal.returns-then-not-right_entry
+returns-then-not-right_entry c = all_stops _ _ _ c.right_entry.ensures _ c.loop-j-test.true c.if-not-right_entry.true-raw
+
+pub loop-j-preserved : goal.loop-j-preserved
+loop-j-preserved c = (search rules, all_goes _ _ _ c.right_entry.ensures c.loop-j.invariant.1 c.if-not-right_entry.false-raw)
+
+pub returns : goal.returns
+returns c = all_ends _ _ _ c.loop-j.invariant.0 c.loop-j-test.false c.loop-j.invariant.1

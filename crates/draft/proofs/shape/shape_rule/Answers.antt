@@ -1,0 +1,29 @@
+-- `draft::shape::shape_rule` meets its contract.
+use mathlib.Core.Path.{◌∙◌}
+use borrow.Author.Rules.{rules}
+use Rattle.records.proofs.ByKind.{shown-root}
+use Rattle.draft.proofs.NodeTable.{node_is}
+use Rattle.draft.proofs.Row21.{tree-passed, lists-passed, wrong-root, wrong_relation, orders_decide}
+use Rattle.draft.proofs.shape.shape_rule.Goals as goal
+
+pub node_at-requires : goal.node_at-requires
+node_at-requires c = c.requires.some
+
+pub returns-then-not-root_right : goal.returns-then-not-root_right
+returns-then-not-root_right c = wrong-root _ _ _ _ _ _ _ _ _ (c.root_right.ensures ∙ shown-root _ _ (node_is _ _ _ _ _ _ _ _ _ _ c.node_at.ensures)) c.if-not-root_right.true-raw
+
+pub relations_rule-refused-requires : goal.relations_rule-refused-requires
+relations_rule-refused-requires c = tree-passed _ _ _ _ _ _ _ _ c.requires
+
+pub returns-then-refused-ne0 : goal.returns-then-refused-ne0
+returns-then-refused-ne0 c =
+    wrong_relation _ _ _ _ _ _ _ _ _ (c.root_right.ensures ∙ shown-root _ _ (node_is _ _ _ _ _ _ _ _ _ _ c.node_at.ensures)) c.if-not-root_right.false-raw _
+    c.relations_rule-refused.ensures c.if-refused-ne0.true
+
+pub orders_rule-requires : goal.orders_rule-requires
+orders_rule-requires c = lists-passed _ _ _ _ _ _ _ _ c.requires
+
+pub returns : goal.returns
+returns c =
+    orders_decide _ _ _ _ _ _ _ _ _ (c.root_right.ensures ∙ shown-root _ _ (node_is _ _ _ _ _ _ _ _ _ _ c.node_at.ensures)) c.if-not-root_right.false-raw _
+    c.relations_rule-refused.ensures c.if-refused-ne0.false _ c.orders_rule.ensures

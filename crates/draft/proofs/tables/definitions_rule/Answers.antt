@@ -1,0 +1,36 @@
+-- `draft::tables::definitions_rule` meets its contract. The invariant: the definitions before `d` pass, and `used` is how many items they
+use Prim.Native.Nat.{◌≤◌, ◌-◌}
+use mathlib.Core.Path.{◌≡◌, refl, sym, ◌∙◌}
+use mathlib.Core.List.{[]}
+use borrow.Author.Rules.{rules}
+use Rattle.laws.specs.Refusal.{first_of}
+use Rattle.laws.proofs.RuleRuns.{run_starts, sum_starts, run_goes}
+use Rattle.definitions.specs.Definitions.{items_before}
+use Rattle.draft.specs.Source.{draft_of}
+use Rattle.draft.specs.Draft.{draft_definition_rule}
+use Rattle.draft.proofs.EntryTables.{definition-told, used-next, definitions-stop, items-used, items_left}
+use Rattle.draft.proofs.tables.definitions_rule.Goals as goal
+
+pub loop-d-init : goal.loop-d-init
+loop-d-init c = (search rules, sym (sum_starts _), run_starts _)
+
+pub returns-then-definition_rule-ne0 : goal.returns-then-definition_rule-ne0
+returns-then-definition_rule-ne0 c =
+    definitions-stop _ _ c.loop-d.invariant.2 _ c.loop-d-test.true
+    (definition-told _ _ _ _ _ c.definition_at-definition.ensures _ _ c.loop-d.invariant.1 c.definition_rule.ensures) c.if-definition_rule-ne0.true
+
+pub loop-d-preserved : goal.loop-d-preserved
+loop-d-preserved c =
+    let told = definition-told _ _ _ _ _ c.definition_at-definition.ensures _ _ c.loop-d.invariant.1 c.definition_rule.ensures in (
+      search rules,
+      used-next _ _ _ _ _ c.definition_at-definition.ensures (sym told ∙ c.if-definition_rule-ne0.false),
+      run_goes _ _ _ c.loop-d.invariant.2 told c.if-definition_rule-ne0.false,
+    )
+
+pub returns-then-used-all : goal.returns-then-used-all
+returns-then-used-all c =
+    items-used _ _ c.loop-d.invariant.2 c.loop-d.invariant.0 c.loop-d-test.false _ _ c.loop-d.invariant.1 refl c.if-used-all.true
+
+pub returns-else-used-all : goal.returns-else-used-all
+returns-else-used-all c =
+    items_left _ _ c.loop-d.invariant.2 c.loop-d.invariant.0 c.loop-d-test.false _ _ c.loop-d.invariant.1 refl c.if-used-all.false

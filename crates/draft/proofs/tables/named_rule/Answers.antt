@@ -1,0 +1,38 @@
+-- `draft::tables::named_rule` meets its contract. The invariant: the entries before `j` pass.
+use Prim.Native.Nat.{ℕ, ◌/◌, ◌≤◌, ◌-◌}
+use mathlib.Core.Path.{◌≡◌}
+use mathlib.Core.List.{[]}
+use borrow.Author.Rules.{rules}
+use Rattle.laws.specs.Refusal.{first_of}
+use Rattle.laws.proofs.Chains.{first-broken, first_done}
+use Rattle.laws.proofs.RuleRuns.{run_starts, run_goes}
+use lib.ListN.{length}
+use Rattle.image.specs.Sections.{node_words}
+use Rattle.draft.specs.Source.{draft_of}
+use Rattle.draft.specs.Draft.{draft_named_rule}
+use Rattle.draft.proofs.EntryTables.{entry-told}
+use Rattle.draft.proofs.tables.named_rule.Goals as goal
+
+pub loop-j-init : goal.loop-j-init
+loop-j-init c = (search rules, λ v e. run_starts _)
+
+pub returns-then-refused-ne0 : goal.returns-then-refused-ne0
+returns-then-refused-ne0 c =
+    let loop = c in
+    let count = loop.node_count-nodes.ensures in
+    let entry = entry-told _ _ _ _ _ count _ _ _ c.entry_at.ensures c.entry_rule-refused.ensures in
+    first-broken _ _ _ _ c.loop-j-test.true (loop.loop-j.invariant.1 _ count) entry c.if-refused-ne0.true
+
+pub loop-j-preserved : goal.loop-j-preserved
+loop-j-preserved c =
+    let passed = c.loop-j.invariant.1 in (
+      search rules,
+      λ v e.
+          let entry = entry-told v _ _ _ _ e _ _ _ c.entry_at.ensures c.entry_rule-refused.ensures in
+          run_goes _ _ _ (passed v e) entry c.if-refused-ne0.false,
+    )
+
+pub returns : goal.returns
+returns c =
+    let passed = c.loop-j.invariant in
+    first_done _ _ _ passed.0 c.loop-j-test.false (passed.1 _ c.node_count-nodes.ensures)
