@@ -11,18 +11,6 @@ use Rattle.list_items.proofs.last_item.Goals as goal
 pub definitions-init : goal.definitions-init
 definitions-init c = sought_start _ _ _ _ _ _
 
-pub overflow_add-d : goal.overflow_add-d
-overflow_add-d c = search rules
-definition-at-requires :
-    tie.Need-definition-at-requires invariant-loop decreases-loop invariant-definitions decreases-definitions
-definition-at-requires c κs = search rules
-
-pub overflow_cast-from : goal.overflow_cast-from
-overflow_cast-from c = search rules
-items-inside-requires :
-    tie.Need-items-inside-requires invariant-loop decreases-loop invariant-definitions decreases-definitions
-items-inside-requires c κs = search rules
-
 pub loop-lo-init : goal.loop-lo-init
 loop-lo-init c = (refl, halved_start _ _ _ _ _)
 

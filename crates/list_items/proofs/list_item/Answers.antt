@@ -12,15 +12,15 @@ use Rattle.list_items.proofs.list_item.Goals as goal
 pub returns-then-view-eq0 : goal.returns-then-view-eq0
 returns-then-view-eq0 c = c.no_search.ensures
     ∙ elim c.then-view-eq0.branch [
-      | inl none ↦ search_none _ _ none.taken _
-      | inr (there, b, t) ↦ search_blank _ _ _ _ b.ensures t.taken
+      | goal.then-view-eq0-via-then-view-eq0 w ↦ search_none _ _ w.if-view-eq0.true _
+      | goal.then-view-eq0-via-else-view-eq0+then-is_blank w ↦ search_blank _ _ _ _ w.is_blank.ensures w.if-is_blank.true
     ]
 
 pub last_item-requires : goal.last_item-requires
 last_item-requires c = let few : c.args.view.definitions.count ≤ 4294967295 = omega (arith, c.struct_known-1.given) in
     record {
-      count_in_bounds = (search (rules, definitions_few _ c.args.view 4294967295 few _ c.section_part-definitions.ensures)).0;
-      count_bound = (search (rules, definitions_few _ c.args.view 4294967295 few _ c.section_part-definitions.ensures)).1;
+      count_in_bounds = search (rules, definitions_few _ c.args.view 4294967295 few _ c.section_part-definitions.ensures);
+      count_bound = search (rules, definitions_few _ c.args.view 4294967295 few _ c.section_part-definitions.ensures);
     }
 
 pub returns-then-name-dot : goal.returns-then-name-dot
@@ -36,8 +36,8 @@ pub last_item-requires-in-At : goal.last_item-requires-in-At
 last_item-requires-in-At c =
     let few : c.args.view.definitions.count ≤ 4294967295 = omega (arith, c.struct_known-1.given) in
     record {
-      count_in_bounds = (search (rules, origin-below _ _ _ _ (sym c.origin_at.ensures ∙ ap found_place c.in-At.is), definitions_few _ c.args.view 4294967295 few _ c.section_part-definitions.ensures)).0;
-      count_bound = (search (rules, origin-below _ _ _ _ (sym c.origin_at.ensures ∙ ap found_place c.in-At.is), definitions_few _ c.args.view 4294967295 few _ c.section_part-definitions.ensures)).1;
+      count_in_bounds = search (rules, origin-below _ _ _ _ (sym c.origin_at.ensures ∙ ap found_place c.in-At.is), definitions_few _ c.args.view 4294967295 few _ c.section_part-definitions.ensures);
+      count_bound = search (rules, origin-below _ _ _ _ (sym c.origin_at.ensures ∙ ap found_place c.in-At.is), definitions_few _ c.args.view 4294967295 few _ c.section_part-definitions.ensures);
     }
 
 pub returns-in-Nowhere : goal.returns-in-Nowhere

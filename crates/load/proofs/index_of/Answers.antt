@@ -20,8 +20,8 @@ returns-then-wrong-ne0 c =
     let n = c.nodes_part-nodes.ensures in
     let e = c.index_rule-wrong.ensures in
     record {
-      answer = index-refused _ _ _ _ _ n c.section_part-paths.ensures c.section_part-strings.ensures _ e.0 c.if-wrong-ne0.true;
-      rest = index-rest _ _ _ n _ _ e.1;
+      answer = index-refused _ _ _ _ _ n c.section_part-paths.ensures c.section_part-strings.ensures _ e.answer c.if-wrong-ne0.true;
+      rest = index-rest _ _ _ n _ _ e.rest;
     }
 
 pub returns : goal.returns
@@ -29,7 +29,7 @@ returns c =
     let n = c.nodes_part-nodes.ensures in
     let e = c.index_rule-wrong.ensures in
     record {
-      answer = index-passed _ _ _ _ _ n c.section_part-paths.ensures c.section_part-strings.ensures _ e.0 _ _ _ c.if-wrong-ne0.false c.section_part-definitions.ensures
+      answer = index-passed _ _ _ _ _ n c.section_part-paths.ensures c.section_part-strings.ensures _ e.answer _ _ _ c.if-wrong-ne0.false c.section_part-definitions.ensures
           c.section_part-items.ensures c.definitions_rule.ensures;
-      rest = index-rest _ _ _ n _ _ e.1;
+      rest = index-rest _ _ _ n _ _ e.rest;
     }

@@ -43,10 +43,10 @@ returns-then-wrong-eq0 c =
     let k = needed_is _ _ at.requires.bytes_value at.requires.view_value in
     let enough = most_of _ _ _ k c.if-work-needed.false in
     let tested = c.sections_rule-wrong.ensures in
-    let e = sections_decide _ _ at.requires.bytes_value at.requires.view_value _ _ _ word sum right _ enough tested.0 in
+    let e = sections_decide _ _ at.requires.bytes_value at.requires.view_value _ _ _ word sum right _ enough tested.answer in
     record {
       answer = accepted-load _ _ _ at.requires.view_value (sym c.if-wrong-eq0.true ∙ e);
-      words = c.clear.ensures ∙ words-after _ _ at.requires.bytes_value at.requires.view_value _ _ _ word sum right _ _ _ k enough tested.1;
+      words = c.clear.ensures ∙ words-after _ _ at.requires.bytes_value at.requires.view_value _ _ _ word sum right _ _ _ k enough tested.rest;
     }
 
 pub returns-else-wrong-eq0 : goal.returns-else-wrong-eq0
@@ -58,8 +58,8 @@ returns-else-wrong-eq0 c =
     let k = needed_is _ _ at.requires.bytes_value at.requires.view_value in
     let enough = most_of _ _ _ k c.if-work-needed.false in
     let tested = c.sections_rule-wrong.ensures in
-    let e = sections_decide _ _ at.requires.bytes_value at.requires.view_value _ _ _ word sum right _ enough tested.0 in
+    let e = sections_decide _ _ at.requires.bytes_value at.requires.view_value _ _ _ word sum right _ enough tested.answer in
     record {
       answer = refused-load _ _ _ e c.if-wrong-eq0.false;
-      words = c.clear.ensures ∙ words-after _ _ at.requires.bytes_value at.requires.view_value _ _ _ word sum right _ _ _ k enough tested.1;
+      words = c.clear.ensures ∙ words-after _ _ at.requires.bytes_value at.requires.view_value _ _ _ word sum right _ _ _ k enough tested.rest;
     }

@@ -23,6 +23,6 @@ returns c =
     let t = c.section_part-strings.ensures in
     let e = c.tree_rule.ensures in
     record {
-      answer = part-tree _ _ _ _ _ _ n k m t _ e.0;
-      rest = part-rest _ _ _ _ _ _ n k m t _ _ e.1;
+      answer = part-tree _ _ _ _ _ _ n k m t _ e.answer;
+      rest = part-rest _ _ _ _ _ _ n k m t _ _ e.rest;
     }

@@ -58,7 +58,7 @@ returns-in-3 c =
     let a = c.args in
     text-kind a.strings.now a.payload a.node _ c.text_fits.ensures
     (elim c.in-3-1.branch [
-      | in-3-1 w ↦ text_single a.strings.now a.payload a.node (let h = w.in-3-1 in ?)
-      | in_default+else-tag-lt1+then-tag-lt15 w ↦ text-below a.strings.now a.payload a.node (let h = w.in_default-1 in ?) (omega arith) (omega arith)
+      | in-3-1 w ↦ text_single a.strings.now a.payload a.node w.in-3-1.keys9
+      | in_default+else-tag-lt1+then-tag-lt15 w ↦ text-below a.strings.now a.payload a.node w.in_default-1.rest (omega arith) (omega arith)
       | in_default+else-tag-lt1+else-tag-lt15+else-tag-lt16+then-tag-lt18 w ↦ text-above a.strings.now a.payload a.node (omega arith) (omega arith)
     ])

@@ -1,0 +1,11 @@
+-- `draft_walks::find` meets its contract. The loop's invariant: the range lo to hi is all that is left to search.
+use borrow.Author.Rules.{rules}
+use Prim.Native.Nat.{◌-◌}
+use Rattle.lookups.proofs.Lookups.{Halved, halved_start, halved_above, halved_below, halved_here, halved_end}
+use Rattle.draft_walks.proofs.find.Given as goal
+
+abbrev pub invariant-loop-lo : goal.invariant-loop-lo
+invariant-loop-lo l = Halved l.named l.strings l.from l.count l.name l.lo l.hi
+
+abbrev pub decreases-loop-lo : goal.decreases-loop-lo
+decreases-loop-lo l = l.hi - l.lo

@@ -1,0 +1,30 @@
+-- `draft_walks::named_by` meets its contract.
+use mathlib.Core.Path.{refl}
+use native.Mathlib.Omega.{arith}
+use Rattle.lookups.proofs.Lookups.{named-outside, named-nowhere, named_at_lem, named-place}
+use borrow.Author.Rules.{rules}
+use Rattle.draft_walks.proofs.named_by.Goals as goal
+
+pub returns-then-named-from : goal.returns-then-named-from
+returns-then-named-from c = named-outside _ _ _ _ _ _ refl c.if-named-from.true
+
+pub overflow_add-result : goal.overflow_add-result
+overflow_add-result c = omega (arith, named-place _ _ _ _ _ _ refl c.find.result c.find.ensures _ c.in-At.is)
+
+pub overflow_mul-result : goal.overflow_mul-result
+overflow_mul-result c = omega (arith, named-place _ _ _ _ _ _ refl c.find.result c.find.ensures _ c.in-At.is)
+
+pub overflow_add-result-in-At : goal.overflow_add-result-in-At
+overflow_add-result-in-At c = omega (arith, named-place _ _ _ _ _ _ refl c.find.result c.find.ensures _ c.in-At.is)
+
+pub offset_bounds-named-from : goal.offset_bounds-named-from
+offset_bounds-named-from c = omega (arith, named-place _ _ _ _ _ _ refl c.find.result c.find.ensures _ c.in-At.is)
+
+pub bounds-named-from : goal.bounds-named-from
+bounds-named-from c = omega (arith, named-place _ _ _ _ _ _ refl c.find.result c.find.ensures _ c.in-At.is)
+
+pub returns-in-Nowhere : goal.returns-in-Nowhere
+returns-in-Nowhere c = named-nowhere _ _ _ _ _ _ refl c.find.result c.find.ensures c.if-named-from.false c.in-Nowhere.is
+
+pub returns-in-At : goal.returns-in-At
+returns-in-At c = named_at_lem _ _ _ _ _ _ refl c.find.result c.find.ensures c.if-named-from.false _ c.in-At.is _ refl

@@ -1,0 +1,14 @@
+-- `write_text_keys::skip` meets its contract. The invariant: `rest` bytes back from x is where `count` bytes back from the start is.
+use borrow.Author.Rules.{rules}
+use native.Mathlib.Omega.{arith}
+use Prim.Native.Nat.{◌+◌, ◌-◌}
+use mathlib.Core.Path.{◌≡◌, refl, sym, ap, ◌∙◌}
+use Rattle.write_text_keys.specs.Keys.{back}
+use Rattle.write_text_keys.proofs.BackwardReads.{back_up}
+use Rattle.write_text_keys.proofs.skip.Given as goal
+
+abbrev pub invariant-loop-x : goal.invariant-loop-x
+invariant-loop-x l = back l.count l.source.version l.nodes l.initial.x ≡ back l.rest l.source.version l.nodes l.x
+
+abbrev pub decreases-loop-x : goal.decreases-loop-x
+decreases-loop-x l = l.rest

@@ -1,0 +1,28 @@
+-- `write_text_uses::put_list_origins` meets its contract.
+use Prim.Native.Nat.{◌-◌}
+use Rattle.write_text_uses.specs.Uses.{origin_pairs}
+use Rattle.write_text_uses.proofs.Puts.{RunsSoFar, going_start, going-words, going_next, going_end}
+use Rattle.write_text_uses.proofs.DraftReads.{origin_is}
+use borrow.Author.Rules.{rules}
+use Rattle.write_text_uses.proofs.put_list_origins.Goals as goal
+
+pub loop-j-init : goal.loop-j-init
+loop-j-init c = going_start _ _ _ _ c.requires.room
+
+pub put_use-k-requires : goal.put_use-k-requires
+put_use-k-requires c =
+    let loop = c.loop-j in
+    let test = c.loop-j-test in
+    going-words _ _ _ _ _ _ _ loop.invariant _ test.true (origin_is _ _ _ _ _ c.payload_word-offset.ensures c.payload_word-len.ensures)
+
+pub loop-j-preserved : goal.loop-j-preserved
+loop-j-preserved c =
+    let loop = c.loop-j in
+    let test = c.loop-j-test in
+    let payload-word = c.payload_word-offset in
+    let payload-word2 = c.payload_word-len in
+    going_next _ _ _ _ _ _ _ loop.invariant _ _ _ test.true (origin_is _ _ _ _ _ payload-word.ensures payload-word2.ensures)
+    c.put_use-k.ensures
+
+pub returns : goal.returns
+returns c = going_end _ _ _ _ _ _ _ c.loop-j.invariant c.loop-j-test.false

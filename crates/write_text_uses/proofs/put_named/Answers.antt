@@ -1,0 +1,44 @@
+-- `write_text_uses::put_named` meets its contract.
+use Prim.Native.Nat.{◌+◌, ◌-◌, ◌/◌}
+use native.Mathlib.Omega.{arith}
+use lib.ListN.{length}
+use Rattle.image.specs.Sections.{node_words}
+use Rattle.write_text_uses.specs.Uses.{named_pairs, all_named_pairs, named_only}
+use Rattle.write_text_uses.proofs.Puts.{RunsPut, ordered-start, ordered-room, ordered-next, old_read, going_end}
+use Rattle.write_text_uses.proofs.Nodes.{container_needs}
+use borrow.Author.Rules.{rules}
+use Rattle.write_text_uses.proofs.put_named.Goals as goal
+
+pub loop-j-init : goal.loop-j-init
+unfolding all_named_pairs
+loop-j-init c = ordered-start _ _ _ _ _ c.requires.1 c.requires.2
+
+pub overflow_cast-i : goal.overflow_cast-i
+overflow_cast-i c = omega (arith, c.slice_known-in-loop-j-1.given (c.args.order + c.loop-j.j))
+
+pub put_container-k-requires : goal.put_container-k-requires
+put_container-k-requires c =
+    let to = c.args in
+    let asked = c.requires in
+    let loop = c.loop-j in
+    let test = c.loop-j-test in
+    let node-count = c.node_count-count in
+    let below = rw node-count.ensures at test.true in
+    record {
+      i_in_bounds = (container_needs _ to.nodes.now _ asked.0 _ _ below (old_read _ _ _ _ _ _ _ _ loop.invariant below)
+    (ordered-room _ _ _ _ _ _ _ _ loop.invariant below)).0;
+      room = (container_needs _ to.nodes.now _ asked.0 _ _ below (old_read _ _ _ _ _ _ _ _ loop.invariant below)
+    (ordered-room _ _ _ _ _ _ _ _ loop.invariant below)).1;
+    }
+
+pub loop-j-preserved : goal.loop-j-preserved
+loop-j-preserved c =
+    let loop = c.loop-j in
+    let test = c.loop-j-test in
+    let node-count = c.node_count-count in
+    let below = rw node-count.ensures at test.true in
+    ordered-next _ _ _ _ _ _ _ _ loop.invariant below _ _ c.put_container-k.ensures
+
+pub returns : goal.returns
+unfolding all_named_pairs
+returns c = going_end _ _ _ _ _ _ _ c.loop-j.invariant.going (rw c.node_count-count.ensures at c.loop-j-test.false)

@@ -1,0 +1,46 @@
+-- `write_text_uses::put_nodes` meets its contract.
+use Prim.Native.Nat.{◌+◌, ◌-◌, ◌/◌}
+use native.Mathlib.Omega.{arith}
+use lib.ListN.{length}
+use Rattle.draft.specs.Source.{nodes_only}
+use Rattle.image.specs.Sections.{node_words}
+use Rattle.write_text_uses.specs.Uses.{node_pairs, all_node_pairs}
+use Rattle.write_text_uses.proofs.Puts.{RunsPut, ordered-start, ordered-room, ordered-next, old_read, going_end}
+use Rattle.write_text_uses.proofs.Nodes.{node_needs}
+use borrow.Author.Rules.{rules}
+use Rattle.write_text_uses.proofs.put_nodes.Goals as goal
+
+pub loop-j-init : goal.loop-j-init
+unfolding all_node_pairs
+loop-j-init c = ordered-start _ _ _ _ _ c.requires.1 c.requires.2
+
+pub overflow_cast-i : goal.overflow_cast-i
+overflow_cast-i c = omega (arith, c.slice_known-in-loop-j-1.given (c.args.order + c.loop-j.j))
+
+pub put_node-k-requires : goal.put_node-k-requires
+put_node-k-requires c =
+    let asked = c.requires in
+    let loop = c.loop-j in
+    let test = c.loop-j-test in
+    let node-count = c.node_count-count in
+    let below = rw node-count.ensures at test.true in
+    record {
+      i_in_bounds = (node_needs _ _ _ _ asked.0 _ _ below (old_read _ _ _ _ _ _ _ _ loop.invariant below)
+    (ordered-room _ _ _ _ _ _ _ _ loop.invariant below)).0;
+      list_inside = (node_needs _ _ _ _ asked.0 _ _ below (old_read _ _ _ _ _ _ _ _ loop.invariant below)
+    (ordered-room _ _ _ _ _ _ _ _ loop.invariant below)).1;
+      room = (node_needs _ _ _ _ asked.0 _ _ below (old_read _ _ _ _ _ _ _ _ loop.invariant below)
+    (ordered-room _ _ _ _ _ _ _ _ loop.invariant below)).2;
+    }
+
+pub loop-j-preserved : goal.loop-j-preserved
+loop-j-preserved c =
+    let loop = c.loop-j in
+    let test = c.loop-j-test in
+    let node-count = c.node_count-count in
+    let below = rw node-count.ensures at test.true in
+    ordered-next _ _ _ _ _ _ _ _ loop.invariant below _ _ c.put_node-k.ensures
+
+pub returns : goal.returns
+unfolding all_node_pairs
+returns c = going_end _ _ _ _ _ _ _ c.loop-j.invariant.going (rw c.node_count-count.ensures at c.loop-j-test.false)

@@ -1,0 +1,17 @@
+-- `write_text_uses::put_nodes` meets its contract.
+use Prim.Native.Nat.{◌+◌, ◌-◌, ◌/◌}
+use native.Mathlib.Omega.{arith}
+use lib.ListN.{length}
+use Rattle.draft.specs.Source.{nodes_only}
+use Rattle.image.specs.Sections.{node_words}
+use Rattle.write_text_uses.specs.Uses.{node_pairs, all_node_pairs}
+use Rattle.write_text_uses.proofs.Puts.{RunsPut, ordered-start, ordered-room, ordered-next, old_read, going_end}
+use Rattle.write_text_uses.proofs.Nodes.{node_needs}
+use borrow.Author.Rules.{rules}
+use Rattle.write_text_uses.proofs.put_nodes.Given as goal
+
+abbrev pub invariant-loop-j : goal.invariant-loop-j
+invariant-loop-j l = RunsPut (length l.nodes / node_words l.source.version) (node_pairs (nodes_only l.source.version l.nodes l.payload)) l.initial.w l.order l.at l.w l.k l.j
+
+abbrev pub decreases-loop-j : goal.decreases-loop-j
+decreases-loop-j l = length l.nodes / node_words l.source.version - l.j

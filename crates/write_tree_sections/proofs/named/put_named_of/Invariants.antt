@@ -1,0 +1,15 @@
+-- `write_tree_sections::named::put_named_of` meets its contract.
+use Rattle.words.proofs.EntryLoop.{three-room, three-next, Running, run_start, run_put}
+use Prim.Native.Nat.{◌-◌}
+use native.Mathlib.Omega.{arith}
+use mathlib.Core.Path.{refl}
+use Rattle.write_tree_sections.proofs.NamedWords.{named-entry, named-words-length}
+use borrow.Author.Rules.{rules}
+use Rattle.write_tree_sections.proofs.named.put_named_of.Given as goal
+
+abbrev pub invariant-loop-j : goal.invariant-loop-j
+invariant-loop-j l =
+    Running l.at l.count (named-entry l.named l.work l.new l.text l.first) l.initial.out l.out l.j l.place
+
+abbrev pub decreases-loop-j : goal.decreases-loop-j
+decreases-loop-j l = l.count - l.j
