@@ -11,7 +11,7 @@ pub fill_none-requires : goal.fill_none-requires
 fill_none-requires c = omega (arith, c.node_count-total.ensures, c.requires.0)
 
 pub loop-k-init : goal.loop-k-init
-loop-k-init c = entries-start _ _ _ _ _ _ _ _ c.fill_none.new.0 c.args.work.now c.requires.0 (search rules) _ c.node_count-total.ensures c.fill_none.ensures
+loop-k-init c = entries-start _ _ _ _ _ _ _ _ c.fill_none.new.work c.args.work.now c.requires.0 (search rules) _ c.node_count-total.ensures c.fill_none.ensures
 
 pub entry_at-entry-requires : goal.entry_at-entry-requires
 entry_at-entry-requires c = below-count _ _ c.path_count-count.ensures _ c.loop-k-test.true

@@ -50,6 +50,6 @@ returns c =
     let to = c.args in
     let dot = below_dot to.source.version to.nodes.now c.long_of.result to.x c.if-x-eq0.false (λ z. c.if-above-eq0.false (c.word_of-above.ensures ∙ z)) in
     record {
-      answer = (rw (← above) (omega (arith, dot, c.piece_length-piece.ensures), omega arith)).0;
-      bound = (rw (← above) (omega (arith, dot, c.piece_length-piece.ensures), omega arith)).1;
+      answer = rw (← above) (omega (arith, dot, c.piece_length-piece.ensures));
+      bound = rw (← above) (omega arith);
     }

@@ -15,15 +15,15 @@ pub returns-then-rest_alike : goal.returns-then-rest_alike
 returns-then-rest_alike c =
     let at = c in
     let to = at.args in
-    sym (at.loop-left.invariant ∙ rest-decided to.source.version to.nodes.now to.strings.now at.loop-left.false at.loop-left.x at.loop-left.y at.loop-left.less (sym c.rest_alike.ensures ∙ c.if-rest_alike.true))
+    sym (at.loop-left.invariant ∙ rest-decided to.source.version to.nodes.now to.strings.now at.loop-left.left at.loop-left.x at.loop-left.y at.loop-left.less (sym c.rest_alike.ensures ∙ c.if-rest_alike.true))
 
 pub loop-left-preserved-then-run-eq0 : goal.loop-left-preserved-then-run-eq0
 loop-left-preserved-then-run-eq0 c =
     let at = c in
     let to = at.args in
-    let left = at.loop-left.false - 1 in
+    let left = at.loop-left.left - 1 in
     at.loop-left.invariant
-    ∙ byte-decided to.source.version to.nodes.now to.strings.now left at.loop-left.false at.loop-left.x at.loop-left.y at.loop-left.less (omega (arith, c.loop-left-test.true))
+    ∙ byte-decided to.source.version to.nodes.now to.strings.now left at.loop-left.left at.loop-left.x at.loop-left.y at.loop-left.less (omega (arith, c.loop-left-test.true))
     ∙ rw (c.step_back-x.ensures, c.step_back-y.ensures, c.decide-less.ensures, c.last_byte.ensures, c.last_byte-then-run-eq0.ensures)
 
 pub back_within-x-requires : goal.back_within-x-requires
@@ -44,12 +44,12 @@ loop-left-preserved c =
     let v = to.source.version in
     let nodes = to.nodes.now in
     at.loop-left.invariant
-    ∙ run_decided v nodes to.strings.now run (at.loop-left.false - run) at.loop-left.false at.loop-left.x at.loop-left.y at.loop-left.less (omega arith)
+    ∙ run_decided v nodes to.strings.now run (at.loop-left.left - run) at.loop-left.left at.loop-left.x at.loop-left.y at.loop-left.less (omega arith)
     ∙ rw (c.back_within-x.ensures v nodes, c.back_within-y.ensures v nodes, c.run_below-less.ensures v nodes)
 
 pub returns : goal.returns
 returns c =
     let at = c in
     let to = at.args in
-    let z : at.loop-left.false ≡ 0 = omega arith in
-    sym (at.loop-left.invariant ∙ none-decided to.source.version to.nodes.now to.strings.now at.loop-left.false at.loop-left.x at.loop-left.y at.loop-left.less z)
+    let z : at.loop-left.left ≡ 0 = omega arith in
+    sym (at.loop-left.invariant ∙ none-decided to.source.version to.nodes.now to.strings.now at.loop-left.left at.loop-left.x at.loop-left.y at.loop-left.less z)

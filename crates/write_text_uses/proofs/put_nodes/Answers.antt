@@ -28,9 +28,9 @@ put_node-k-requires c =
       i_in_bounds = (node_needs _ _ _ _ asked.0 _ _ below (old_read _ _ _ _ _ _ _ _ loop.invariant below)
     (ordered-room _ _ _ _ _ _ _ _ loop.invariant below)).0;
       list_inside = (node_needs _ _ _ _ asked.0 _ _ below (old_read _ _ _ _ _ _ _ _ loop.invariant below)
-    (ordered-room _ _ _ _ _ _ _ _ loop.invariant below)).1;
+    (ordered-room _ _ _ _ _ _ _ _ loop.invariant below)).1.0;
       room = (node_needs _ _ _ _ asked.0 _ _ below (old_read _ _ _ _ _ _ _ _ loop.invariant below)
-    (ordered-room _ _ _ _ _ _ _ _ loop.invariant below)).2;
+    (ordered-room _ _ _ _ _ _ _ _ loop.invariant below)).1.1;
     }
 
 pub loop-j-preserved : goal.loop-j-preserved

@@ -41,7 +41,7 @@ overflow_add-at c =
     let node_at = c.node_at-node in
     let child-count = c.child_count-own in
     step_room _ _ _ _ _ _ _ _ _ _ loop.invariant below _ word.ensures _ node_at.ensures _ child-count.ensures in
-    omega (arith, room, c.loop-j.invariant.long, c.well-formed.1.1.1.1.0)
+    omega (arith, room, c.loop-j.invariant.long, c.well_formed.1.1.1.1.0)
 
 pub loop-j-preserved : goal.loop-j-preserved
 loop-j-preserved c =

@@ -39,7 +39,7 @@ put_record-requires c =
 pub overflow_add-next_text : goal.overflow_add-next_text
 overflow_add-next_text c =
     let asked = c.requires in
-    let good = c.well-formed in
+    let good = c.well_formed in
     let loop = c.loop-j in
     let test = c.loop-j-test in
     let node-count = c.node_count-count in
@@ -63,7 +63,7 @@ after-starts-requires c =
 pub overflow_add-at : goal.overflow_add-at
 overflow_add-at c =
     let asked = c.requires in
-    let good = c.well-formed in
+    let good = c.well_formed in
     let loop = c.loop-j in
     let test = c.loop-j-test in
     let node-count = c.node_count-count in
@@ -75,7 +75,7 @@ overflow_add-at c =
 pub overflow_add-j : goal.overflow_add-j
 overflow_add-j c =
     let asked = c.requires in
-    let good = c.well-formed in
+    let good = c.well_formed in
     let test = c.loop-j-test in
     let node-count = c.node_count-count in
     omega (arith, test.true, node-count.ensures, asked.nodes_fit.order.order_end, good.1.1.0)

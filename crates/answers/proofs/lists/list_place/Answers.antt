@@ -1,0 +1,19 @@
+-- `answers::lists::list_place` meets its contract.
+use mathlib.Core.Path.{refl, sym, ap, ◌∙◌}
+use lib.ListN.{length}
+use Rattle.image.proofs.Views.{payload_by, strings_by}
+use Rattle.views.proofs.Answers.{view-missing, view-found}
+use Rattle.answers.specs.NodeViewWords.{list_place}
+use Rattle.answers.proofs.ListPlaces.{record_place}
+use borrow.Author.Rules.{rules}
+use Rattle.answers.proofs.lists.list_place.Goals as goal
+
+pub returns-in-NotFound : goal.returns-in-NotFound
+returns-in-NotFound c = ap list_place (view-missing _ _ _ c.node_of.ensures c.in-NotFound.is)
+
+pub returns-in-Record : goal.returns-in-Record
+returns-in-Record c =
+    let payload = ap length (payload_by _ _ ∙ sym c.section_part-payload.ensures) in
+    let found = c.node-1.given in
+    c.place_of.ensures ∙ record_place _ _ c.in-Record.node
+    ∙ ap list_place (view-found _ _ _ c.node_of.ensures _ c.in-Record.is _ _ payload (strings_by _ _) _ refl)

@@ -1,0 +1,20 @@
+-- `answers::put_words` meets its contract: after i turns the first i words are written.
+use Prim.Native.Nat.{◌≤◌, ◌-◌}
+use mathlib.Core.Path.{◌≡◌, refl}
+use mathlib.Core.List.{◌++◌}
+use native.Mathlib.Omega.{arith}
+use lib.ListN.{length, length-set, take, drop}
+use borrow.Author.Rules.{rules}
+use Rattle.laws.proofs.Lists.{copy_step, copy_end}
+use Rattle.answers.proofs.put_words.Goals as goal
+
+pub loop-i-init : goal.loop-i-init
+loop-i-init c = (search rules, refl, refl)
+
+pub loop-i-preserved : goal.loop-i-preserved
+loop-i-preserved c =
+    let l = c in
+    (search rules, simp length-set l.loop-i.invariant.1, copy_step _ _ l.loop-i.out l.loop-i.i l.loop-i.invariant.2 (omega arith) (omega arith))
+
+pub returns : goal.returns
+returns c = copy_end _ _ c.loop-i.out c.loop-i.i (omega arith) c.loop-i.invariant.2

@@ -1,0 +1,13 @@
+-- `target_counts::count::draft_nodes` meets its contract.
+use Prim.Native.Nat.{◌-◌}
+use mathlib.Core.Path.{refl}
+use native.Mathlib.Omega.{arith}
+use Rattle.target_counts.proofs.Counting.{nodes_alone, target-read, CountedSoFar, loop_start, loop_fits, loop_next, loop_end}
+use borrow.Author.Rules.{rules}
+use Rattle.target_counts.proofs.count.draft_nodes.Given as goal
+
+abbrev pub invariant-loop-i : goal.invariant-loop-i
+invariant-loop-i l = CountedSoFar (nodes_alone l.source.version l.nodes) l.count l.initial.summary l.summary l.i
+
+abbrev pub decreases-loop-i : goal.decreases-loop-i
+decreases-loop-i l = l.count - l.i
