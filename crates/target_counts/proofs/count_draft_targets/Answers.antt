@@ -11,24 +11,24 @@ pub returns-then-refused-ne0 : goal.returns-then-refused-ne0
 returns-then-refused-ne0 c = let a = c.args in
     let s = draft_of version a.nodes.now a.children.now a.named.now a.definitions.now a.items.now a.payload.now a.strings.now in
     record {
-      number = (draft-broken s a.summary.now _ c.tables-rule.ensures c.if-refused-ne0.true).0;
-      words = (draft-broken s a.summary.now _ c.tables-rule.ensures c.if-refused-ne0.true).1;
+      number = (draft-broken s a.summary.now _ c.plain_tables_rule-refused.ensures c.if-refused-ne0.true).0;
+      words = (draft-broken s a.summary.now _ c.plain_tables_rule-refused.ensures c.if-refused-ne0.true).1;
     }
 
 pub returns-then-summary-count : goal.returns-then-summary-count
 returns-then-summary-count c = let a = c.args in
     let s = draft_of version a.nodes.now a.children.now a.named.now a.definitions.now a.items.now a.payload.now a.strings.now in
     record {
-      number = (draft-short s a.summary.now _ c.tables-rule.ensures c.if-refused-ne0.false _ c.node_count-count.ensures c.if-summary-count.true).0;
-      words = (draft-short s a.summary.now _ c.tables-rule.ensures c.if-refused-ne0.false _ c.node_count-count.ensures c.if-summary-count.true).1;
+      number = (draft-short s a.summary.now _ c.plain_tables_rule-refused.ensures c.if-refused-ne0.false _ c.node_count-count.ensures c.if-summary-count.true).0;
+      words = (draft-short s a.summary.now _ c.plain_tables_rule-refused.ensures c.if-refused-ne0.false _ c.node_count-count.ensures c.if-summary-count.true).1;
     }
 
 pub returns-then-not-words_hold : goal.returns-then-not-words_hold
 returns-then-not-words_hold c = let a = c.args in
     let s = draft_of version a.nodes.now a.children.now a.named.now a.definitions.now a.items.now a.payload.now a.strings.now in
     record {
-      number = (draft-many s a.summary.now _ c.tables-rule.ensures c.if-refused-ne0.false _ c.node_count-count.ensures c.if-summary-count.false _ c.words_hold.ensures c.if-not-words_hold.true-raw).0;
-      words = (draft-many s a.summary.now _ c.tables-rule.ensures c.if-refused-ne0.false _ c.node_count-count.ensures c.if-summary-count.false _ c.words_hold.ensures c.if-not-words_hold.true-raw).1;
+      number = (draft-many s a.summary.now _ c.plain_tables_rule-refused.ensures c.if-refused-ne0.false _ c.node_count-count.ensures c.if-summary-count.false _ c.words_hold.ensures c.if-not-words_hold.true-raw).0;
+      words = (draft-many s a.summary.now _ c.plain_tables_rule-refused.ensures c.if-refused-ne0.false _ c.node_count-count.ensures c.if-summary-count.false _ c.words_hold.ensures c.if-not-words_hold.true-raw).1;
     }
 
 pub draft_nodes-requires : goal.draft_nodes-requires
@@ -38,6 +38,6 @@ pub returns : goal.returns
 returns c = let a = c.args in
     let s = draft_of version a.nodes.now a.children.now a.named.now a.definitions.now a.items.now a.payload.now a.strings.now in
     record {
-      number = (draft-counted s a.summary.now _ c.tables-rule.ensures c.if-refused-ne0.false _ c.node_count-count.ensures c.if-summary-count.false _ c.words_hold.ensures c.if-not-words_hold.false-raw _ c.draft_nodes.ensures).0;
-      words = (draft-counted s a.summary.now _ c.tables-rule.ensures c.if-refused-ne0.false _ c.node_count-count.ensures c.if-summary-count.false _ c.words_hold.ensures c.if-not-words_hold.false-raw _ c.draft_nodes.ensures).1;
+      number = (draft-counted s a.summary.now _ c.plain_tables_rule-refused.ensures c.if-refused-ne0.false _ c.node_count-count.ensures c.if-summary-count.false _ c.words_hold.ensures c.if-not-words_hold.false-raw _ c.draft_nodes.ensures).0;
+      words = (draft-counted s a.summary.now _ c.plain_tables_rule-refused.ensures c.if-refused-ne0.false _ c.node_count-count.ensures c.if-summary-count.false _ c.words_hold.ensures c.if-not-words_hold.false-raw _ c.draft_nodes.ensures).1;
     }

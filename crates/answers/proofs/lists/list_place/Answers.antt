@@ -14,6 +14,5 @@ returns-in-NotFound c = ap list_place (view-missing _ _ _ c.node_of.ensures c.in
 pub returns-in-Record : goal.returns-in-Record
 returns-in-Record c =
     let payload = ap length (payload_by _ _ ∙ sym c.section_part-payload.ensures) in
-    let found = c.node-1.given in
     c.place_of.ensures ∙ record_place _ _ c.in-Record.node
     ∙ ap list_place (view-found _ _ _ c.node_of.ensures _ c.in-Record.is _ _ payload (strings_by _ _) _ refl)

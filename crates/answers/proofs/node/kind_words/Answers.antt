@@ -61,8 +61,8 @@ returns-in-3 c =
     c.text_kind.ensures
     ∙ ap words_of_kind
     (text-fields a.strings.now a.node
-    ∙ ⊎_elim (λ k. text_single a.strings.now a.payload a.node k.keys9)
-    (λ w.
-    ⊎_elim (λ k. text-below a.strings.now a.payload a.node k.0.rest k.1.left k.2.taken)
-    (λ k. text-above a.strings.now a.payload a.node k.3.left k.4.taken) w)
-    c.in-3-1.branch)
+    ∙ elim c.in-3-1.branch [
+      | goal.in-3-1 w ↦ text_single a.strings.now a.payload a.node w.in-3-1.keys9
+      | goal.in_default+else-tag-lt1+then-tag-lt15 w ↦ text-below a.strings.now a.payload a.node w.in_default-1.rest (omega arith) (omega arith)
+      | goal.in_default+else-tag-lt1+else-tag-lt15+else-tag-lt16+then-tag-lt18 w ↦ text-above a.strings.now a.payload a.node (omega arith) (omega arith)
+    ])

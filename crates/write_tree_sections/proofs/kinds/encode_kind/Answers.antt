@@ -1,4 +1,5 @@
 -- `write_tree_sections::kinds::encode_kind` meets its contract.
+use native.Mathlib.Omega.{arith}
 use mathlib.Core.Logic.{inl, inr, ⊎_elim}
 use mathlib.Core.Path.{◌∙◌}
 use Rattle.write_tree_sections.proofs.ByTag.{at_container, at_choice, at_divert, at_text, at_text-range, at_number, at_list_lem, at_target, at_word, at_reference, at_blank}
@@ -36,4 +37,8 @@ pub returns-in-8-to-10 : goal.returns-in-8-to-10
 returns-in-8-to-10 c = c.two-in-8-to-10.ensures ∙ at_number _ _ _ _ _ c.in-8-to-10.if-kind-lt8-own.false c.in-8-to-10.if-kind-lt11-own.true
 
 pub returns-in_default : goal.returns-in_default
-returns-in_default c = c.blank.ensures ∙ at_blank _ _ _ _ _ c.in_default-1.rest (⊎_elim (λ a. inl a.taken) (λ b. inr b.2.left) c.in_default.branch)
+returns-in_default c = c.blank.ensures ∙ at_blank _ _ _ _ _ c.in_default-1.rest
+    (elim c.in_default.branch [
+      | goal.in_default-via-then-kind-lt6 w ↦ inl (omega arith)
+      | goal.in_default-via-else-kind-lt6+else-kind-lt8+else-kind-lt11 w ↦ inr (omega arith)
+    ])
