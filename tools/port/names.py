@@ -120,6 +120,8 @@ def turn(text, names, comment, lemmas):
     if lemmas:
         pattern = r"(?<![\w'.-])(" + "|".join(re.escape(n[1:]) for n in names if n[0] == "=") + r")(?![\w'-])"
         text = re.sub(pattern, lambda m: names["=" + m.group(1)], text)
+        field = pattern.replace("(?<![\\w'.-])", "(?<=[.])").replace("(?![\\w'-])", "(?![\\w'.-])")
+        text = "\n".join(l if l.lstrip().startswith("use ") else re.sub(field, lambda m: names["=" + m.group(1)], l) for l in text.split("\n"))
     out = []
     for line in text.split("\n"):
         at = line.find(comment) if comment else -1
@@ -153,7 +155,7 @@ def apply(tree):
             new = turn_page(text, by_port)
         else:
             comment = "--" if path.endswith(".antt") else "//" if path.endswith(".rt") else None
-            new = turn(text, by_port if path.endswith(".edit") else names, comment, path.endswith(".antt"))
+            new = turn(text, by_port if path.endswith(".edit") else names, comment, path.endswith(".antt") and not is_function_proof(path))
         if new != text:
             with open(path, "w", encoding="utf-8") as f:
                 f.write(new)

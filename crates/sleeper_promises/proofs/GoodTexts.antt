@@ -184,7 +184,7 @@ module _ (s : Sections) (g : Kept s) where
           let there = both_true (inside_container s i) (ltb j (f s i 6)) e in
           let box = both_true (inside s i) (is_container s i) there.0 in
           let r = reads.nodes i (inside-true (node_count s) i box.0).0 in
-          let n = r.named (f s i 6) (r.named_count box.1) j (ltb-true j (f s i 6) there.1) in
+          let n = r.named (f s i 6) (r.named_count_lem box.1) j (ltb-true j (f s i 6) there.1) in
           one _ n.child.name (ap of_named (named-given (named_query s i j) n.child n.found)) n.name
       by false e = rw e (all_none (Whole s))
 

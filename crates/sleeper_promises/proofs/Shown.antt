@@ -290,7 +290,7 @@ module _ (s : Sections) (g : Kept s) where
           before = λ k l e. r.depth.before k l (sym (ascend-same s k i) ∙ e);
         };
         child-count = r.child-count;
-        named_count_lem = r.named_count;
+        named_count_lem = r.named_count_lem;
         child = λ n e j l. child-shown s i j (r.child n e j l);
         named = λ n e j l. named-shown i j (r.named n e j l);
       }

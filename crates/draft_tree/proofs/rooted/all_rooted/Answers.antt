@@ -57,8 +57,10 @@ pub loop-i-preserved : goal.loop-i-preserved
 loop-i-preserved c =
     let inv = c.loop-i.invariant in
     let below = below-count _ _ c.node_count-count.ensures _ c.loop-i-test.true in
-    ⊎_elim (λ w. rw w.6 (climbs-next _ _ _ _ inv below _ (w.2.ensures.rooted (not-false _ w.5.left))))
-    (λ w. rw w.1 (climbs-skip _ _ _ _ inv below (sym c.is_open.ensures ∙ w.0.left))) c.if-is_open.branch
+    elim c.if-is_open.branch [
+      | goal.then-is_open+else-not-climb w ↦ rw w.work-is (climbs-next _ _ _ _ inv below _ (w.climb.ensures.rooted (not-false _ w.if-not-climb.false-raw)))
+      | goal.else-is_open w ↦ rw w.work-is (climbs-skip _ _ _ _ inv below (sym c.is_open.ensures ∙ w.if-is_open.false))
+    ]
 
 pub shape_of-work : goal.shape_of-work
 shape_of-work c = c.loop-i.invariant.long ∙ simp length-set

@@ -1,0 +1,7 @@
+-- `sleeper::places::item_text` meets its contract.
+use Rattle.sleeper.proofs.TextPlaces.{item-there}
+use borrow.Author.Rules.{rules}
+use Rattle.sleeper.proofs.places.item_text.Goals as goal
+
+pub returns-in-Item : goal.returns-in-Item
+returns-in-Item c = search (rules, item-there)

@@ -1,0 +1,7 @@
+-- `sleeper::places::origin_text` meets its contract.
+use Rattle.sleeper.proofs.TextPlaces.{origin-there}
+use borrow.Author.Rules.{rules}
+use Rattle.sleeper.proofs.places.origin_text.Goals as goal
+
+pub returns-in-Text : goal.returns-in-Text
+returns-in-Text c = search (rules, origin-there)

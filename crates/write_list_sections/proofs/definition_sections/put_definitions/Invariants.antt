@@ -1,0 +1,15 @@
+-- `write_list_sections::definition_sections::put_definitions` meets its contract.
+use Prim.Native.Nat.{◌-◌, ◌/◌}
+use mathlib.Core.Path.{refl}
+use native.Mathlib.Omega.{arith}
+use lib.ListN.{length}
+use Rattle.write_list_sections.proofs.DefinitionLoops.{Defining, define_start, define_room, define_next, define_end, pass-inside}
+use borrow.Author.Rules.{rules}
+use Rattle.image.specs.Sections.{definition_words}
+use Rattle.write_list_sections.proofs.definition_sections.put_definitions.Given as goal
+
+abbrev pub invariant-loop-d : goal.invariant-loop-d
+invariant-loop-d l = Defining l.definitions l.w l.offsets (length l.definitions / definition_words) l.initial.out l.out l.k l.at l.d
+
+abbrev pub decreases-loop-d : goal.decreases-loop-d
+decreases-loop-d l = length l.definitions / definition_words - l.d

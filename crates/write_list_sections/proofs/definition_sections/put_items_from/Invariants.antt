@@ -1,0 +1,15 @@
+-- `write_list_sections::definition_sections::put_items_from` meets its contract.
+use Prim.Native.Nat.{◌-◌}
+use mathlib.Core.Path.{refl}
+use native.Mathlib.Omega.{arith}
+use Rattle.words.proofs.EntryLoop.{Running, run_next, run_put}
+use Rattle.write_list_sections.specs.Entered.{item_words}
+use Rattle.write_list_sections.proofs.DefinitionLoops.{items-start, items-room, item-words}
+use borrow.Author.Rules.{rules}
+use Rattle.write_list_sections.proofs.definition_sections.put_items_from.Given as goal
+
+abbrev pub invariant-loop-i : goal.invariant-loop-i
+invariant-loop-i l = Running l.at l.count (item_words l.items l.w l.text l.first) l.initial.out l.out l.i l.place
+
+abbrev pub decreases-loop-i : goal.decreases-loop-i
+decreases-loop-i l = l.count - l.i
