@@ -58,6 +58,20 @@ place_few Choice choice = omega arith
 place_few Divert divert = omega arith
 place_few TargetValue value = omega arith
 place_few Reference reference = omega arith
+place_few Container x' = elim x' [ ]
+place_few Command x'' = elim x'' [ ]
+place_few Glue x3 = elim x3 [ ]
+place_few Operator x4 = elim x4 [ ]
+place_few Tag x5 = elim x5 [ ]
+place_few BoolValue x6 = elim x6 [ ]
+place_few IntValue x7 = elim x7 [ ]
+place_few FloatValue x8 = elim x8 [ ]
+place_few StringValue x9 = elim x9 [ ]
+place_few ListValue x10 = elim x10 [ ]
+place_few PointerValue x11 = elim x11 [ ]
+place_few Assignment x12 = elim x12 [ ]
+place_few Void x13 = elim x13 [ ]
+place_few Unknown x14 = elim x14 [ ]
 
 pub target_at_lem : (s : Sections) (i : ℕ) (K : Kind) → HasTarget K → target_of s i K ≡ f s i (target_place K)
 unfolding target_in field_word fields target_among
@@ -65,6 +79,20 @@ target_at_lem s i Choice choice = refl
 target_at_lem s i Divert divert = refl
 target_at_lem s i TargetValue value = refl
 target_at_lem s i Reference reference = refl
+target_at_lem s i Container x' = elim x' [ ]
+target_at_lem s i Command x'' = elim x'' [ ]
+target_at_lem s i Glue x3 = elim x3 [ ]
+target_at_lem s i Operator x4 = elim x4 [ ]
+target_at_lem s i Tag x5 = elim x5 [ ]
+target_at_lem s i BoolValue x6 = elim x6 [ ]
+target_at_lem s i IntValue x7 = elim x7 [ ]
+target_at_lem s i FloatValue x8 = elim x8 [ ]
+target_at_lem s i StringValue x9 = elim x9 [ ]
+target_at_lem s i ListValue x10 = elim x10 [ ]
+target_at_lem s i PointerValue x11 = elim x11 [ ]
+target_at_lem s i Assignment x12 = elim x12 [ ]
+target_at_lem s i Void x13 = elim x13 [ ]
+target_at_lem s i Unknown x14 = elim x14 [ ]
 
 -- no container, and no list
 pub not-container : (t : ℕ) → HasTarget (kind_of t) → t ≡ 1 → ⊥
@@ -92,6 +120,20 @@ allowed-inside s K t h n = by K (has_target s K t h) h
     in_table b e = ltb-true _ _ (both_true (ltb t (node_count s)) b e).0
 
     by : (K : Kind) → HasTarget K → allowed s K t ≡ true → t < node_count s
+    by Container x'' e = elim x'' [ ]
+    by Command x3 e = elim x3 [ ]
+    by Glue x4 e = elim x4 [ ]
+    by Operator x5 e = elim x5 [ ]
+    by Tag x6 e = elim x6 [ ]
+    by BoolValue x7 e = elim x7 [ ]
+    by IntValue x8 e = elim x8 [ ]
+    by FloatValue x9 e = elim x9 [ ]
+    by StringValue x10 e = elim x10 [ ]
+    by ListValue x11 e = elim x11 [ ]
+    by PointerValue x12 e = elim x12 [ ]
+    by Assignment x13 e = elim x13 [ ]
+    by Void x14 e = elim x14 [ ]
+    by Unknown x15 e = elim x15 [ ]
     by Choice choice e = in_table _ (both_true (inside s t) _ e).0
     by Divert divert e = in_table _ (rw n at e)
     by TargetValue value e = in_table _ e
@@ -105,6 +147,20 @@ unfolding first_field field_rule fields allowed_among target_in field_word targe
 old_allowed s i h a = by (kind_of (tag_of s i)) a h
   where
     by : (K : Kind) → HasTarget K → first_field s i (fields K) ≡ 0 → allowed s K (target_of s i K) ≡ true
+    by Container x'' q = elim x'' [ ]
+    by Command x3 q = elim x3 [ ]
+    by Glue x4 q = elim x4 [ ]
+    by Operator x5 q = elim x5 [ ]
+    by Tag x6 q = elim x6 [ ]
+    by BoolValue x7 q = elim x7 [ ]
+    by IntValue x8 q = elim x8 [ ]
+    by FloatValue x9 q = elim x9 [ ]
+    by StringValue x10 q = elim x10 [ ]
+    by ListValue x11 q = elim x11 [ ]
+    by PointerValue x12 q = elim x12 [ ]
+    by Assignment x13 q = elim x13 [ ]
+    by Void x14 q = elim x14 [ ]
+    by Unknown x15 q = elim x15 [ ]
     by Choice choice q = passed _ 8 (both _ _ (both _ _ q).1).0
     by Divert divert q = passed _ 8 (both _ _ (both _ _ q).1).0
     by TargetValue value q = passed _ 8 (both _ _ (both _ _ q).1).0
@@ -210,6 +266,20 @@ module _ (s : Sections) (ns : List ℕ) (i t : ℕ) (a : HasTarget (kind_of (tag
       let m : f (with_nodes s ns) i 3 ≡ f s i 3 = w 3 (omega arith) (λ e. omega arith) in
       let q = both _ _ h in
       rw (o, l, n, v, m, p.len, tag_same t) (then _ _ q.0 (then _ _ (both _ _ q.1).0 (then _ _ (pass _ 9 may) (both _ _ (both _ _ q.1).1).1)))
+  own Container x5 w n may h = elim x5 [ ]
+  own Command x6 w n may h = elim x6 [ ]
+  own Glue x7 w n may h = elim x7 [ ]
+  own Operator x8 w n may h = elim x8 [ ]
+  own Tag x9 w n may h = elim x9 [ ]
+  own BoolValue x10 w n may h = elim x10 [ ]
+  own IntValue x11 w n may h = elim x11 [ ]
+  own FloatValue x12 w n may h = elim x12 [ ]
+  own StringValue x13 w n may h = elim x13 [ ]
+  own ListValue x14 w n may h = elim x14 [ ]
+  own PointerValue x15 w n may h = elim x15 [ ]
+  own Assignment x16 w n may h = elim x16 [ ]
+  own Void x17 w n may h = elim x17 [ ]
+  own Unknown x18 w n may h = elim x18 [ ]
 
   -- ---- row 19
 
@@ -278,6 +348,20 @@ module _ (s : Sections) (ns : List ℕ) (i t : ℕ) (a : HasTarget (kind_of (tag
   allowed_same Divert divert x = rw p.len
   allowed_same TargetValue value x = rw p.len
   allowed_same Reference reference x = rw (p.len, tag_same x)
+  allowed_same Container x3 x = elim x3 [ ]
+  allowed_same Command x4 x = elim x4 [ ]
+  allowed_same Glue x5 x = elim x5 [ ]
+  allowed_same Operator x6 x = elim x6 [ ]
+  allowed_same Tag x7 x = elim x7 [ ]
+  allowed_same BoolValue x8 x = elim x8 [ ]
+  allowed_same IntValue x9 x = elim x9 [ ]
+  allowed_same FloatValue x10 x = elim x10 [ ]
+  allowed_same StringValue x11 x = elim x11 [ ]
+  allowed_same ListValue x12 x = elim x12 [ ]
+  allowed_same PointerValue x13 x = elim x13 [ ]
+  allowed_same Assignment x14 x = elim x14 [ ]
+  allowed_same Void x15 x = elim x15 [ ]
+  allowed_same Unknown x16 x = elim x16 [ ]
 
   pub allowed_of : i < node_count s → tables_rule (with_nodes s ns) ≡ 0 → allowed s (kind_of (tag_of s i)) t ≡ true
   allowed_of h e =

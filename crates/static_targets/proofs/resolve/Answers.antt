@@ -12,7 +12,7 @@ returns-then-broken-ne0 c =
 pub targets_rule-refused-requires : goal.targets_rule-refused-requires
 targets_rule-refused-requires c =
     let to = c.args in
-    targets_ask to.source.version to.nodes.now to.children.now to.named.now to.definitions.now to.items.now to.payload.now to.strings.now to.paths.now to.components.now c.tree_rule-broken.new.work.1.1.1.1.1.1.1.1.0 (search rules) c.requires.fact.1
+    targets_ask to.source.version to.nodes.now to.children.now to.named.now to.definitions.now to.items.now to.payload.now to.strings.now to.paths.now to.components.now c.tree_rule-broken.new.work (search rules) c.requires.fact.1
 
 pub returns-then-refused-ne0 : goal.returns-then-refused-ne0
 returns-then-refused-ne0 c =

@@ -94,7 +94,7 @@ clear-requires c =
     let s = draft_of version to.nodes.now to.children.now to.named.now to.definitions.now to.items.now to.payload.now to.strings.now in
     let fit = rw c.entry_counts-counts.ensures at c.work_words_fit.ensures in
     let known = c.in-Words.is in
-    let work = c.resolve-answer.new.work.1.1.1.1.1.1.1.1.1.0 in
+    let work = c.resolve-answer.new.work in
     clear-fits (write_words s) _ to.work.now _ fit known work (search rules)
 
 pub returns-in-TooMany : goal.returns-in-TooMany
@@ -124,7 +124,7 @@ returns-in-Words c =
     let ruled = no_rule _ _ past.tables_rule-broken.ensures past.if-broken-ne0.false in
     let fit = rw c.entry_counts-counts.ensures at c.work_words_fit.ensures in
     let known = c.in-Words.is in
-    let work = c.resolve-answer.new.work.1.1.1.1.1.1.1.1.1.0 in
+    let work = c.resolve-answer.new.work in
     record {
       answer = (ended _ _ _ _ _ _ _
     (late-answered to.ink s p to.work.now right listed ruled (lent (write_words s) _ to.work.now _ fit known).1 _ _ c.resolve-answer.ensures _

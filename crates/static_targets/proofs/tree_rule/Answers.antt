@@ -19,7 +19,7 @@ pub number-requires : goal.number-requires
 number-requires c =
     let to = c.args in
     let asked = c.requires in
-    number_asks to.source.version to.nodes.now to.children.now to.named.now to.definitions.now to.items.now to.payload.now to.strings.now to.paths.now [] [] asked.0 c.stands.new.work.1.1.1.1.1.1.1.0 (c.stands.auto.work ∙ asked.1) _ c.node_count.ensures
+    number_asks to.source.version to.nodes.now to.children.now to.named.now to.definitions.now to.items.now to.payload.now to.strings.now to.paths.now [] [] asked.0 c.stands.new.work (c.stands.auto.work ∙ asked.1) _ c.node_count.ensures
 
 pub returns-then-not-number : goal.returns-then-not-number
 returns-then-not-number c =

@@ -1,0 +1,14 @@
+-- `write_paths::path_index::put_index` meets its contract.
+use Prim.Native.Nat.{◌-◌}
+use native.Mathlib.Omega.{arith}
+use Rattle.words.proofs.EntryLoop.{Running, three-room, three-next}
+use Rattle.write_paths.specs.PathIndex.{index_words}
+use Rattle.write_paths.proofs.PathIndex.{begin, finish}
+use borrow.Author.Rules.{rules}
+use Rattle.write_paths.proofs.path_index.put_index.Given as goal
+
+abbrev pub invariant-loop-k : goal.invariant-loop-k
+invariant-loop-k l = Running 0 l.count (index_words l.work l.layout) l.initial.out l.out l.k l.at
+
+abbrev pub decreases-loop-k : goal.decreases-loop-k
+decreases-loop-k l = l.count - l.k

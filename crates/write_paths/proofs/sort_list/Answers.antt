@@ -1,0 +1,25 @@
+-- `write_paths::sort_list` meets its contract.
+use mathlib.Core.Path.{◌∙◌}
+use borrow.Author.Tests.{not-true, not-false}
+use Rattle.write_paths.proofs.NodeList.{arranged, arranged-not}
+use borrow.Author.Rules.{rules}
+use Rattle.write_paths.proofs.sort_list.Goals as goal
+
+pub returns-then-not-rises : goal.returns-then-not-rises
+returns-then-not-rises c =
+    let to = c in
+    let number = c.number in
+    let sort = c.sort in
+    arranged-not _ _ _ to.args.layout _ _ _ _ to.requires.0 to.requires.1 number.ensures.1 number.ensures.2 sort.ensures.w_after sort.ensures.w_unchanged
+    (sort.auto.w ∙ number.auto.w) _ c.rises.ensures (not-true _ c.if-not-rises.true-raw)
+
+pub returns : goal.returns
+returns c =
+    let to = c in
+    let number = c.number in
+    let sort = c.sort in
+    let rising = c.rises.ensures in
+    let yes = not-false _ c.if-not-rises.false-raw in
+    arranged _ _ _ to.args.layout _ _ _ _ to.requires.0 to.requires.1 number.ensures.1 number.ensures.2 sort.ensures.w_after sort.ensures.w_unchanged
+    (sort.auto.w ∙ number.auto.w) _ rising yes _ _
+    c.gather.ensures c.settle.ensures
