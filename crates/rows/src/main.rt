@@ -2,9 +2,12 @@
 // records: words of work lent, length of the image, the image's bytes. A line is printed for each: its place, and the answer.
 #![tactic(auto)]
 
+ghost use Rattle.std.specs.Prelude.{◌≤◌, length, IfOk};
+
 use image::Section;
-use libc::{STDIN_FILENO, STDOUT_FILENO};
 use load::Loaded;
+use std::io;
+use std::io::Read;
 
 // What load answers, as a number: 0 for an accepted image.
 fn number(answer: Loaded) -> u32 {
@@ -14,52 +17,46 @@ fn number(answer: Loaded) -> u32 {
     }
 }
 
-fn print(text: &[u8]) {
-    io::write_all(STDOUT_FILENO, text);
-}
-
-fn print_answer(answer: u32) {
-    io::print_decimal(STDOUT_FILENO, answer as u64);
-    print(b"\n");
+fn print_answer(rt: &impl Print, answer: u32) -> io::Result<()> {
+    println!(rt; "{answer}")
 }
 
 // Loads an image with so many of the words lent.
-fn run_with(bytes: &[u8], work: &mut [u32], lent: u32) {
+fn run_with(rt: &impl Print, bytes: &[u8], work: &mut [u32], lent: u32) -> io::Result<()> {
     let n = lent as usize;
     if n <= work.len() {
-        print_answer(number(load::load(bytes, &mut work[..n])));
+        print_answer(rt, number(load::load(bytes, &mut work[..n])))
     } else {
-        print(b"lends too many work words\n");
+        println!(rt; "lends too many work words")
     }
 }
 
 // Loads an image with so many work words, of which there are 64.
-fn run(bytes: &[u8], lent: u32) {
+fn run(rt: &impl Print, bytes: &[u8], lent: u32) -> io::Result<()> {
     let mut work = [7u32; 64];
-    run_with(bytes, &mut work, lent);
+    run_with(rt, bytes, &mut work, lent)
 }
 
-fn print_place(place: u32) {
-    io::print_decimal(STDOUT_FILENO, place as u64);
-    print(b": ");
+fn print_place(rt: &impl Print, place: u32) -> io::Result<()> {
+    print!(rt; "{place}: ")
 }
 
 // One record, at `at`; answers where the next one begins, or 0 at the end.
-fn run_one(records: &[u8], at: u32, place: u32) -> u32 {
+fn run_one(rt: &impl Print, records: &[u8], at: u32, place: u32) -> io::Result<u32> {
     let from = at as usize;
     let lent = words::get(records, from);
     let len = words::get(records, from + 4);
     if len == 0 {
-        return 0;
+        return Ok(0);
     }
     // never so: behind the input there is no length. Said for the sums below
     if 65536 < at {
-        return 0;
+        return Ok(0);
     }
-    print_place(place);
+    print_place(rt, place)?;
     if 65536 < len {
-        print(b"longer than is read\n");
-        return 0;
+        println!(rt; "longer than is read")?;
+        return Ok(0);
     }
     let image = image::section_part(
         records,
@@ -69,25 +66,39 @@ fn run_one(records: &[u8], at: u32, place: u32) -> u32 {
         },
         1,
     );
-    run(image, lent);
-    at + 8 + len
+    run(rt, image, lent)?;
+    Ok(at + 8 + len)
 }
 
 // Every record, up to 100.
-fn run_all(records: &[u8]) {
+fn run_all(rt: &impl Print, records: &[u8]) -> io::Result<()> {
     let mut at = 0u32;
-    let mut place = 1u32;
-    while place <= 100 {
-        at = run_one(records, at, place);
+    for place in 1..=100 {
+        at = run_one(rt, records, at, place)?;
         if at == 0 {
-            return;
+            break;
         }
-        place += 1;
     }
+    Ok(())
 }
 
-fn main() {
-    let mut buffer = io::large_buffer();
-    let n = io::read_full(STDIN_FILENO, &mut buffer);
-    run_all(&buffer[..n]);
+// Reads until the buffer is full or the input ends; answers how many bytes.
+fn read_full<R: Read>(reader: &mut R, buffer: &mut [u8]) -> io::Result<usize>
+    ensures { IfOk result (λ n. n ≤ length buffer.new) }
+{
+    let mut filled = 0;
+    while filled < buffer.len() {
+        let n = reader.read(&mut buffer[filled..])?;
+        if n == 0 {
+            break;
+        }
+        filled += n;
+    }
+    Ok(filled)
+}
+
+fn main(rt: HostRuntime) -> io::Result<()> {
+    let mut buffer = [0u8; 65536];
+    let n = read_full(&mut rt.reader(), &mut buffer)?;
+    run_all(&rt, &buffer[..n])
 }
