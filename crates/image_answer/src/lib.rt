@@ -1,13 +1,15 @@
-// What the program image_check says of an image, and the line that it prints. All but the read and the write is proved.
+// What the program image_check says of an image, and the line that it prints: proved of every reader whose bytes are known.
 #![tactic(auto)]
 
-ghost use Rattle.std.specs.Prelude.{◌≡◌, ◌+◌, ◌≤◌, length};
+ghost use Rattle.std.specs.Prelude.{◌≡◌, ◌+◌, ◌≤◌, ◌<◌, length, take, IfOk, OnOk, IfSome};
+ghost use Rattle.std.specs.Io.KnownBytes.{Appends, Consumes, IsAtEnd};
 ghost use Rattle.words.specs.Output.{over};
 ghost use Rattle.texts.specs.Decimal.{decimal};
 ghost use Rattle.image_answer.specs.Answer.{answer_of, most_work_words, put_bytes, accepted_line, refused_line, long_line, line_of};
 
-use libc::STDOUT_FILENO;
 use load::Loaded;
+use std::io;
+use std::io::{Read, Write};
 use texts::{decimal_len, put_decimal};
 
 // The longest image that is read, in bytes.
@@ -125,15 +127,37 @@ fn input_buffer() -> [u8; 65537]
     [0; 65537]
 }
 
-fn print_answer(answer: Answer) {
+fn print_answer<W: Write>(answer: Answer, writer: &mut W) -> io::Result<()>
+    ensures { OnOk result (Appends (W.contents writer.old) (W.contents writer.new) (line_of answer)) }
+{
     let mut line = [0u8; 25];
     let n = answer_text(answer, &mut line);
-    io::write_all(STDOUT_FILENO, &line[..n]);
+    writer.write_all(&line[..n])
 }
 
-// Prints the line of the image that a descriptor gives. A read that fails counts as the end of the image.
-pub fn print_answer_of(file: i32) {
+// Reads until the buffer is full or the input ends; answers how many bytes.
+fn read_full<R: Read>(reader: &mut R, buffer: &mut [u8]) -> io::Result<usize>
+    ensures bound { IfOk result (λ n. n ≤ length buffer.new) }
+    ensures bytes { IfOk result (λ n. Consumes (R.remaining reader.old) (R.remaining reader.new) (take n buffer.new)) }
+    ensures end { IfOk result (λ n. n < length buffer.new → IsAtEnd (R.remaining reader.new)) }
+{
+    let mut filled = 0;
+    while filled < buffer.len() {
+        let n = reader.read(&mut buffer[filled..])?;
+        if n == 0 {
+            break;
+        }
+        filled += n;
+    }
+    Ok(filled)
+}
+
+// Prints the line of the image that the reader gives. A read or a write that fails is the error that is returned.
+pub fn print_answer_of<R: Read, W: Write>(reader: &mut R, writer: &mut W) -> io::Result<()>
+    ensures { OnOk result (IfSome (R.remaining reader.old)
+        (λ bs. Appends (W.contents writer.old) (W.contents writer.new) (line_of (answer_of bs)))) }
+{
     let mut buffer = input_buffer();
-    let n = io::read_full(file, &mut buffer);
-    print_answer(answer_of(&buffer[..n]));
+    let n = read_full(reader, &mut buffer)?;
+    print_answer(answer_of(&buffer[..n]), writer)
 }

@@ -2,6 +2,8 @@
 // number of the first rule broken, or `long`.
 #![tactic(auto)]
 
-fn main() {
-    image_answer::print_answer_of(libc::STDIN_FILENO);
+use std::io;
+
+fn main(rt: HostRuntime) -> io::Result<()> {
+    image_answer::print_answer_of(&mut rt.reader(), &mut io::writer(&rt))
 }

@@ -1,36 +1,37 @@
 // A line for each image of samples/, which the arguments name: its name, and the line that image_check prints of it.
 #![tactic(auto)]
 
-use libc::STDOUT_FILENO;
-
-fn print(text: &[u8]) {
-    io::write_all(STDOUT_FILENO, text);
-}
+use std::fs::File;
+use std::rt::{Env, Files};
+use std::{io, str};
 
 // The file of this name.
-fn print_sample(name: &[u8]) {
-    print(name);
-    print(b": ");
-    let file = os::open_read(name);
-    if file < 0 {
-        return print(b"no such file\n");
+fn print_sample(rt: &(impl Files + Print), name: &str) -> io::Result<()> {
+    print!(rt; "{name}: ")?;
+    match File::open(rt, name) {
+        Ok(mut file) => image_answer::print_answer_of(&mut file, &mut io::writer(rt)),
+        Err(_) => println!(rt; "no such file"),
     }
-    image_answer::print_answer_of(file);
-    libc::close(file);
 }
 
-// The argument of this place.
-fn print_argument(place: usize) {
-    let mut buffer = io::buffer();
-    let n = os::arg(place, &mut buffer);
-    print_sample(&buffer[..n]);
+// The argument of this place; answers whether there is one.
+fn print_argument(rt: &(impl Env + Files + Print), place: usize) -> io::Result<bool> {
+    let mut buffer = [0u8; 4096];
+    let Ok(n) = rt.arg(place, &mut buffer) else {
+        return Ok(false);
+    };
+    let Ok(name) = str::from_utf8(&buffer[..n]) else {
+        return Err(io::Error::from(io::ErrorKind::InvalidData));
+    };
+    print_sample(rt, name)?;
+    Ok(true)
 }
 
-fn main() {
-    let count = os::arg_count();
-    let mut place = 1;
-    while place < count {
-        print_argument(place);
-        place += 1;
+fn main(rt: HostRuntime) -> io::Result<()> {
+    for place in 1..usize::MAX {
+        if !print_argument(&rt, place)? {
+            break;
+        }
     }
+    Ok(())
 }
