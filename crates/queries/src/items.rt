@@ -1,80 +1,77 @@
 // List items by name: the definition and the item that answer, or 18, and how many definitions' items were searched.
-use crate::{print, print_number, print_refusal};
+use crate::print_refusal;
 use image::ImageView;
 use load::Loaded;
 use lookups::ListItemAnswer;
+use std::io;
 
-fn print_answer(answer: ListItemAnswer) {
+fn print_answer(rt: &impl Print, answer: ListItemAnswer) -> io::Result<()> {
     match answer {
         ListItemAnswer::Item(item) => {
-            print(b": definition ");
-            print_number(item.definition as u64);
-            print(b", item ");
-            print_number(item.item as u64);
+            let definition = item.definition;
+            let place = item.item;
+            print!(rt; ": definition {definition}, item {place}")
         }
-        ListItemAnswer::NotFound => {
-            print(b": 18");
-        }
+        ListItemAnswer::NotFound => print!(rt; ": 18"),
     }
 }
 
 // Asks for an item and prints a line.
-fn ask(label: &[u8], bytes: &[u8], view: ImageView, name: &[u8]) {
+fn ask(rt: &impl Print, label: &str, bytes: &[u8], view: ImageView, name: &[u8]) -> io::Result<()> {
     let search = list_items::list_item(bytes, view, name);
     let answer = search.answer;
-    print(label);
-    print_answer(answer);
-    print(b", searched ");
-    print_number(search.searched as u64);
-    print(b"\n");
+    let searched = search.searched;
+    print!(rt; "{label}")?;
+    print_answer(rt, answer)?;
+    println!(rt; ", searched {searched}")
 }
 
 // The item's name is its label.
-fn ask_plain(bytes: &[u8], view: ImageView, name: &[u8]) {
-    ask(name, bytes, view, name);
+fn ask_plain(rt: &impl Print, bytes: &[u8], view: ImageView, name: &str) -> io::Result<()> {
+    ask(rt, name, bytes, view, name.as_bytes())
 }
 
 // Names without an item: nothing, White_Space alone (a space, a tab, U+2003, U+3000), a dot with nothing on one side.
-fn ask_odd(bytes: &[u8], view: ImageView) {
+fn ask_odd(rt: &impl Print, bytes: &[u8], view: ImageView) -> io::Result<()> {
     let blank = [32u8, 9, 226, 128, 131, 227, 128, 128];
-    ask(b"empty", bytes, view, b"");
-    ask(b"blank", bytes, view, &blank);
-    ask_plain(bytes, view, b".");
-    ask_plain(bytes, view, b".low");
-    ask_plain(bytes, view, b"red.");
-    ask_plain(bytes, view, b"x.");
+    ask(rt, "empty", bytes, view, b"")?;
+    ask(rt, "blank", bytes, view, &blank)?;
+    ask_plain(rt, bytes, view, ".")?;
+    ask_plain(rt, bytes, view, ".low")?;
+    ask_plain(rt, bytes, view, "red.")?;
+    ask_plain(rt, bytes, view, "x.")
 }
 
 // Of an image with the definitions red and size, which both hold low.
-pub fn ask_two(bytes: &[u8], view: ImageView) {
-    ask_plain(bytes, view, b"low");
-    ask_plain(bytes, view, b"red.low");
-    ask_plain(bytes, view, b"size.low");
-    ask_plain(bytes, view, b"no.low");
-    ask_plain(bytes, view, b"high");
-    ask_plain(bytes, view, b"red.high");
-    ask_plain(bytes, view, b"red.low.low");
-    ask_odd(bytes, view);
+pub fn ask_two(rt: &impl Print, bytes: &[u8], view: ImageView) -> io::Result<()> {
+    ask_plain(rt, bytes, view, "low")?;
+    ask_plain(rt, bytes, view, "red.low")?;
+    ask_plain(rt, bytes, view, "size.low")?;
+    ask_plain(rt, bytes, view, "no.low")?;
+    ask_plain(rt, bytes, view, "high")?;
+    ask_plain(rt, bytes, view, "red.high")?;
+    ask_plain(rt, bytes, view, "red.low.low")?;
+    ask_odd(rt, bytes, view)
 }
 
 // Of an image with sixty definitions of twenty items.
-fn ask_sixty(bytes: &[u8], view: ImageView) {
-    ask_plain(bytes, view, b"first");
-    ask_plain(bytes, view, b"last");
-    ask_plain(bytes, view, b"none");
-    ask_plain(bytes, view, b"i00");
-    ask_plain(bytes, view, b"i19");
-    ask_plain(bytes, view, b"d00.i00");
-    ask_plain(bytes, view, b"d59.last");
-    ask_plain(bytes, view, b"d00.last");
-    ask_plain(bytes, view, b"d60.i00");
+fn ask_sixty(rt: &impl Print, bytes: &[u8], view: ImageView) -> io::Result<()> {
+    ask_plain(rt, bytes, view, "first")?;
+    ask_plain(rt, bytes, view, "last")?;
+    ask_plain(rt, bytes, view, "none")?;
+    ask_plain(rt, bytes, view, "i00")?;
+    ask_plain(rt, bytes, view, "i19")?;
+    ask_plain(rt, bytes, view, "d00.i00")?;
+    ask_plain(rt, bytes, view, "d59.last")?;
+    ask_plain(rt, bytes, view, "d00.last")?;
+    ask_plain(rt, bytes, view, "d60.i00")
 }
 
 // Loads it first.
-pub fn run_sixty(bytes: &[u8]) {
+pub fn run_sixty(rt: &impl Print, bytes: &[u8]) -> io::Result<()> {
     let mut work = [7u32; 2];
     match load::load(bytes, &mut work) {
-        Loaded::View(view) => ask_sixty(bytes, view),
-        Loaded::Refused(wrong) => print_refusal(wrong),
+        Loaded::View(view) => ask_sixty(rt, bytes, view),
+        Loaded::Refused(wrong) => print_refusal(rt, wrong),
     }
 }

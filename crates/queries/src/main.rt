@@ -9,11 +9,12 @@
 // is no node.
 #![tactic(auto)]
 
-ghost use Rattle.std.specs.Prelude.{◌≤◌};
+ghost use Rattle.std.specs.Prelude.{◌≤◌, length, IfOk};
 
 use image::{ImageView, Opened, Section};
-use libc::{STDIN_FILENO, STDOUT_FILENO};
 use load::Loaded;
+use std::io;
+use std::io::Read;
 use views::{Count, Found};
 
 mod items; // items.rt: list items by name
@@ -21,102 +22,77 @@ mod page; // page.rt: pages of nodes
 mod readers; // readers.rt: the technician's reader and the sleeper's
 mod targets; // targets.rt: counts of targets
 
-fn print(text: &[u8]) {
-    io::write_all(STDOUT_FILENO, text);
-}
-
-fn print_number(n: u64) {
-    io::print_decimal(STDOUT_FILENO, n);
-}
-
-fn print_found(answer: Found) {
+fn print_found(rt: &impl Print, answer: Found) -> io::Result<()> {
     match answer {
-        Found::Node(node) => {
-            print(b": node ");
-            print_number(node as u64);
-        }
-        Found::NotFound => {
-            print(b": 18");
-        }
+        Found::Node(node) => println!(rt; ": node {node}"),
+        Found::NotFound => println!(rt; ": 18"),
     }
-    print(b"\n");
 }
 
 // Walks and children.
-fn walk(bytes: &[u8], view: ImageView) {
+fn walk(rt: &impl Print, bytes: &[u8], view: ImageView) -> io::Result<()> {
     let path = [1u32, 0u32, 0u32];
-    print(b"relative, no components, from the glue");
-    print_found(walks::resolve_path(bytes, view, 1, true, &path[..0], b""));
-    print(b"absolute, child 0, origin outside");
-    print_found(walks::resolve_path(bytes, view, 9, false, &path, b""));
-    print(b"child 0 of the root");
-    print_found(views::children::child_at(bytes, view, 0, 0));
-    print(b"child 1 of the root");
-    print_found(views::children::child_at(bytes, view, 0, 1));
+    print!(rt; "relative, no components, from the glue")?;
+    print_found(
+        rt,
+        walks::resolve_path(bytes, view, 1, true, &path[..0], b""),
+    )?;
+    print!(rt; "absolute, child 0, origin outside")?;
+    print_found(rt, walks::resolve_path(bytes, view, 9, false, &path, b""))?;
+    print!(rt; "child 0 of the root")?;
+    print_found(rt, views::children::child_at(bytes, view, 0, 0))?;
+    print!(rt; "child 1 of the root")?;
+    print_found(rt, views::children::child_at(bytes, view, 0, 1))
 }
 
 // Every query on an image.
-fn both(bytes: &[u8], view: ImageView) {
-    items::ask_two(bytes, view);
-    walk(bytes, view);
+fn both(rt: &impl Print, bytes: &[u8], view: ImageView) -> io::Result<()> {
+    items::ask_two(rt, bytes, view)?;
+    walk(rt, bytes, view)
 }
 
-fn print_refusal(number: u32) {
-    print(b"refused: ");
-    print_number(number as u64);
-    print(b"\n");
+fn print_refusal(rt: &impl Print, number: u32) -> io::Result<()> {
+    println!(rt; "refused: {number}")
 }
 
 // The depth of a node, or 18.
-fn print_depth(bytes: &[u8], view: ImageView, node: u32) {
+fn print_depth(rt: &impl Print, bytes: &[u8], view: ImageView, node: u32) -> io::Result<()> {
     match depth::depth(bytes, view, node) {
-        Count::Of(steps) => {
-            print(b" ");
-            print_number(steps as u64);
-        }
-        Count::NotFound => {
-            print(b" no-18");
-        }
+        Count::Of(steps) => print!(rt; " {steps}"),
+        Count::NotFound => print!(rt; " no-18"),
     }
 }
 
 // The depths of nodes 0 to 6 and of NONE.
-fn print_depths(bytes: &[u8], view: ImageView) {
-    print(b"depths:");
-    print_depth(bytes, view, 0);
-    print_depth(bytes, view, 1);
-    print_depth(bytes, view, 2);
-    print_depth(bytes, view, 3);
-    print_depth(bytes, view, 4);
-    print_depth(bytes, view, 5);
-    print_depth(bytes, view, 6);
-    print_depth(bytes, view, image::NONE);
-    print(b"\n");
+fn print_depths(rt: &impl Print, bytes: &[u8], view: ImageView) -> io::Result<()> {
+    print!(rt; "depths:")?;
+    for node in 0..=6 {
+        print_depth(rt, bytes, view, node)?;
+    }
+    print_depth(rt, bytes, view, image::NONE)?;
+    println!(rt)
 }
 
 // What a load says of an image, and depths in it, also where the load refuses it.
-fn depths(name: &[u8], bytes: &[u8]) {
-    print(name);
+fn depths(rt: &impl Print, name: &str, bytes: &[u8]) -> io::Result<()> {
+    print!(rt; "{name}: ")?;
     let mut work = [7u32; 64];
     match load::load(bytes, &mut work) {
-        Loaded::View(_) => print(b": accepted\n"),
-        Loaded::Refused(wrong) => {
-            print(b": ");
-            print_refusal(wrong);
-        }
+        Loaded::View(_) => println!(rt; "accepted")?,
+        Loaded::Refused(wrong) => print_refusal(rt, wrong)?,
     }
     match ImageView::new(bytes) {
-        Opened::View(view) => print_depths(bytes, view),
-        Opened::Refused(wrong) => print_refusal(wrong),
+        Opened::View(view) => print_depths(rt, bytes, view),
+        Opened::Refused(wrong) => print_refusal(rt, wrong),
     }
 }
 
 // Loads an image and asks it, or prints why it is refused.
-fn run(bytes: &[u8]) {
+fn run(rt: &impl Print, bytes: &[u8]) -> io::Result<()> {
     let mut work = [7u32; 64];
     match load::load(bytes, &mut work) {
-        Loaded::View(view) => both(bytes, view),
-        Loaded::Refused(wrong) => print_refusal(wrong),
+        Loaded::View(view) => both(rt, bytes, view),
+        Loaded::Refused(wrong) => print_refusal(rt, wrong),
     }
 }
 
@@ -136,34 +112,50 @@ fn part(records: &[u8], at: u32) -> &[u8]
 }
 
 // The images that are asked items and walks.
-fn run_all(records: &[u8]) {
-    run(part(records, 0));
-    run(part(records, 210));
-    run(part(records, 398));
+fn run_all(rt: &impl Print, records: &[u8]) -> io::Result<()> {
+    run(rt, part(records, 0))?;
+    run(rt, part(records, 210))?;
+    run(rt, part(records, 398))
 }
 
 // The images that are asked depths.
-fn run_depths(records: &[u8]) {
-    depths(b"smallest", part(records, 586));
-    depths(b"circle", part(records, 730));
-    depths(b"named child", part(records, 1030));
-    depths(b"chain", part(records, 1341));
+fn run_depths(rt: &impl Print, records: &[u8]) -> io::Result<()> {
+    depths(rt, "smallest", part(records, 586))?;
+    depths(rt, "circle", part(records, 730))?;
+    depths(rt, "named child", part(records, 1030))?;
+    depths(rt, "chain", part(records, 1341))
 }
 
 // The images that are asked pages.
-fn run_pages(records: &[u8]) {
-    page::run_four(part(records, 1030));
-    page::run_refused(part(records, 1774));
-    page::run_forty(part(records, 1962));
+fn run_pages(rt: &impl Print, records: &[u8]) -> io::Result<()> {
+    page::run_four(rt, part(records, 1030))?;
+    page::run_refused(rt, part(records, 1774))?;
+    page::run_forty(rt, part(records, 1962))
 }
 
-fn main() {
-    let mut buffer = io::large_buffer();
-    let n = io::read_full(STDIN_FILENO, &mut buffer);
-    run_all(&buffer[..n]);
-    run_depths(&buffer[..n]);
-    run_pages(&buffer[..n]);
-    items::run_sixty(part(&buffer[..n], 3833));
-    readers::run_both(&buffer[..n]);
-    targets::run_counts(&buffer[..n]);
+// Reads until the buffer is full or the input ends; answers how many bytes.
+fn read_full<R: Read>(reader: &mut R, buffer: &mut [u8]) -> io::Result<usize>
+    ensures { IfOk result (λ n. n ≤ length buffer.new) }
+{
+    let mut filled = 0;
+    while filled < buffer.len() {
+        let n = reader.read(&mut buffer[filled..])?;
+        if n == 0 {
+            break;
+        }
+        filled += n;
+    }
+    Ok(filled)
+}
+
+fn main(rt: HostRuntime) -> io::Result<()> {
+    let mut buffer = [0u8; 65536];
+    let n = read_full(&mut rt.reader(), &mut buffer)?;
+    let records = &buffer[..n];
+    run_all(&rt, records)?;
+    run_depths(&rt, records)?;
+    run_pages(&rt, records)?;
+    items::run_sixty(&rt, part(records, 3833))?;
+    readers::run_both(&rt, records)?;
+    targets::run_counts(&rt, records)
 }

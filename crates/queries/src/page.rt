@@ -1,102 +1,112 @@
 // Pages of nodes: the words of each slot, with parent and place as the view of the slot's words has them.
-use crate::{print, print_number, print_refusal};
+use crate::print_refusal;
 use image::{ImageView, NONE, Opened};
 use load::Loaded;
+use std::io;
 use views::{NodeAnswer, OptionalWord};
 
-fn print_word(word: u32) {
-    print(b" ");
-    print_number(word as u64);
+fn print_word(rt: &impl Print, word: u32) -> io::Result<()> {
+    print!(rt; " {word}")
 }
 
-pub fn print_words(words: &[u32]) {
-    let mut i = 0;
-    while i < words.len() {
-        print_word(words[i]);
-        i += 1;
+pub fn print_words(rt: &impl Print, words: &[u32]) -> io::Result<()> {
+    for word in words {
+        print_word(rt, *word)?;
     }
+    Ok(())
 }
 
-fn print_optional(word: OptionalWord) {
+fn print_optional(rt: &impl Print, word: OptionalWord) -> io::Result<()> {
     match word {
-        OptionalWord::Present(present) => print_word(present),
-        OptionalWord::Absent => print(b" -"),
+        OptionalWord::Present(present) => print_word(rt, present),
+        OptionalWord::Absent => print!(rt; " -"),
     }
 }
 
-fn print_view(answer: NodeAnswer) {
+fn print_view(rt: &impl Print, answer: NodeAnswer) -> io::Result<()> {
     match answer {
         NodeAnswer::View(node) => {
             let parent = node.parent;
             let place = node.child_index;
-            print(b"; parent");
-            print_optional(parent);
-            print(b" place");
-            print_optional(place);
+            print!(rt; "; parent")?;
+            print_optional(rt, parent)?;
+            print!(rt; " place")?;
+            print_optional(rt, place)?;
+            println!(rt)
         }
-        NodeAnswer::NotFound => {
-            print(b"; no-18");
-        }
+        NodeAnswer::NotFound => println!(rt; "; no-18"),
     }
-    print(b"\n");
 }
 
 // A line for each slot, and one for the words behind the last.
-fn print_slots(bytes: &[u8], view: ImageView, slots: &[u32]) {
-    let mut at = 0;
-    while pages::SLOT_WORDS <= slots.len() - at {
-        let slot = &slots[at..at + pages::SLOT_WORDS];
-        print_words(slot);
-        print_view(pages::slot_view(bytes, view, slot));
-        at += pages::SLOT_WORDS;
+fn print_slots(rt: &impl Print, bytes: &[u8], view: ImageView, slots: &[u32]) -> io::Result<()> {
+    let whole = slots.chunks_exact(pages::SLOT_WORDS);
+    let behind = whole.remainder();
+    for slot in whole {
+        print_words(rt, slot)?;
+        print_view(rt, pages::slot_view(bytes, view, slot))?;
     }
-    print_words(&slots[at..]);
-    print(b"\n");
+    print_words(rt, behind)?;
+    println!(rt)
 }
 
-fn print_page(name: &[u8], bytes: &[u8], view: ImageView, numbers: &[u32], slots: &mut [u32]) {
-    print(name);
-    print(b": ");
-    print_number(pages::page(bytes, view, numbers, slots) as u64);
-    print(b"\n");
-    print_slots(bytes, view, slots);
+fn print_page(
+    rt: &impl Print,
+    name: &str,
+    bytes: &[u8],
+    view: ImageView,
+    numbers: &[u32],
+    slots: &mut [u32],
+) -> io::Result<()> {
+    let number = pages::page(bytes, view, numbers, slots);
+    println!(rt; "{name}: {number}")?;
+    print_slots(rt, bytes, view, slots)
 }
 
 // Of an image of four nodes: a number twice, NONE and the count, with a word behind the slots.
-fn four(bytes: &[u8], view: ImageView) {
+fn four(rt: &impl Print, bytes: &[u8], view: ImageView) -> io::Result<()> {
     let mut slots = [7u32; 49];
-    print_page(b"0, 0, NONE, 4", bytes, view, &[0, 0, NONE, 4], &mut slots);
+    print_page(
+        rt,
+        "0, 0, NONE, 4",
+        bytes,
+        view,
+        &[0, 0, NONE, 4],
+        &mut slots,
+    )
 }
 
 // A word too few for two numbers, of which one is no node.
-fn word_missing(bytes: &[u8], view: ImageView) {
+fn word_missing(rt: &impl Print, bytes: &[u8], view: ImageView) -> io::Result<()> {
     let mut slots = [7u32; 23];
-    print_page(b"9, 0 with 23 words", bytes, view, &[9, 0], &mut slots);
+    print_page(rt, "9, 0 with 23 words", bytes, view, &[9, 0], &mut slots)
 }
 
-fn no_numbers(bytes: &[u8], view: ImageView) {
+fn no_numbers(rt: &impl Print, bytes: &[u8], view: ImageView) -> io::Result<()> {
     let mut word = [7u32; 1];
     let slots: &mut [u32] = &mut word;
     let numbers: &[u32] = &[0];
     print_page(
-        b"none with no words",
+        rt,
+        "none with no words",
         bytes,
         view,
         &numbers[..0],
         &mut slots[..0],
-    );
+    )
 }
 
 // A node whose tag is none.
-fn no_tag(bytes: &[u8], view: ImageView) {
+fn no_tag(rt: &impl Print, bytes: &[u8], view: ImageView) -> io::Result<()> {
     let mut slots = [7u32; 24];
-    print_page(b"1, 0", bytes, view, &[1, 0], &mut slots);
+    print_page(rt, "1, 0", bytes, view, &[1, 0], &mut slots)
 }
 
-fn forty(bytes: &[u8], view: ImageView) {
+fn forty(rt: &impl Print, bytes: &[u8], view: ImageView) -> io::Result<()> {
     let mut slots = [7u32; 480];
     print_page(
-        b"forty nodes",
+        rt,
+        "forty nodes",
         bytes,
         view,
         &[
@@ -104,34 +114,34 @@ fn forty(bytes: &[u8], view: ImageView) {
             24, 25, 26, 27, 28, 29, 30, 31, 32, 33, 34, 35, 36, 37, 38, 39,
         ],
         &mut slots,
-    );
+    )
 }
 
 // Pages of an image of four nodes.
-pub fn run_four(bytes: &[u8]) {
+pub fn run_four(rt: &impl Print, bytes: &[u8]) -> io::Result<()> {
     match ImageView::new(bytes) {
         Opened::View(view) => {
-            four(bytes, view);
-            word_missing(bytes, view);
-            no_numbers(bytes, view);
+            four(rt, bytes, view)?;
+            word_missing(rt, bytes, view)?;
+            no_numbers(rt, bytes, view)
         }
-        Opened::Refused(wrong) => print_refusal(wrong),
+        Opened::Refused(wrong) => print_refusal(rt, wrong),
     }
 }
 
 // A page of an image that a load refuses.
-pub fn run_refused(bytes: &[u8]) {
+pub fn run_refused(rt: &impl Print, bytes: &[u8]) -> io::Result<()> {
     match ImageView::new(bytes) {
-        Opened::View(view) => no_tag(bytes, view),
-        Opened::Refused(wrong) => print_refusal(wrong),
+        Opened::View(view) => no_tag(rt, bytes, view),
+        Opened::Refused(wrong) => print_refusal(rt, wrong),
     }
 }
 
 // A page of forty nodes.
-pub fn run_forty(bytes: &[u8]) {
+pub fn run_forty(rt: &impl Print, bytes: &[u8]) -> io::Result<()> {
     let mut work = [7u32; 80];
     match load::load(bytes, &mut work) {
-        Loaded::View(view) => forty(bytes, view),
-        Loaded::Refused(wrong) => print_refusal(wrong),
+        Loaded::View(view) => forty(rt, bytes, view),
+        Loaded::Refused(wrong) => print_refusal(rt, wrong),
     }
 }
