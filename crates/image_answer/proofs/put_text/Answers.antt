@@ -1,6 +1,6 @@
 -- Byte by byte the text is written.
-use Rattle.std.proofs.Common.{rules, arith, ◌≡◌, length}
-use Rattle.image_answer.proofs.Lines.{paste_more, paste_end}
+use Rattle.std.proofs.Common.{arith}
+use Rattle.image_answer.proofs.Lines.{paste_more}
 use Rattle.image_answer.proofs.put_text.Goals as goal
 
 pub loop-i-preserved : goal.loop-i-preserved
