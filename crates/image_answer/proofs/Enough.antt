@@ -1,5 +1,5 @@
 -- The work words suffice for every image that is read, so that a load answers by the image alone.
-use Prim.Native.Nat.{ℕ, zero, suc, ◌+◌, ◌*◌, ◌≤◌, ◌<◌}
+use Prim.Native.Nat.{ℕ, zero, suc, ◌≤◌, ◌<◌}
 use mathlib.Core.Path.{◌≡◌, refl, sym, ap, ◌∙◌}
 use mathlib.Core.List.{List}
 use mathlib.Core.Bool.{Bool, cond}
@@ -10,14 +10,12 @@ use borrow.Author.Tests.{le-leb, lt-leb}
 use Rattle.laws.specs.Refusal.{unless, ◌▸◌}
 use Rattle.laws.proofs.First.{first, second, pass}
 use Rattle.image.specs.declared.ImageView.{ImageView}
-use Rattle.image.specs.Header.{header_rule, start_by, view_of, sections_of}
-use Rattle.image.proofs.OpenedHeader.{Opens, opens}
+use Rattle.image.specs.Header.{header_rule, view_of, sections_of}
+use Rattle.image.proofs.OpenedHeader.{opens}
 use Rattle.load.proofs.FirstSections.{first-sections}
 use Rattle.load.specs.Load.{checksum_rule, sections_rule, load_rule, load_words, loaded_by, loaded_of}
 use Rattle.load.specs.declared.Loaded.{Loaded}
-use Rattle.load.specs.declared.Loaded.TheVariants as Loaded
 use Rattle.load.proofs.Answers.{needed_is}
-use Rattle.image_answer.specs.declared.Answer.{Answer}
 use Rattle.image_answer.specs.declared.Answer.TheVariants.{Accepted, Refused, Long}
 use Rattle.image_answer.specs.Answer.{limit, most_work_words, image_rule, answer_by, answer_of}
 

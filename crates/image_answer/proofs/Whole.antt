@@ -1,5 +1,5 @@
 -- What is read of an input tells its answer: all of it, or more than the longest image.
-use Rattle.std.proofs.Common.{ℕ, ◌+◌, ◌≤◌, ◌≡◌, List, [], ◌++◌, length, sym, ap, ◌∙◌, subst, arith, append-nil, length-append, Option, Some, None, IfSome, Result, Ok, Err, OnOk}
+use Rattle.std.proofs.Common.{ℕ, ◌≤◌, ◌≡◌, List, [], ◌++◌, length, sym, ap, ◌∙◌, subst, arith, append-nil, length-append, Option, Some, None, IfSome, Result, Ok, Err, OnOk}
 use native.Mathlib.Decide.{dec_lt}
 use Rattle.std.specs.Io.KnownBytes.{Appends, Consumes, IsAtEnd}
 use Rattle.image_answer.specs.declared.Answer.{Answer}
