@@ -1,6 +1,7 @@
 // Calls on a draft and the summary beside it: its targets are counted, or one of them is set.
-use crate::{DRAFT_AT, print_changes, print_line, print_number};
+use crate::{nodes_before, print_changes, print_line, print_number};
 use draft_words::{after, read_words};
+use std::io;
 
 // How many words of a summary are lent, and how many calls there are.
 #[derive(Clone, Copy)]
@@ -38,38 +39,46 @@ fn call_at(calls: &[u8], place: u32) -> Call {
     }
 }
 
-fn print_word(word: u32) {
-    print_number(word as u64);
+fn print_word(rt: &impl Print, word: u32) -> io::Result<()> {
+    print_number(rt, word as u64)
 }
 
 // The words, each behind a space.
-fn print_words(words: &[u32]) {
+fn print_words(rt: &impl Print, words: &[u32]) -> io::Result<()> {
     let mut i = 0;
     while i < words.len() {
-        print_word(words[i]);
+        print_word(rt, words[i])?;
         i += 1;
     }
+    Ok(())
 }
 
 // What a call is, and a colon.
-fn print_call(call: Call) {
+fn print_call(rt: &impl Print, call: Call) -> io::Result<()> {
     if call.kind == 0 {
-        return print_line(b" counted:");
+        return print_line(rt, b" counted:");
     }
-    print_word(call.node);
-    print_line(b" to");
-    print_word(call.target);
-    print_line(b":");
+    print_word(rt, call.node)?;
+    print_line(rt, b" to")?;
+    print_word(rt, call.target)?;
+    print_line(rt, b":")
 }
 
 // A call, its number, the node words that have changed, and the summary.
-fn print_called(call: Call, number: u32, before: &[u32], nodes: &[u32], summary: &[u32]) {
-    print_call(call);
-    print_word(number);
-    print_changes(before, nodes);
-    print_line(b",");
-    print_words(summary);
-    print_line(b"\n");
+fn print_called(
+    rt: &impl Print,
+    call: Call,
+    number: u32,
+    before: &[u32],
+    nodes: &[u32],
+    summary: &[u32],
+) -> io::Result<()> {
+    print_call(rt, call)?;
+    print_word(rt, number)?;
+    print_changes(rt, before, nodes)?;
+    print_line(rt, b",")?;
+    print_words(rt, summary)?;
+    print_line(rt, b"\n")
 }
 
 // Counts the targets of a draft, or sets one.
@@ -112,6 +121,7 @@ fn call_targets(
 
 // So many calls on a draft and its summary, one after the other; prints what came of each.
 fn run_calls(
+    rt: &impl Print,
     count: u32,
     calls: &[u8],
     before: &[u32],
@@ -123,7 +133,7 @@ fn run_calls(
     payload: &[u8],
     strings: &[u8],
     summary: &mut [u32],
-) {
+) -> io::Result<()> {
     let mut place = 0u32;
     while place < count {
         let call = call_at(calls, place);
@@ -138,13 +148,15 @@ fn run_calls(
             strings,
             summary,
         );
-        print_called(call, number, before, nodes, summary);
+        print_called(rt, call, number, before, nodes, summary)?;
         place += 1;
     }
+    Ok(())
 }
 
 // The calls of a record on its draft, and on the summary that comes before them, if there are any.
 pub fn run(
+    rt: &impl Print,
     record: &[u8],
     nodes: &mut [u32],
     children: &[u32],
@@ -154,21 +166,21 @@ pub fn run(
     payload: &[u8],
     strings: &[u8],
     beside: &[u8],
-) {
+) -> io::Result<()> {
     let lengths = lengths_of(record);
     if lengths.calls == 0 {
-        return;
+        return Ok(());
     }
-    let mut before = [0u32; 128];
-    read_words(after(record, DRAFT_AT), &mut before);
+    let before = nodes_before(record);
     let mut words = [0u32; 16];
     read_words(beside, &mut words);
     let n = lengths.summary as usize;
     if 16 < n {
-        return print_line(b" lends too many words of a summary");
+        return print_line(rt, b" lends too many words of a summary");
     }
     let read: &mut [u32] = &mut words;
     run_calls(
+        rt,
         lengths.calls,
         after(beside, 4 * n),
         &before,
@@ -180,5 +192,5 @@ pub fn run(
         payload,
         strings,
         &mut read[..n],
-    );
+    )
 }

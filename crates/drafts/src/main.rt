@@ -7,12 +7,13 @@
 // length that was written or with 23 is needed, the CRC-32 of the lent output and how many of the lent work words are 0.
 #![tactic(auto)]
 
-ghost use Rattle.std.specs.Prelude.{◌≤◌};
+ghost use Rattle.std.specs.Prelude.{◌≤◌, length, IfOk};
 
 use calls::CallLengths;
 use draft_words::{Lengths, after, first, front, lengths_of, read_tables, read_words};
 use image::refusal::NO_ROOM;
-use libc::{STDIN_FILENO, STDOUT_FILENO};
+use std::io;
+use std::io::Read;
 use writer::Encoded;
 
 mod calls; // calls.rt: targets counted and changed
@@ -101,63 +102,69 @@ fn zeros(words: &[u32]) -> u64 {
     n
 }
 
-fn print_number(n: u64) {
-    io::write_all(STDOUT_FILENO, b" ");
-    io::print_decimal(STDOUT_FILENO, n);
+fn print_number(rt: &impl Print, n: u64) -> io::Result<()> {
+    print!(rt; " {n}")
 }
 
-fn print_line(text: &[u8]) {
-    io::write_all(STDOUT_FILENO, text);
+fn print_line(rt: &impl Print, text: &[u8]) -> io::Result<()> {
+    rt.write_all(text)
 }
 
 // The number of an answer, and its length or 0.
-fn print_answer(answer: Encoded) {
+fn print_answer(rt: &impl Print, answer: Encoded) -> io::Result<()> {
     match answer {
         Encoded::Written(length) => {
-            print_number(0);
-            print_number(length as u64);
+            print_number(rt, 0)?;
+            print_number(rt, length as u64)
         }
         Encoded::Short(length) => {
-            print_number(NO_ROOM as u64);
-            print_number(length as u64);
+            print_number(rt, NO_ROOM as u64)?;
+            print_number(rt, length as u64)
         }
         Encoded::Refused(number) => {
-            print_number(number as u64);
-            print_number(0);
+            print_number(rt, number as u64)?;
+            print_number(rt, 0)
         }
     }
 }
 
 // The place of a word and its new value.
-fn print_change(place: usize, word: u32) {
-    print_number(place as u64);
-    io::write_all(STDOUT_FILENO, b"=");
-    io::print_decimal(STDOUT_FILENO, word as u64);
+fn print_change(rt: &impl Print, place: usize, word: u32) -> io::Result<()> {
+    print_number(rt, place as u64)?;
+    print!(rt; "={word}")
 }
 
 // Every word that has changed.
-fn print_changes(before: &[u32], nodes: &[u32]) {
+fn print_changes(rt: &impl Print, before: &[u32], nodes: &[u32]) -> io::Result<()> {
     let mut i = 0;
     while i < nodes.len() {
         if i < before.len() {
             if before[i] != nodes[i] {
-                print_change(i, nodes[i]);
+                print_change(rt, i, nodes[i])?;
             }
         }
         i += 1;
     }
+    Ok(())
 }
 
 // The number of resolving targets, the words that have changed, and how many of the work words are 0.
-fn print_resolved(number: u32, before: &[u32], nodes: &[u32], work: &[u32]) {
-    print_number(number as u64);
-    print_changes(before, nodes);
-    print_number(zeros(work));
-    io::write_all(STDOUT_FILENO, b",");
+fn print_resolved(
+    rt: &impl Print,
+    number: u32,
+    before: &[u32],
+    nodes: &[u32],
+    work: &[u32],
+) -> io::Result<()> {
+    print_number(rt, number as u64)?;
+    print_changes(rt, before, nodes)?;
+    print_number(rt, zeros(work))?;
+    print_line(rt, b",")
 }
 
 // Resolves the targets of a draft by a list of paths, and prints what came of it.
 fn resolve_lent(
+    rt: &impl Print,
     head: Head,
     before: &[u32],
     nodes: &mut [u32],
@@ -170,11 +177,11 @@ fn resolve_lent(
     paths: &[u32],
     components: &[u32],
     names: &[u8],
-) {
+) -> io::Result<()> {
     let mut words = [7u32; 512];
     let n = head.work as usize;
     if 512 < n {
-        return print_line(b" lends too many work words");
+        return print_line(rt, b" lends too many work words");
     }
     let lent: &mut [u32] = &mut words;
     let work = &mut lent[..n];
@@ -192,11 +199,12 @@ fn resolve_lent(
         names,
         work,
     );
-    print_resolved(number, before, nodes, work);
+    print_resolved(rt, number, before, nodes, work)
 }
 
 // Writes a draft into what is lent, and prints what came of it.
 fn write_lent(
+    rt: &impl Print,
     head: Head,
     nodes: &[u32],
     children: &[u32],
@@ -207,7 +215,7 @@ fn write_lent(
     strings: &[u8],
     out: &mut [u8],
     work: &mut [u32],
-) {
+) -> io::Result<()> {
     let answer = writer::encode(
         head.ink,
         nodes,
@@ -220,14 +228,15 @@ fn write_lent(
         out,
         work,
     );
-    print_answer(answer);
-    print_number(checksum::crc(out) as u64);
-    print_number(zeros(work));
-    io::write_all(STDOUT_FILENO, b"\n");
+    print_answer(rt, answer)?;
+    print_number(rt, checksum::crc(out) as u64)?;
+    print_number(rt, zeros(work))?;
+    print_line(rt, b"\n")
 }
 
 // Lends as much of 512 bytes and 512 words as a record says, none of them 0.
 fn write_draft(
+    rt: &impl Print,
     head: Head,
     nodes: &[u32],
     children: &[u32],
@@ -236,20 +245,21 @@ fn write_draft(
     items: &[u32],
     payload: &[u8],
     strings: &[u8],
-) {
+) -> io::Result<()> {
     let mut bytes = [170u8; 512];
     let mut words = [7u32; 512];
     let m = head.out as usize;
     let n = head.work as usize;
     if 512 < m {
-        return print_line(b" lends too much output\n");
+        return print_line(rt, b" lends too much output\n");
     }
     if 512 < n {
-        return print_line(b" lends too many work words\n");
+        return print_line(rt, b" lends too many work words\n");
     }
     let out: &mut [u8] = &mut bytes;
     let work: &mut [u32] = &mut words;
     write_lent(
+        rt,
         head,
         nodes,
         children,
@@ -260,11 +270,19 @@ fn write_draft(
         strings,
         &mut out[..m],
         &mut work[..n],
-    );
+    )
+}
+
+// The node words as the record has them.
+fn nodes_before(record: &[u8]) -> [u32; 128] {
+    let mut before = [0u32; 128];
+    read_words(after(record, DRAFT_AT), &mut before);
+    before
 }
 
 // Resolves the draft of a record by the list behind it, if there is one.
 fn resolve_record(
+    rt: &impl Print,
     record: &[u8],
     nodes: &mut [u32],
     children: &[u32],
@@ -274,13 +292,12 @@ fn resolve_record(
     payload: &[u8],
     strings: &[u8],
     list: &[u8],
-) {
+) -> io::Result<()> {
     let lengths = list_lengths_of(record);
     if lengths.paths == 0 {
-        return;
+        return Ok(());
     }
-    let mut before = [0u32; 128];
-    read_words(after(record, DRAFT_AT), &mut before);
+    let before = nodes_before(record);
     let mut paths = [0u32; 64];
     read_words(list, &mut paths);
     let from_components = after(list, 4 * lengths.paths as usize);
@@ -288,6 +305,7 @@ fn resolve_record(
     read_words(from_components, &mut components);
     let from_names = after(from_components, 4 * lengths.components as usize);
     resolve_lent(
+        rt,
         head_of(record),
         &before,
         nodes,
@@ -300,11 +318,11 @@ fn resolve_record(
         first(&paths, lengths.paths),
         first(&components, lengths.components),
         front(from_names, lengths.names),
-    );
+    )
 }
 
 // Resolves or calls, and writes, the draft of a record, of which the nodes have at most 128 words and each other slice at most 64.
-fn run_record(record: &[u8], lengths: Lengths) {
+fn run_record(rt: &impl Print, record: &[u8], lengths: Lengths) -> io::Result<()> {
     let mut node_words = [0u32; 128];
     let mut children = [0u32; 64];
     let mut named = [0u32; 64];
@@ -321,11 +339,12 @@ fn run_record(record: &[u8], lengths: Lengths) {
     );
     let n = lengths.nodes as usize;
     if 128 < n {
-        return print_line(b" has too many node words\n");
+        return print_line(rt, b" has too many node words\n");
     }
     let read: &mut [u32] = &mut node_words;
     let nodes = &mut read[..n];
     run_slices(
+        rt,
         record,
         nodes,
         first(&children, lengths.children),
@@ -335,11 +354,12 @@ fn run_record(record: &[u8], lengths: Lengths) {
         front(from_payload, lengths.payload),
         after(from_payload, lengths.payload as usize),
         lengths.strings,
-    );
+    )
 }
 
 // The same of its slices; so many bytes are the strings, and the list or summary and calls follow them.
 fn run_slices(
+    rt: &impl Print,
     record: &[u8],
     nodes: &mut [u32],
     children: &[u32],
@@ -349,10 +369,10 @@ fn run_slices(
     payload: &[u8],
     behind: &[u8],
     length: u32,
-) {
+) -> io::Result<()> {
     let strings = front(behind, length);
-    let beside = after(behind, length as usize);
-    resolve_record(
+    run_beside(
+        rt,
         record,
         nodes,
         children,
@@ -361,20 +381,10 @@ fn run_slices(
         items,
         payload,
         strings,
-        beside,
-    );
-    calls::run(
-        record,
-        nodes,
-        children,
-        named,
-        definitions,
-        items,
-        payload,
-        strings,
-        beside,
-    );
+        after(behind, length as usize),
+    )?;
     write_draft(
+        rt,
         head_of(record),
         nodes,
         children,
@@ -383,42 +393,101 @@ fn run_slices(
         items,
         payload,
         strings,
-    );
-}
-
-// The record that bytes begin with; answers its size, or 0 where there is none.
-fn run_one(records: &[u8], place: u32) -> usize
-    ensures { result ≤ 210000000000 }
-{
-    let lengths = lengths_of(after(records, HEAD_BYTES));
-    if lengths.nodes == 0 {
-        return 0;
-    }
-    io::print_decimal(STDOUT_FILENO, place as u64);
-    io::write_all(STDOUT_FILENO, b":");
-    run_record(records, lengths);
-    size_of(
-        lengths,
-        size_beside(list_lengths_of(records), calls::lengths_of(records)),
     )
 }
 
+// Resolves the draft of a record by its list, and runs its calls, as far as there are any.
+fn run_beside(
+    rt: &impl Print,
+    record: &[u8],
+    nodes: &mut [u32],
+    children: &[u32],
+    named: &[u32],
+    definitions: &[u32],
+    items: &[u32],
+    payload: &[u8],
+    strings: &[u8],
+    beside: &[u8],
+) -> io::Result<()> {
+    resolve_record(
+        rt,
+        record,
+        nodes,
+        children,
+        named,
+        definitions,
+        items,
+        payload,
+        strings,
+        beside,
+    )?;
+    calls::run(
+        rt,
+        record,
+        nodes,
+        children,
+        named,
+        definitions,
+        items,
+        payload,
+        strings,
+        beside,
+    )
+}
+
+// The record that bytes begin with; answers its size, or 0 where there is none.
+fn run_one(rt: &impl Print, records: &[u8], place: u32) -> io::Result<usize>
+    ensures { IfOk result (λ size. size ≤ 210000000000) }
+{
+    let lengths = lengths_of(after(records, HEAD_BYTES));
+    if lengths.nodes == 0 {
+        return Ok(0);
+    }
+    print!(rt; "{place}:")?;
+    run_record(rt, records, lengths)?;
+    Ok(size_of(
+        lengths,
+        size_beside(list_lengths_of(records), calls::lengths_of(records)),
+    ))
+}
+
 // Every record, up to 100.
-fn run_all(records: &[u8]) {
+fn run_all(rt: &impl Print, records: &[u8]) -> io::Result<()> {
     let mut at = 0usize;
     let mut place = 1u32;
     while place <= 100 {
-        let size = run_one(after(records, at), place);
+        let size = run_one(rt, after(records, at), place)?;
         if size == 0 {
-            return;
+            return Ok(());
         }
         at += size;
         place += 1;
     }
+    Ok(())
 }
 
-fn main() {
-    let mut buffer = io::large_buffer();
-    let n = io::read_full(STDIN_FILENO, &mut buffer);
-    run_all(&buffer[..n]);
+// Room for the records.
+fn input_buffer() -> [u8; 65536] {
+    [0; 65536]
+}
+
+// Reads until the buffer is full or the input ends; answers how many bytes were read.
+fn read_full(input: &mut impl Read, buffer: &mut [u8]) -> io::Result<usize>
+    ensures { IfOk result (λ n. n ≤ length buffer.new) }
+{
+    let mut done = 0;
+    while done < buffer.len() {
+        let n = input.read(&mut buffer[done..])?;
+        if n == 0 {
+            break;
+        }
+        done += n;
+    }
+    Ok(done)
+}
+
+fn main(rt: HostRuntime) -> io::Result<()> {
+    let mut buffer = input_buffer();
+    let n = read_full(&mut rt.reader(), &mut buffer)?;
+    run_all(&rt, &buffer[..n])
 }

@@ -3,7 +3,7 @@ use Prim.Native.Nat.{ℕ, ◌+◌, ◌<◌, ◌/◌}
 use mathlib.Core.Path.{◌≡◌, refl, sym, ap, subst, ◌∙◌}
 use mathlib.Core.List.{List, [], ◌∷◌}
 use mathlib.Core.Bool.{Bool, true, false}
-use mathlib.Core.Option.{Option, none, some}
+use mathlib.Core.Option.{none, some}
 use native.Mathlib.Nat.{not-suc-le-zero}
 use lib.ListN.{length, get_or, take}
 use lib.Seq.{ext_get_or}
@@ -22,7 +22,6 @@ use Rattle.image.specs.declared.ImageView.{ImageView}
 use Rattle.load.specs.Load.{loaded_of}
 use Rattle.promises.specs.Answers.{of_loaded}
 use Rattle.load.specs.declared.Loaded.{Loaded}
-use Rattle.load.specs.declared.Loaded.TheVariants as Loaded
 use Rattle.image.specs.Sections.{Sections}
 use Rattle.target_finding.specs.Targets.{PathList, resolve_rule, nodes_after}
 use Rattle.writer.specs.declared.Encoded.{Encoded}

@@ -3,7 +3,6 @@ use Rattle.std.specs.Prelude.{ℕ, ◌+◌, List, Bool, true, false, cond, take,
 use Rattle.std.proofs.Math.Option.{Option, none, some}
 use Rattle.words.specs.Words.{word_in, words_of}
 use Rattle.texts.specs.Text.{same}
-use Rattle.image.specs.declared.Section.{Section}
 use Rattle.image.specs.Header.{section_bytes}
 use Rattle.image.specs.Refusals.{not_found, draft_shape, no_room}
 use Rattle.load.specs.declared.Loaded.{Loaded}

@@ -3,6 +3,8 @@
 // wrong on purpose: a comparison that compared nothing would leave their lines out.
 #![tactic(auto)]
 
+ghost use Rattle.std.specs.Prelude.{◌≤◌, length, IfOk};
+
 mod compare; // compare.rt: answers against recorded words
 mod drafts; // drafts.rt: drafts and the images they become
 mod loads; // loads.rt: images, whole and damaged
@@ -10,7 +12,8 @@ mod queries; // queries.rt: what is asked of an accepted image
 mod targets; // targets.rt: drafts whose targets are found from paths
 
 use image::Section;
-use libc::{STDIN_FILENO, STDOUT_FILENO};
+use std::io;
+use std::io::Read;
 
 // The first two words of the sample.
 const MAGIC: u32 = 1380272467;
@@ -34,12 +37,27 @@ fn input_buffer() -> [u8; 393216] {
     [0; 393216]
 }
 
-fn print(text: &[u8]) {
-    io::write_all(STDOUT_FILENO, text);
+// Reads until the buffer is full or the input ends; answers how many bytes were read.
+fn read_full(input: &mut impl Read, buffer: &mut [u8]) -> io::Result<usize>
+    ensures { IfOk result (λ n. n ≤ length buffer.new) }
+{
+    let mut done = 0;
+    while done < buffer.len() {
+        let n = input.read(&mut buffer[done..])?;
+        if n == 0 {
+            break;
+        }
+        done += n;
+    }
+    Ok(done)
 }
 
-fn print_number(number: u32) {
-    io::print_decimal(STDOUT_FILENO, number as u64);
+fn print(rt: &impl Print, text: &[u8]) -> io::Result<()> {
+    rt.write_all(text)
+}
+
+fn print_number(rt: &impl Print, number: u32) -> io::Result<()> {
+    print!(rt; "{number}")
 }
 
 // One more, as far as a word holds it.
@@ -104,16 +122,22 @@ fn agrees(kind: u32, fields: &[u8], image: &[u8]) -> bool {
     }
 }
 
-fn print_difference(place: u32, kind: u32) {
-    print(b"record ");
-    print_number(place);
-    print(b", ");
-    print_kind(kind);
-    print(b": another answer\n");
+fn print_difference(rt: &impl Print, place: u32, kind: u32) -> io::Result<()> {
+    print(rt, b"record ")?;
+    print_number(rt, place)?;
+    print(rt, b", ")?;
+    print_kind(rt, kind)?;
+    print(rt, b": another answer\n")
 }
 
 // One record.
-fn step(data: &[u8], run: Run, place: u32, counts: &mut [u32; 22]) -> Run {
+fn step(
+    rt: &impl Print,
+    data: &[u8],
+    run: Run,
+    place: u32,
+    counts: &mut [u32; 22],
+) -> io::Result<Run> {
     let at = run.at;
     let before = run.image;
     let kind = words::get(data, at as usize);
@@ -125,24 +149,24 @@ fn step(data: &[u8], run: Run, place: u32, counts: &mut [u32; 22]) -> Run {
         image::section_part(data, image, 1),
     ) {
         count(counts, kind);
-        return Run {
+        return Ok(Run {
             at: next,
             image,
             agree: one_more(run.agree),
             differ: run.differ,
-        };
+        });
     }
-    print_difference(place, kind);
-    Run {
+    print_difference(rt, place, kind)?;
+    Ok(Run {
         at: next,
         image,
         agree: run.agree,
         differ: one_more(run.differ),
-    }
+    })
 }
 
 // So many records.
-fn run_all(data: &[u8], records: u32, counts: &mut [u32; 22]) -> Run {
+fn run_all(rt: &impl Print, data: &[u8], records: u32, counts: &mut [u32; 22]) -> io::Result<Run> {
     let mut run = Run {
         at: 12,
         image: Section {
@@ -154,87 +178,89 @@ fn run_all(data: &[u8], records: u32, counts: &mut [u32; 22]) -> Run {
     };
     let mut place = 0;
     while place < records {
-        run = step(data, run, place, counts);
+        run = step(rt, data, run, place, counts)?;
         place += 1;
     }
-    run
+    Ok(run)
 }
 
-fn print_kind(kind: u32) {
+fn print_kind(rt: &impl Print, kind: u32) -> io::Result<()> {
     match kind {
-        1 => print(b"image"),
-        2 => print(b"word"),
-        3 => print(b"bit"),
-        4 => print(b"cut"),
-        10 => print(b"node view"),
-        11 => print(b"child"),
-        12 => print(b"named child"),
-        13 => print(b"find named child"),
-        14 => print(b"list entry"),
-        15 => print(b"list origin"),
-        16 => print(b"definition"),
-        17 => print(b"definition item"),
-        18 => print(b"list item"),
-        19 => print(b"walk"),
-        20 => print(b"draft"),
-        21 => print(b"targets"),
-        _ => print(b"unknown"),
+        1 => print(rt, b"image"),
+        2 => print(rt, b"word"),
+        3 => print(rt, b"bit"),
+        4 => print(rt, b"cut"),
+        10 => print(rt, b"node view"),
+        11 => print(rt, b"child"),
+        12 => print(rt, b"named child"),
+        13 => print(rt, b"find named child"),
+        14 => print(rt, b"list entry"),
+        15 => print(rt, b"list origin"),
+        16 => print(rt, b"definition"),
+        17 => print(rt, b"definition item"),
+        18 => print(rt, b"list item"),
+        19 => print(rt, b"walk"),
+        20 => print(rt, b"draft"),
+        21 => print(rt, b"targets"),
+        _ => print(rt, b"unknown"),
     }
 }
 
-fn print_count(kind: u32, count: u32) {
+fn print_count(rt: &impl Print, kind: u32, count: u32) -> io::Result<()> {
     if 0 < count {
-        print_kind(kind);
-        print(b": ");
-        print_number(count);
-        print(b"\n");
+        print_kind(rt, kind)?;
+        print(rt, b": ")?;
+        print_number(rt, count)?;
+        print(rt, b"\n")?;
     }
+    Ok(())
 }
 
-fn print_counts(counts: &[u32; 22]) {
+fn print_counts(rt: &impl Print, counts: &[u32; 22]) -> io::Result<()> {
     let mut kind = 0;
     while kind < 22 {
-        print_count(kind, counts[kind as usize]);
+        print_count(rt, kind, counts[kind as usize])?;
         kind += 1;
     }
+    Ok(())
 }
 
-fn print_sums(agree: u32, differ: u32) {
-    print_number(agree);
-    print(b" agree, ");
-    print_number(differ);
-    print(b" differ\n");
+fn print_sums(rt: &impl Print, agree: u32, differ: u32) -> io::Result<()> {
+    print_number(rt, agree)?;
+    print(rt, b" agree, ")?;
+    print_number(rt, differ)?;
+    print(rt, b" differ\n")
 }
 
 // Whether the last record ends where the sample does; a line where not.
-fn ends(data: &[u8], at: u32) -> bool {
+fn ends(rt: &impl Print, data: &[u8], at: u32) -> io::Result<bool> {
     if at as usize == data.len() {
-        return true;
+        return Ok(true);
     }
-    print(b"the records do not end with the sample\n");
-    false
+    print(rt, b"the records do not end with the sample\n")?;
+    Ok(false)
 }
 
 // Every record of a sample, of which this program knows the form; then the counts.
-fn replay(data: &[u8]) {
+fn replay(rt: &impl Print, data: &[u8]) -> io::Result<()> {
     if words::get(data, 0) != MAGIC {
-        return print(b"no sample\n");
+        return print(rt, b"no sample\n");
     }
     if words::get(data, 4) != FORM {
-        return print(b"another form\n");
+        return print(rt, b"another form\n");
     }
     let mut counts = [0u32; 22];
-    let run = run_all(data, words::get(data, 8), &mut counts);
-    print_counts(&counts);
-    if ends(data, run.at) {
-        print_sums(run.agree, run.differ);
+    let run = run_all(rt, data, words::get(data, 8), &mut counts)?;
+    print_counts(rt, &counts)?;
+    if ends(rt, data, run.at)? {
+        print_sums(rt, run.agree, run.differ)
     } else {
-        print_sums(run.agree, one_more(run.differ));
+        print_sums(rt, run.agree, one_more(run.differ))
     }
 }
 
-fn main() {
+fn main(rt: HostRuntime) -> io::Result<()> {
     let mut buffer = input_buffer();
-    let n = io::read_full(STDIN_FILENO, &mut buffer);
-    replay(&buffer[..n]);
+    let n = read_full(&mut rt.reader(), &mut buffer)?;
+    replay(&rt, &buffer[..n])
 }
