@@ -3,7 +3,7 @@
 it joins two names.
 
 usage: python3 tools/port/names.py table OUT TREE..   writes the table from trees as port.py left them
-       python3 tools/port/names.py apply TREE         renames in a tree by the table beside this script (names.tsv)
+       python3 tools/port/names.py apply TREE         renames in a tree by the tables beside this script, once
 
 Functions of src/, exported names, strings, inputs and outputs keep their names: only .antt files, the clauses and ghost items of .rt files,
 must-fail edits and the pages are read, and only whole names are turned.
@@ -15,7 +15,6 @@ import sys
 HERE = os.path.dirname(os.path.realpath(__file__))
 PART = r"[^\s(){}\[\],;.:«»\"`|]+"
 TOKEN = re.compile(PART)
-DECLARED = re.compile(r"^\s*(?:(?:pub|abbrev|unfoldable|opaque|private|erased|mutual)\s+)*(?:(?:record|data|module|syntax)\s+)?(" + PART + r")(?=\s*(?::|\(|\{|$))")
 
 
 def files(tree, *ends):
@@ -120,7 +119,7 @@ def turn(text, names, comment, lemmas):
     if lemmas:
         pattern = r"(?<![\w'.-])(" + "|".join(re.escape(n[1:]) for n in names if n[0] == "=") + r")(?![\w'-])"
         text = re.sub(pattern, lambda m: names["=" + m.group(1)], text)
-        field = pattern.replace("(?<![\\w'.-])", "(?<=[.])").replace("(?![\\w'-])", "(?![\\w'.-])")
+        field = pattern.replace("(?<![\\w'.-])", "(?<=[.])")
         text = "\n".join(l if l.lstrip().startswith("use ") else re.sub(field, lambda m: names["=" + m.group(1)], l) for l in text.split("\n"))
     out = []
     for line in text.split("\n"):
