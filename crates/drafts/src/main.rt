@@ -1,22 +1,17 @@
-// Resolves and writes the small examples of FORMAT.md's rows 3, 7, 19 to 23, 25 and 26, and of the drafts at the edges; counts and changes the
-// targets of such drafts (18, 19, 27). Standard input holds records of words: ink version, output bytes and work words lent, the lengths of the
-// draft's seven slices, of the paths, components and names beside it and of the summary, and how many calls there are on draft and summary; then
-// the slices, and three words a call. A line is printed for each: its place; where there are paths, the number of resolving their
-// targets, every node word that has changed, and how many of the lent work words are 0; or of each call, on a line of its own, the number,
-// every node word that has changed since the record was read, and the summary; then, of writing the draft, the number, the
+// Resolves and writes the small examples of FORMAT.md's rows 3, 7, 19 to 23, 25 and 26, and of the drafts at the edges. Standard input holds
+// records of words: ink version, output bytes and work words lent, the lengths of the draft's seven slices and of the paths, components
+// and names beside it; then the slices. A line is printed for each: its place; where there are paths, the number of resolving their
+// targets, every node word that has changed, and how many of the lent work words are 0; then, of writing the draft, the number, the
 // length that was written or with 23 is needed, the CRC-32 of the lent output and how many of the lent work words are 0.
 #![tactic(auto)]
 
 ghost use Rattle.std.specs.Prelude.{◌≤◌, length, IfOk};
 
-use calls::CallLengths;
 use draft_words::{Lengths, after, first, front, lengths_of, read_tables, read_words};
 use image::refusal::NO_ROOM;
 use std::io;
 use std::io::Read;
 use writer::Encoded;
-
-mod calls; // calls.rt: targets counted and changed
 
 // What a record begins with, before the lengths of its slices: the ink version, and what is lent.
 #[derive(Clone, Copy)]
@@ -39,7 +34,7 @@ const HEAD_BYTES: usize = 12;
 
 const LIST_AT: usize = 40;
 
-const DRAFT_AT: usize = 60;
+const DRAFT_AT: usize = 52;
 
 // The first three words of a record.
 fn head_of(record: &[u8]) -> Head {
@@ -67,21 +62,12 @@ fn words_in(lengths: Lengths) -> usize
     tree + lengths.definitions as usize + lengths.items as usize
 }
 
-// How many bytes the list of paths, the summary and the calls have.
-fn size_beside(list: ListLengths, calls: CallLengths) -> usize
-    ensures { result ≤ 110000000000 }
-{
-    let words = list.paths as usize + list.components as usize + calls.summary as usize;
-    4 * (words + 3 * calls.calls as usize) + list.names as usize
-}
-
 // How many bytes a record has.
-fn size_of(lengths: Lengths, beside: usize) -> usize
-    requires { beside ≤ 110000000000 }
-    ensures { result ≤ 210000000000 }
+fn size_of(lengths: Lengths, list: ListLengths) -> usize
+    ensures { result ≤ 200000000000 }
 {
     let draft = 4 * words_in(lengths) + lengths.payload as usize + lengths.strings as usize;
-    DRAFT_AT + draft + beside
+    DRAFT_AT + draft + 4 * (list.paths as usize + list.components as usize) + list.names as usize
 }
 
 // 1 for a word that is 0.
@@ -321,7 +307,7 @@ fn resolve_record(
     )
 }
 
-// Resolves or calls, and writes, the draft of a record, of which the nodes have at most 128 words and each other slice at most 64.
+// Resolves and writes the draft of a record, of which the nodes have at most 128 words and each other slice at most 64.
 fn run_record(rt: &impl Print, record: &[u8], lengths: Lengths) -> io::Result<()> {
     let mut node_words = [0u32; 128];
     let mut children = [0u32; 64];
@@ -357,7 +343,7 @@ fn run_record(rt: &impl Print, record: &[u8], lengths: Lengths) -> io::Result<()
     )
 }
 
-// The same of its slices; so many bytes are the strings, and the list or summary and calls follow them.
+// The same of its slices; so many bytes are the strings, and the list follows them.
 fn run_slices(
     rt: &impl Print,
     record: &[u8],
@@ -371,7 +357,7 @@ fn run_slices(
     length: u32,
 ) -> io::Result<()> {
     let strings = front(behind, length);
-    run_beside(
+    resolve_record(
         rt,
         record,
         nodes,
@@ -396,48 +382,9 @@ fn run_slices(
     )
 }
 
-// Resolves the draft of a record by its list, and runs its calls, as far as there are any.
-fn run_beside(
-    rt: &impl Print,
-    record: &[u8],
-    nodes: &mut [u32],
-    children: &[u32],
-    named: &[u32],
-    definitions: &[u32],
-    items: &[u32],
-    payload: &[u8],
-    strings: &[u8],
-    beside: &[u8],
-) -> io::Result<()> {
-    resolve_record(
-        rt,
-        record,
-        nodes,
-        children,
-        named,
-        definitions,
-        items,
-        payload,
-        strings,
-        beside,
-    )?;
-    calls::run(
-        rt,
-        record,
-        nodes,
-        children,
-        named,
-        definitions,
-        items,
-        payload,
-        strings,
-        beside,
-    )
-}
-
 // The record that bytes begin with; answers its size, or 0 where there is none.
 fn run_one(rt: &impl Print, records: &[u8], place: u32) -> io::Result<usize>
-    ensures { IfOk result (λ size. size ≤ 210000000000) }
+    ensures { IfOk result (λ size. size ≤ 200000000000) }
 {
     let lengths = lengths_of(after(records, HEAD_BYTES));
     if lengths.nodes == 0 {
@@ -445,10 +392,7 @@ fn run_one(rt: &impl Print, records: &[u8], place: u32) -> io::Result<usize>
     }
     print!(rt; "{place}:")?;
     run_record(rt, records, lengths)?;
-    Ok(size_of(
-        lengths,
-        size_beside(list_lengths_of(records), calls::lengths_of(records)),
-    ))
+    Ok(size_of(lengths, list_lengths_of(records)))
 }
 
 // Every record, up to 100.

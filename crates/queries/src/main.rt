@@ -1,12 +1,10 @@
-// Runs FORMAT.md's examples of list items by name, of a relative walk, of depths, of pages and of counts of targets through the code. Standard
-// input holds fourteen images, each behind its length. Of the first three items and walks are asked: one with the definitions red and size, which both hold low;
+// Runs FORMAT.md's examples of list items by name, of a relative walk, of depths and of pages through the code. Standard input holds twelve
+// images, each behind its length. Of the first three items and walks are asked: one with the definitions red and size, which both hold low;
 // one whose root has a glue as its child; and that one with a bit of its checksum turned, which is refused. Of the next four the depths of
 // nodes: the smallest; one whose nodes 1 and 2 are each the other's parent, which is refused; one with a container that is only a named
 // child; and a chain of six containers, the last of which is node 1. Pages of the one with the named child, and of the next two: a root
-// with a child of tag 15, which is refused; and forty nodes of all kinds but lists. The tenth has sixty definitions of twenty items. The next two
-// are asked by both readers: they differ only in what notes to the technician hold, in where texts lie and in their lengths. Targets are counted of
-// the one with forty nodes, of the one with the named child, and of the last two: one with each kind of target, and that one with a target that
-// is no node.
+// with a child of tag 15, which is refused; and forty nodes of all kinds but lists. The tenth has sixty definitions of twenty items. The last two
+// are asked by both readers: they differ only in what notes to the technician hold, in where texts lie and in their lengths.
 #![tactic(auto)]
 
 ghost use Rattle.std.specs.Prelude.{◌≤◌, length, IfOk};
@@ -20,7 +18,6 @@ use views::{Count, Found};
 mod items; // items.rt: list items by name
 mod page; // page.rt: pages of nodes
 mod readers; // readers.rt: the technician's reader and the sleeper's
-mod targets; // targets.rt: counts of targets
 
 fn print_found(rt: &impl Print, answer: Found) -> io::Result<()> {
     match answer {
@@ -156,6 +153,5 @@ fn main(rt: HostRuntime) -> io::Result<()> {
     run_depths(&rt, records)?;
     run_pages(&rt, records)?;
     items::run_sixty(&rt, part(records, 3833))?;
-    readers::run_both(&rt, records)?;
-    targets::run_counts(&rt, records)
+    readers::run_both(&rt, records)
 }

@@ -9,7 +9,7 @@ fn print_word(rt: &impl Print, word: u32) -> io::Result<()> {
     print!(rt; " {word}")
 }
 
-pub fn print_words(rt: &impl Print, words: &[u32]) -> io::Result<()> {
+fn print_words(rt: &impl Print, words: &[u32]) -> io::Result<()> {
     for word in words {
         print_word(rt, *word)?;
     }

@@ -1,6 +1,6 @@
--- `drafts::calls::print_words` is safe and ends.
+-- `target_drafts::calls::print_words` is safe and ends.
 use Rattle.std.proofs.Common.{◌-◌, ◌≤◌, length}
-use Rattle.drafts.proofs.calls.print_words.Given as goal
+use Rattle.target_drafts.proofs.calls.print_words.Given as goal
 
 abbrev pub invariant-loop-i : goal.invariant-loop-i
 invariant-loop-i g l = l.i ≤ length l.words
