@@ -1,4 +1,4 @@
-//! Names the static library of the leaves to the linker, where it has been built beside the other.
+//! Names the static library of the leaves to the linker, where it has been built beside the others (tools/build leaves).
 
 use std::{env, path::PathBuf};
 

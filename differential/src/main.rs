@@ -91,7 +91,7 @@ fn explained(cases: u64, seed: u64) -> Result<bool, String> {
 
 #[cfg(not(feature = "ours"))]
 fn explained(_: u64, _: u64) -> Result<bool, String> {
-    Err("'explain' needs our static library (rt staticlib story_image)".to_owned())
+    Err("'explain' needs our static libraries (tools/build library)".to_owned())
 }
 
 /// The words as numbers, in the place of the given ones.

@@ -123,7 +123,7 @@ resolver_lines =
     record {
       target = ((resolve-exactly 21 (guide NONE) whole 1000).0 target_lines.lists.passed).targets 1 1 first-follows;
       words_few = λ r. apart (sym target_lines.lists.words_few ∙ (resolve-exactly 21 (guide NONE) whole 139).1 r);
-      no_node = (deciding_node 21 (guide 3) (one 1 0 2 1) 1000).no_target.0 target_lines.paths.row_25;
+      no_node = (deciding_node 21 (guide 3) (one 1 0 2 1) 1000).no_target_lem.0 target_lines.paths.row_25;
       no_container_lem = d;
       no_divert = never_of_divert 21 (guide 3) (one 1 0 0 2) 1000 d;
     }

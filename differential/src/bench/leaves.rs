@@ -1,12 +1,12 @@
 //! The leaves by themselves: checksum, UTF-8 and comparison of texts, against what Rust has for each. They are called
-//! from the static library of crate `leaves`, where it has been built beside the other (rt staticlib leaves).
+//! from the static library of crate `leaves`, where it has been built beside the others (tools/build leaves).
 
 use super::Sheet;
 use crate::random::Random;
 
 #[cfg(not(leaves))]
 pub fn run(_: &mut Random, _: &mut Sheet) {
-    println!("leaves: no libleaves.a (rt staticlib leaves)");
+    println!("leaves: no libleaves.a (tools/build leaves)");
 }
 
 #[cfg(leaves)]

@@ -1,0 +1,11 @@
+-- `sleeper_image::node::story_image_sleeper_node_view` meets its contract.
+use mathlib.Core.Path.{refl}
+use Rattle.sleeper_image.proofs.Views.{no_view, asked}
+use borrow.Author.Rules.{rules}
+use Rattle.sleeper_image.proofs.node.story_image_sleeper_node_view.Goals as goal
+
+pub returns-then-view-lt-VIEW_WORDS : goal.returns-then-view-lt-VIEW_WORDS
+returns-then-view-lt-VIEW_WORDS c = no_view c.args.view.now _ _ c.if-view-lt-VIEW_WORDS.true
+
+pub returns : goal.returns
+returns c = asked c.args.view.now _ _ _ _ c.if-view-lt-VIEW_WORDS.false _ c.view_of.ensures _ refl c.put_node_view.ensures

@@ -1,0 +1,13 @@
+-- `story_image::children::story_image_named_child_at` meets its contract.
+use mathlib.Core.Path.{ap}
+use Rattle.answers.specs.AnswerWords.{named_answer}
+use Rattle.story_image.proofs.Views.{no_view, asked}
+use borrow.Author.Rules.{rules}
+use Rattle.story_image.proofs.children.story_image_named_child_at.Goals as goal
+
+pub returns-then-view-lt-VIEW_WORDS : goal.returns-then-view-lt-VIEW_WORDS
+returns-then-view-lt-VIEW_WORDS c = no_view c.args.view.now _ _ c.if-view-lt-VIEW_WORDS.true
+
+pub returns : goal.returns
+returns c =
+    asked c.args.view.now _ _ _ _ c.if-view-lt-VIEW_WORDS.false _ c.view_of.ensures _ (ap named_answer c.named_child_at.ensures) c.put_named.ensures

@@ -1,0 +1,20 @@
+-- `story_image::counts::story_image_count_targets` meets its contract.
+use Rattle.story_image.proofs.TargetCounts.{count-without, count_under}
+use borrow.Author.Rules.{rules}
+use Rattle.story_image.proofs.counts.story_image_count_targets.Goals as goal
+
+pub returns-then-view-lt-VIEW_WORDS : goal.returns-then-view-lt-VIEW_WORDS
+returns-then-view-lt-VIEW_WORDS c = let a = c.args in
+    record {
+      number = (count-without a.bytes.now a.view.now a.summary.now c.if-view-lt-VIEW_WORDS.true).0;
+      words = (count-without a.bytes.now a.view.now a.summary.now c.if-view-lt-VIEW_WORDS.true).1;
+    }
+
+pub returns : goal.returns
+returns c =
+    let a = c.args in
+    let e = c.count_targets.ensures in
+    record {
+      number = (count_under a.bytes.now a.view.now a.summary.now c.if-view-lt-VIEW_WORDS.false _ c.view_of.ensures _ _ e.number e.words).0;
+      words = (count_under a.bytes.now a.view.now a.summary.now c.if-view-lt-VIEW_WORDS.false _ c.view_of.ensures _ _ e.number e.words).1;
+    }

@@ -1,0 +1,9 @@
+-- `story_image::header_words::story_image_strings_length` meets its contract.
+use mathlib.Core.Path.{ap}
+use Rattle.answers.specs.AnswerWords.{count_answer}
+use Rattle.answers.proofs.AnswerSlices.{answered_as}
+use borrow.Author.Rules.{rules}
+use Rattle.story_image.proofs.header_words.story_image_strings_length.Goals as goal
+
+pub returns : goal.returns
+returns c = answered_as _ _ _ _ _ (ap count_answer c.strings_length.ensures) c.put_count.ensures

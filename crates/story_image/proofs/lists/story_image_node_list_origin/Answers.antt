@@ -1,0 +1,26 @@
+-- `story_image::lists::story_image_node_list_origin` meets its contract.
+use mathlib.Core.Path.{refl, sym, ap, ◌∙◌}
+use Rattle.story_image.proofs.Views.{no_view, asked}
+use Rattle.story_image.proofs.ListValues.{no_list, a_list}
+use Rattle.answers.proofs.AnswerSlices.{unanswered}
+use Rattle.answers.specs.AnswerWords.{place_answer}
+use Rattle.image.proofs.Views.{strings_by}
+use Rattle.views.specs.Lists.{list_origin}
+use borrow.Author.Rules.{rules}
+use Rattle.story_image.proofs.lists.story_image_node_list_origin.Goals as goal
+
+pub returns-then-view-lt-VIEW_WORDS : goal.returns-then-view-lt-VIEW_WORDS
+returns-then-view-lt-VIEW_WORDS c = no_view c.args.view.now _ _ c.if-view-lt-VIEW_WORDS.true
+
+pub returns-in-NotFound : goal.returns-in-NotFound
+returns-in-NotFound c =
+    asked c.args.view.now _ _ _ _ c.if-view-lt-VIEW_WORDS.false _ c.view_of-found.ensures _ (no_list _ _ c.list_place.ensures _ c.in-NotFound.is) (unanswered _ _ refl)
+
+pub returns-in-List : goal.returns-in-List
+returns-in-List c =
+    let a = c.args in
+    let list = a_list _ _ c.list_place.ensures _ _ c.in-List.is in
+    let payload = c.list_payload-payload.ensures in
+    let strings = c.section_part-strings.ensures ∙ sym (strings_by _ _) in
+    let entry = c.list_origin.ensures ∙ λ k. list_origin (payload k) (strings k) a.index in
+    asked a.view.now _ _ _ _ c.if-view-lt-VIEW_WORDS.false _ c.view_of-found.ensures _ (ap place_answer entry ∙ list) c.put_place.ensures

@@ -1,0 +1,20 @@
+-- `story_image::page::story_image_page` meets its contract.
+use Rattle.story_image.proofs.Pages.{page-without, page-under}
+use borrow.Author.Rules.{rules}
+use Rattle.story_image.proofs.page.story_image_page.Goals as goal
+
+pub returns-then-view-lt-VIEW_WORDS : goal.returns-then-view-lt-VIEW_WORDS
+returns-then-view-lt-VIEW_WORDS c = let a = c.args in
+    record {
+      answer = (page-without a.bytes.now a.view.now a.numbers.now a.slots.now c.if-view-lt-VIEW_WORDS.true).0;
+      written = (page-without a.bytes.now a.view.now a.numbers.now a.slots.now c.if-view-lt-VIEW_WORDS.true).1;
+    }
+
+pub returns : goal.returns
+returns c =
+    let a = c.args in
+    let e = c.page.ensures in
+    record {
+      answer = (page-under a.bytes.now a.view.now a.numbers.now a.slots.now c.if-view-lt-VIEW_WORDS.false _ c.view_of.ensures _ _ e.answer e.written).0;
+      written = (page-under a.bytes.now a.view.now a.numbers.now a.slots.now c.if-view-lt-VIEW_WORDS.false _ c.view_of.ensures _ _ e.answer e.written).1;
+    }

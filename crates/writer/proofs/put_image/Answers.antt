@@ -1,0 +1,45 @@
+-- `writer::put_image` meets its contract.
+use Rattle.draft.specs.Source.{draft_of}
+use Rattle.writer.proofs.ImageOutput.{put_long, put_short, fill_asks, put_done}
+use borrow.Author.Rules.{rules}
+use Rattle.writer.proofs.put_image.Goals as goal
+
+pub returns-then-out-length : goal.returns-then-out-length
+returns-then-out-length c =
+    let to = c.args in
+    let asked = c.requires in
+    let image-length = c.image_length in
+    let s = draft_of to.source.version to.nodes.now to.children.now to.named.now to.definitions.now to.items.now to.payload.now to.strings.now in
+    put_short to.ink s to.work.now to.layout to.counts asked to.out.now _ image-length.ensures _
+    c.in-Bytes.is c.if-out-length.true
+
+pub fill-requires : goal.fill-requires
+fill-requires c =
+    let to = c.args in
+    let asked = c.requires in
+    let image-length = c.image_length in
+    let s = draft_of to.source.version to.nodes.now to.children.now to.named.now to.definitions.now to.items.now to.payload.now to.strings.now in
+    record {
+      fact = (fill_asks to.ink s to.work.now to.layout to.counts asked to.out.now _ image-length.ensures _ c.in-Bytes.is
+    c.if-out-length.false).0;
+      s_in_bounds = (fill_asks to.ink s to.work.now to.layout to.counts asked to.out.now _ image-length.ensures _ c.in-Bytes.is
+    c.if-out-length.false).1;
+    }
+
+pub returns-in-TooLong : goal.returns-in-TooLong
+returns-in-TooLong c =
+    let to = c.args in
+    let asked = c.requires in
+    let s = draft_of to.source.version to.nodes.now to.children.now to.named.now to.definitions.now to.items.now to.payload.now to.strings.now in
+    put_long to.ink s to.work.now to.layout to.counts asked to.out.now _ c.image_length.ensures
+    c.in-TooLong.is
+
+pub returns-else-out-length : goal.returns-else-out-length
+returns-else-out-length c =
+    let to = c.args in
+    let asked = c.requires in
+    let image-length = c.image_length in
+    let if1 = c.if-out-length in
+    let s = draft_of to.source.version to.nodes.now to.children.now to.named.now to.definitions.now to.items.now to.payload.now to.strings.now in
+    put_done to.ink s to.work.now to.layout to.counts asked to.out.now _ image-length.ensures _ c.in-Bytes.is if1.false _
+    c.fill.ensures
