@@ -2,7 +2,6 @@
 use Prim.Native.Nat.{ℕ}
 use mathlib.Core.Path.{◌≡◌, ◌∙◌, ap, subst}
 use mathlib.Core.List.{List}
-use borrow.Author.Rules.{rules}
 use Rattle.draft_words.specs.Slices.{BeginWith, behind_words}
 use Rattle.draft_words.proofs.read_tables.Goals as goal
 

@@ -1,10 +1,7 @@
 -- `draft_words::read_words` meets its contract. The invariant: the first i words are read.
-use Prim.Native.Nat.{◌≤◌, ◌-◌}
-use mathlib.Core.Path.{◌≡◌, refl}
+use mathlib.Core.Path.{refl}
 use native.Mathlib.Omega.{arith}
 use lib.ListN.{length, length-set}
-use borrow.Author.Rules.{rules}
-use Rattle.draft_words.specs.Slices.{BeginWith}
 use Rattle.draft_words.proofs.Reading.{none_read, one_read, all_read}
 use Rattle.draft_words.proofs.read_words.Goals as goal
 
