@@ -9,7 +9,7 @@ use native.Mathlib.Omega.{arith}
 use native.Mathlib.Nat.{not-suc-le-zero}
 use native.Mathlib.Decide.{ℕ_discrete}
 use lib.ListN.{length, drop, set}
-use lib.Dec.{eqb, leb}
+use lib.Dec.{eqb}
 use borrow.Author.Tests.{eqb-true, eq-eqb, ne_eqb, le-leb, lt-leb}
 use mir.Facts.{of_z-to_z}
 use mir.Syntax.{w32}
@@ -42,11 +42,10 @@ use Rattle.views.specs.declared.NodeAnswer.TheVariants as node
 use Rattle.views.specs.View.{signed, span, optional_text, optional_word, push_type, of_command, of_operator, with_text, kind_view, with_kind, record_view}
 use Rattle.views.specs.Shown.{container_view, divert_view, command_view, operator_view, list_view, with_name, text_kind}
 use Rattle.answers.specs.declared.node.KindWords.{KindWords}
-use Rattle.answers.specs.declared.node.KindFound.{KindFound}
 use Rattle.answers.specs.declared.node.KindFound.TheVariants as found
 use Rattle.answers.specs.AnswerWords.{Answered, unsigned, word_or, span_or, no_span, bit_if}
-use Rattle.answers.specs.NodeViewWords.{value_word, push_number, divert_flags, assignment_flags, value_words, kind_words, node_view_words, node_answer}
-use Rattle.answers.specs.RecordWords.{eight_of, words_found, words_of_kind, text_alone, value_alone, number_found, fields_of}
+use Rattle.answers.specs.NodeViewWords.{push_number, divert_flags, assignment_flags, value_words, kind_words, node_view_words, node_answer}
+use Rattle.answers.specs.RecordWords.{words_found, words_of_kind, text_alone, value_alone, number_found, fields_of}
 use Rattle.answers.proofs.AnswerSlices.{unanswered, too_short}
 
 -- ---- a word is shown as it stands

@@ -1,5 +1,5 @@
 -- What a writer answers: 0, or the number of the first rule that is broken; the image; output and work words on return.
-use Rattle.std.specs.Prelude.{ℕ, ◌+◌, List, ◌++◌, Bool, cond, ◌&&◌, ◌||◌, length, drop, replicate, leb, eqb}
+use Rattle.std.specs.Prelude.{ℕ, List, ◌++◌, Bool, cond, ◌&&◌, ◌||◌, length, drop, replicate, leb, eqb}
 use Rattle.laws.specs.Refusal.{unless, ◌▸◌, refusals}
 use Rattle.words.specs.Words.{NONE}
 use Rattle.image.specs.Sections.{Sections}

@@ -1,5 +1,5 @@
 -- What the writer's work words hold before the sections are written: numbers of nodes, and offsets of stored texts.
-use Rattle.std.specs.Prelude.{ℕ, ◌+◌, ◌<◌, ◌≡◌, List, [], ◌++◌, map, length, get_or}
+use Rattle.std.specs.Prelude.{ℕ, ◌+◌, ◌<◌, ◌≡◌, List, [], ◌++◌, length, get_or}
 use Rattle.laws.specs.Counted.{join_of}
 use Rattle.laws.specs.Lists.{place_in}
 use Rattle.image.specs.Sections.{Sections, node_count, definition_count}

@@ -1,15 +1,15 @@
 -- The texts of a written image: each stored once, at its first use.
-use Rattle.std.specs.Prelude.{ℕ, zero, suc, ◌+◌, List, [], ◌∷◌, ◌++◌, map, Bool, cond, length, get_or}
+use Rattle.std.specs.Prelude.{ℕ, ◌+◌, List, [], ◌∷◌, ◌++◌, map, cond, length}
 use Rattle.laws.specs.Counted.{join_of, those, counted}
 use Rattle.laws.specs.Lists.{flat_map, lists}
 use Rattle.laws.specs.Sorted.{isort, insertions}
-use Rattle.words.specs.Words.{NONE, is_none}
+use Rattle.words.specs.Words.{NONE}
 use Rattle.texts.specs.Text.{same, by_key, holds, texts}
-use Rattle.image.specs.Sections.{Sections, node_count, definition_count, node_word, tag_of, f, text_at, absent, is_container, sections}
+use Rattle.image.specs.Sections.{Sections, node_count, definition_count, f, text_at, absent, is_container, sections}
 use Rattle.records.specs.Fields.{Field, text, optional, command, operator, node, optionalNode, container, optionalContainer, plain, at_most, children, named, payload, wrong}
-use Rattle.records.specs.Records.{fields_at, number_of_named, list_items, list_origins, list_word, list_item_word, list_origin_word, records}
-use Rattle.tree.specs.Tree.{named_text, named_at}
-use Rattle.index.specs.Paths.{canonical_path, path_from, paths}
+use Rattle.records.specs.Records.{fields_at, number_of_named, list_items, list_origins, list_item_word, list_origin_word, records}
+use Rattle.tree.specs.Tree.{named_text}
+use Rattle.index.specs.Paths.{canonical_path, paths}
 use Rattle.definitions.specs.Definitions.{definition_text, number_of_items, item_text_of, definitions}
 use Rattle.draft.specs.Numbering.{old_of}
 

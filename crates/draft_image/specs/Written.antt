@@ -1,5 +1,5 @@
 -- The sections that a draft is written as: `order` is the numbering, `kept` the stored texts.
-use Rattle.std.specs.Prelude.{ℕ, zero, suc, ◌+◌, ◌-◌, List, [], ◌∷◌, ◌++◌, cond, length, get_or, replicate, eqb}
+use Rattle.std.specs.Prelude.{ℕ, ◌+◌, ◌-◌, List, [], ◌∷◌, ◌++◌, cond, length, get_or, replicate, eqb}
 use Rattle.std.proofs.lemmas.List.Edits.{sets}
 use Rattle.laws.specs.Counted.{join_of, sum_of, counted}
 use Rattle.laws.specs.Lists.{flat_map, place_in, lists}
@@ -7,11 +7,11 @@ use Rattle.words.specs.Words.{NONE, bytes_of, words}
 use Rattle.image.specs.Sections.{Sections, common_words, node_words, node_count, definition_count, item_count, node_word, parent_of, place_of, tag_of, f, definition_word, item_word, text_at}
 use Rattle.image.specs.Tags.{list_tag}
 use Rattle.records.specs.Fields.{Field, text, optional, command, operator, node, optionalNode, container, optionalContainer, plain, at_most, children, named, payload, wrong}
-use Rattle.records.specs.Records.{fields_at, number_of_children, number_of_named, payload_length_of, list_items, list_origins, list_word, list_item_word, list_origin_word}
+use Rattle.records.specs.Records.{fields_at, number_of_children, number_of_named, payload_length_of, list_items, list_origins, list_item_word, list_origin_word}
 use Rattle.tree.specs.Tree.{child_at, named_at, named_text}
 use Rattle.definitions.specs.Definitions.{definition_text, item_text}
 use Rattle.draft.specs.Numbering.{numbering, old_of, new_of, numberings}
-use Rattle.draft_image.specs.Strings.{by_path, path_of, stored_texts, offset_of, text_words, optional_words, strings}
+use Rattle.draft_image.specs.Strings.{by_path, path_of, stored_texts, text_words, optional_words, strings}
 
 -- the sum of b at the nodes that come before node i in the new numbering
 unfoldable pub start_in : (ℕ → ℕ) → List ℕ → ℕ → ℕ

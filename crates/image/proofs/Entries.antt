@@ -1,10 +1,10 @@
 -- What the code reads out of a section's words are the words of that entry: of a node, a named entry, a definition, an item, an index entry.
-use Prim.Native.Nat.{ℕ, ◌*◌}
+use Prim.Native.Nat.{ℕ}
 use mathlib.Core.Path.{◌≡◌, ap, ◌∙◌}
 use mathlib.Core.List.{List}
 use native.Mathlib.Nat.{add-zero}
 use Rattle.image.specs.declared.NodeRecord.{NodeRecord}
-use Rattle.image.specs.Sections.{Sections, node_words, node_word, parent_of, place_of, tag_of, f, named_word, definition_word, item_word, index_word}
+use Rattle.image.specs.Sections.{Sections, node_word, parent_of, place_of, tag_of, f, named_word, definition_word, item_word, index_word}
 use Rattle.image.specs.Entries.{record_of, text_entry_of, definition_of, node_in, named_in, item_in, index_in, definition_in}
 
 -- ---- whole entries

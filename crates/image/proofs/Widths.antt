@@ -1,6 +1,6 @@
 -- The width of a node: what proofs know of it. No other file unfolds `node_words`.
-use Prim.Native.Nat.{ℕ, suc, ◌+◌, ◌*◌, ◌/◌, ◌≤◌, ◌<◌}
-use mathlib.Core.Path.{◌≡◌, refl, sym, ap, ◌∙◌, subst}
+use Prim.Native.Nat.{ℕ, ◌+◌, ◌*◌, ◌/◌, ◌≤◌, ◌<◌}
+use mathlib.Core.Path.{◌≡◌, refl, sym, ap, ◌∙◌}
 use mathlib.Core.List.{List}
 use native.Mathlib.Omega.{arith}
 use native.Mathlib.Nat.{mul_comm, mul_assoc, mul-le-mul_left}
@@ -8,7 +8,6 @@ use lib.ListN.{length}
 use Rattle.words.specs.Words.{words_of, NONE}
 use Rattle.words.proofs.Words.{length-words}
 use Rattle.image.specs.Sections.{common_words, most_words, node_words, node_size}
-use Rattle.image.proofs.Parts.{entry-inside}
 
 pub record Width (w : ℕ) : Type 0 where
   pub least : common_words ≤ w

@@ -1,5 +1,5 @@
 -- What a definition by tests gives, one test at a time, by the test that the code made: `search cases depth 12` closes a return's need.
-use mathlib.Core.Path.{◌≡◌, refl, sym, ◌∙◌}
+use mathlib.Core.Path.{◌≡◌}
 use mathlib.Core.Bool.{Bool, true, false, not, cond, ◌&&◌, ◌||◌}
 use Prim.Native.Nat.{ℕ, suc, ◌≤◌, ◌<◌}
 use lib.Dec.{leb, ltb, eqb}

@@ -1,6 +1,6 @@
 -- Where the definitions passed their rules: a search answers what the look-up through all of them does, and searches as many definitions
 -- as the plain reading says.
-use Prim.Native.Nat.{ℕ, zero, suc, ◌+◌, ◌-◌, ◌<◌}
+use Prim.Native.Nat.{ℕ, ◌+◌, ◌<◌}
 use mathlib.Core.Path.{◌≡◌, refl, sym, ap, ◌∙◌}
 use mathlib.Core.List.{List}
 use mathlib.Core.Bool.{Bool, true, false, cond, true≢false}
@@ -25,7 +25,7 @@ use Rattle.lookups.proofs.Plain.{Last, last_some, last_none, last-like, last-non
 use Rattle.lookups.proofs.Given.{listed-given, listed-refused}
 use Rattle.list_items.specs.declared.ItemSearch.{ItemSearch}
 use Rattle.list_items.specs.Search.{among_at, search_among, no_search, origin_of, search_in, list_search}
-use Rattle.list_items.specs.Plain.{IsOrigin, SearchCount}
+use Rattle.list_items.specs.Plain.{SearchCount}
 
 -- ---- without an origin the tests are alike
 

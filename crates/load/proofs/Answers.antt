@@ -1,10 +1,10 @@
 -- The whole load, put together: the answer, and the work words on return.
 use Prim.Native.Nat.{ℕ, zero, suc, ◌+◌, ◌≤◌, ◌<◌}
-use mathlib.Core.Path.{◌≡◌, refl, sym, ap, ◌∙◌, subst}
+use mathlib.Core.Path.{◌≡◌, refl, sym, ap, ◌∙◌}
 use mathlib.Core.List.{List, ◌++◌}
 use mathlib.Core.Bool.{Bool, true, false, cond}
 use native.Mathlib.Omega.{arith}
-use lib.ListN.{length, drop, replicate}
+use lib.ListN.{drop, replicate}
 use lib.Dec.{eqb, leb}
 use borrow.Author.Tests.{eq-eqb, ne_eqb, le-leb, lt-leb}
 use Rattle.laws.specs.Refusal.{unless, ◌▸◌}
@@ -14,11 +14,8 @@ use Rattle.words.specs.Words.{word_at}
 use Rattle.checksum.specs.Crc.{checksum_of}
 use Rattle.image.specs.declared.ImageView.{ImageView}
 use Rattle.image.specs.declared.Opened.{Opened}
-use Rattle.image.specs.declared.Opened.TheVariants as Opened
 use Rattle.image.specs.Header.{header_rule, opened_by, opened_of, view_of, sections_by, sections_of, checksum_at}
-use Rattle.image.proofs.OpenedHeader.{Opens, opens, view-counts}
-use Rattle.image.proofs.Views.{SectionCounts}
-use Rattle.load.specs.declared.Loaded.{Loaded}
+use Rattle.image.proofs.OpenedHeader.{opens, view-counts}
 use Rattle.load.specs.declared.Loaded.TheVariants.{View, Refused}
 use Rattle.load.specs.Load.{checksum_rule, sections_rule, load_rule, load_words, loaded_by, loaded_of, work_after, early}
 use Rattle.load.proofs.NumbersFrom8.{late-not-early, late-sections}

@@ -1,5 +1,5 @@
 -- The loop over the nodes: what it is told of each node, and what it has shown when it has passed some.
-use Prim.Native.Nat.{ℕ, zero, suc, ◌+◌, ◌*◌, ◌/◌, ◌≤◌, ◌<◌}
+use Prim.Native.Nat.{ℕ, zero, suc, ◌+◌, ◌/◌, ◌≤◌, ◌<◌}
 use mathlib.Core.Path.{◌≡◌, refl, sym, ap, ◌∙◌}
 use mathlib.Core.List.{List, []}
 use mathlib.Core.Bool.{Bool, true, false, cond}
@@ -24,7 +24,6 @@ use Rattle.records.specs.Records.{target_in, node_rule, parent_rule, fields_rule
 use Rattle.records.specs.Shown.{Shows, ShowsParent, tag_in, counts_of, sums_before, parent_by, fields_by}
 use Rattle.laws.proofs.Chains.{refused, first-broken, first_done}
 use Rattle.records.proofs.PassedRules.{first-sums}
-use Rattle.load.specs.declared.nodes.Nodes.{Nodes}
 use Rattle.load.specs.declared.nodes.Nodes.TheVariants.{Passed, Refused}
 use Rattle.tree.specs.Parts.{parts_of}
 use Rattle.records.proofs.ByKind.{counts-kept, shown-parent, shown-fields}

@@ -1,7 +1,6 @@
 -- The rules on sections give no refusal with a number below 8: those leave the work words untouched.
-use Prim.Native.Nat.{ℕ, zero, suc, ◌+◌, ◌≤◌, ◌<◌}
-use mathlib.Core.Path.{◌≡◌, refl, sym, ap, ◌∙◌}
-use mathlib.Core.Logic.{◌⊎◌, inl, inr, ⊎_elim}
+use Prim.Native.Nat.{ℕ, zero, suc, ◌≤◌}
+use mathlib.Core.Path.{◌≡◌, refl}
 use mathlib.Core.List.{List, [], ◌∷◌, ◌++◌, reverse}
 use mathlib.Core.Bool.{Bool, true, false, cond}
 use native.Mathlib.Omega.{arith}
@@ -10,10 +9,10 @@ use borrow.Author.Tests.{lt-leb}
 use Rattle.laws.specs.Refusal.{unless, ◌▸◌, first_of}
 use Rattle.laws.specs.Lists.{has}
 use Rattle.laws.proofs.Flags.{and-false}
-use Rattle.image.specs.Sections.{Sections, node_count, index_count, definition_count}
+use Rattle.image.specs.Sections.{Sections}
 use Rattle.records.specs.Fields.{Field, text, optional, command, operator, node, optionalNode, container, optionalContainer, plain, at_most, children, named, payload, wrong}
 use Rattle.records.specs.Records.{field_rule, first_field, fields_at, parent_rule, node_rule, payload_rule, list_item_rule, list_origin_rule}
-use Rattle.tree.specs.Tree.{Walked, stop, walk, child_rule, named_rule, entries_rule, entry_nodes, load_walk, tree_rule, turns}
+use Rattle.tree.specs.Tree.{stop, walk, child_rule, named_rule, entries_rule, entry_nodes, load_walk, tree_rule, turns}
 use Rattle.index.specs.Index.{index_entry_rule, index_rule}
 use Rattle.definitions.specs.Definitions.{item_rule_from, definition_rule, definitions_rule}
 use Rattle.load.specs.Load.{leftover_rule, records_rule, sections_rule, early}

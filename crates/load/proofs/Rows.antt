@@ -1,6 +1,6 @@
 -- Rows 8 to 17 put together out of what the functions answer.
 use Prim.Native.Nat.{ℕ, zero, suc, ◌+◌, ◌*◌, ◌/◌, ◌≤◌, ◌<◌}
-use mathlib.Core.Path.{◌≡◌, refl, sym, ap, ◌∙◌, subst}
+use mathlib.Core.Path.{◌≡◌, refl, sym, ap, ◌∙◌}
 use mathlib.Core.Logic.{◌⊎◌, inl, inr, ⊎_elim}
 use mathlib.Core.List.{List, [], ◌∷◌}
 use mathlib.Core.Bool.{Bool, true, false, not, ◌&&◌, true≢false}
@@ -11,13 +11,12 @@ use lib.ListN.{length, drop}
 use lib.Dec.{eqb}
 use borrow.Author.Tests.{eq-eqb, ne_eqb, eqb-true, not-true, not-false}
 use Rattle.laws.specs.Refusal.{unless, ◌▸◌, first_of}
-use Rattle.laws.proofs.First.{both, then, second, pass, passed, fail}
+use Rattle.laws.proofs.First.{both, second, pass, passed, fail}
 use Rattle.laws.proofs.Flags.{both_true}
 use Rattle.laws.proofs.Chains.{refused}
 use Rattle.words.specs.Words.{words_of}
 use Rattle.image.specs.declared.ImageView.{ImageView}
-use Rattle.image.specs.declared.Section.{Section}
-use Rattle.image.specs.Sections.{Sections, node_words, node_size, child_size, text_entry_size, node_count, index_count, node_word, part_at}
+use Rattle.image.specs.Sections.{Sections, node_words, node_size, child_size, text_entry_size, node_count, index_count, node_word}
 use Rattle.image.specs.Header.{section_bytes, sections_by}
 use Rattle.image.proofs.Parts.{section-length, section-outside, entry-count}
 use Rattle.image.proofs.Widths.{words-some}

@@ -1,5 +1,5 @@
 -- What a load answers: 0, or the number of the first rule that is broken; and the work words on return.
-use Rattle.std.specs.Prelude.{ℕ, zero, suc, ◌+◌, List, ◌++◌, Bool, cond, ◌&&◌, ◌≡◌, length, drop, replicate, leb, eqb}
+use Rattle.std.specs.Prelude.{ℕ, zero, suc, List, ◌++◌, Bool, cond, ◌&&◌, ◌≡◌, drop, replicate, leb, eqb}
 use Rattle.laws.specs.Refusal.{unless, ◌▸◌, first_of, refusals}
 use Rattle.words.specs.Words.{word_at}
 use Rattle.checksum.specs.Crc.{checksum_of, crcs}

@@ -1,6 +1,6 @@
 -- What the loop over the nodes is told and gives.
 use Rattle.std.specs.Prelude.{ℕ, zero, suc, ◌≡◌, List, []}
-use Rattle.laws.specs.Refusal.{first_of, ◌▸◌, refusals}
+use Rattle.laws.specs.Refusal.{first_of, ◌▸◌}
 use Rattle.words.specs.Words.{words_of}
 use Rattle.image.specs.Sections.{Sections, node_count}
 use Rattle.image.specs.declared.EntryCounts.{EntryCounts}

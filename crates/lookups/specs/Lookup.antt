@@ -1,10 +1,9 @@
 -- Look-ups by name: a named child, a list item. Both halve a range of texts; on rising texts that is the plain reading
 -- (proofs/).
-use Rattle.std.specs.Prelude.{ℕ, zero, suc, ◌+◌, ◌-◌, ◌*◌, ◌/◌, List, [], Bool, true, false, cond, ◌||◌, not, length, get_or, leb, ltb}
+use Rattle.std.specs.Prelude.{ℕ, zero, suc, ◌+◌, ◌-◌, ◌*◌, ◌/◌, List, Bool, true, false, cond, ◌||◌, not, length, get_or, leb, ltb}
 use Rattle.std.proofs.Math.Option.{Option, none, some}
 use Rattle.laws.specs.Counted.{last_of, counted}
 use Rattle.laws.specs.Lists.{is_some}
-use Rattle.words.specs.Words.{words_of}
 use Rattle.texts.specs.declared.Order.{Order}
 use Rattle.texts.specs.declared.Order.TheVariants.{Less, Equal, Greater}
 use Rattle.texts.specs.Text.{order_of, same, texts}

@@ -1,5 +1,5 @@
 -- The names of the 26 commands and the 31 operators; a name's number is its place in the list.
-use Rattle.std.specs.Prelude.{ℕ, zero, suc, List, [], ◌∷◌, Bool, cond}
+use Rattle.std.specs.Prelude.{ℕ, suc, List, [], ◌∷◌, cond}
 use Rattle.std.proofs.Math.Option.{Option, none, some, map}
 use Rattle.texts.specs.Text.{ascii, same, texts}
 

@@ -11,7 +11,7 @@ use Rattle.laws.proofs.First.{both, then, passed, pass, first_all, first_of_lem}
 use Rattle.laws.proofs.Flags.{both_true}
 use Rattle.words.specs.Words.{word_at}
 use Rattle.texts.proofs.Text.{same-equal, equal-same}
-use Rattle.image.specs.Sections.{Sections, node_count, index_count, index_word, tag_of, inside}
+use Rattle.image.specs.Sections.{Sections, node_count, index_count, index_word, tag_of}
 use Rattle.image.specs.Header.{header_rule, sections_of, first_ink_version, ink_version_at, last_ink_version}
 use Rattle.image.proofs.OpenedHeader.{Opens, opens, opens_of, view-counts, view-node}
 use Rattle.records.specs.Records.{containers_before, node_rule, parent_rule, fields_rule, root_right, used_up}

@@ -16,7 +16,7 @@ use Rattle.image.specs.Header.{section_bytes, sections_by}
 use Rattle.image.specs.Entries.{node_in}
 use Rattle.image.proofs.Parts.{part_length, part_of_part, section-inside, section-outside, text-inside, text-outside}
 use Rattle.image.proofs.Views.{strings_by, payload_by}
-use Rattle.records.specs.Fields.{Kind, kind_of, Field, text, optional, command, operator, node, optionalNode, container, optionalContainer, plain, at_most, children, named, payload, wrong}
+use Rattle.records.specs.Fields.{kind_of, Field, text, optional, command, operator, node, optionalNode, container, optionalContainer, plain, at_most, children, named, payload, wrong}
 use Rattle.definitions.specs.Definitions.{first_item, number_of_items}
 use Rattle.views.specs.declared.Span.{Span}
 use Rattle.views.specs.declared.NodeView.{NodeView}

@@ -1,12 +1,11 @@
 -- Texts and list values of a view whose node keeps the rules are handed back whole, and the texts are UTF-8.
 use Prim.Native.Nat.{ℕ, ◌+◌, ◌*◌, ◌≤◌, ◌<◌}
 use mathlib.Core.Path.{◌≡◌, refl, sym, ap, ◌∙◌, subst}
-use mathlib.Core.Logic.{◌⊎◌, inl, inr}
+use mathlib.Core.Logic.{inl, inr}
 use mathlib.Core.List.{List, Memᴰ}
-use mathlib.Core.Bool.{Bool, true, false, true≢false}
+use mathlib.Core.Bool.{true, true≢false}
 use native.Mathlib.Omega.{arith}
 use lib.ListN.{length}
-use lib.Dec.{leb}
 use borrow.Author.Tests.{eq-eqb, le-leb, lt-ltb, leb-true}
 use Rattle.laws.proofs.Flags.{both_true}
 use Rattle.words.specs.Words.{NONE, word_at}
@@ -15,7 +14,6 @@ use Rattle.image.specs.Sections.{Sections, f, part_at, present}
 use Rattle.image.proofs.Parts.{part_length, text-inside}
 use Rattle.records.specs.Fields.{Kind, ListValue, fields, Field, text, optional, command, operator, node, optionalNode, container, optionalContainer, plain, at_most, children, named, payload, wrong}
 use Rattle.records.specs.Records.{list_word, list_items, list_origins, list_item_word, list_origin_word}
-use Rattle.views.specs.declared.Span.{Span}
 use Rattle.views.specs.declared.NodeKindView.{NodeKindView}
 use Rattle.views.specs.declared.KindAnswer.TheVariants as kindly
 use Rattle.views.specs.View.{signed, span, shown, optional_text}

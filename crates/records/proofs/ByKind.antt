@@ -1,5 +1,5 @@
 -- The rules by kind, over a record and the numbers around it, are those of the node that they show.
-use Prim.Native.Nat.{ℕ, suc, ◌+◌, ◌≤◌, ◌<◌}
+use Prim.Native.Nat.{ℕ, ◌+◌, ◌≤◌, ◌<◌}
 use mathlib.Core.Path.{◌≡◌, refl, sym, ap, ◌∙◌}
 use mathlib.Core.Logic.{◌⊎◌, inl, inr, ⊎_elim}
 use mathlib.Core.Bool.{Bool, true, false, cond, not, ◌&&◌, ◌||◌}
@@ -13,12 +13,12 @@ use Rattle.laws.proofs.Flags.{up, both_true}
 use Rattle.laws.specs.Refusal.{unless, ◌▸◌, first_of}
 use Rattle.laws.proofs.First.{first_all, passed}
 use Rattle.laws.proofs.Chains.{skip, last}
-use Rattle.words.specs.Words.{NONE, is_none}
+use Rattle.words.specs.Words.{NONE}
 use Rattle.image.specs.declared.EntryCounts.{EntryCounts}
 use Rattle.image.specs.declared.NodeRecord.{NodeRecord}
 use Rattle.image.specs.Counted.{counts_with}
 use Rattle.image.specs.Entries.{node_in}
-use Rattle.image.specs.Sections.{Sections, node_count, tag_of, parent_of, f, inside, is_container}
+use Rattle.image.specs.Sections.{Sections, node_count, tag_of, f, inside, is_container}
 use Rattle.image.specs.Tags.{container_tag}
 use Rattle.records.specs.declared.Sums.{Sums}
 use Rattle.records.specs.Fields.{Kind, Container, Choice, Command, Divert, Glue, Operator, Tag, BoolValue, IntValue, FloatValue, StringValue, ListValue, TargetValue, PointerValue, Assignment, Reference, Void, Unknown, kind_table, kind_in, kinds, kind_of, fields, target_among}

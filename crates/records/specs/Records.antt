@@ -10,7 +10,7 @@ use Rattle.image.specs.Entries.{node_in}
 use Rattle.image.specs.Sections.{Sections, list_head_size, list_item_size, list_origin_size, node_count, child_count, named_count, parent_of, place_of, tag_of, f, text_at, good_text, good_optional, inside, is_container, inside_container, sections}
 use Rattle.image.specs.Refusals.{bad_node, bad_text, bad_range, bad_tag}
 use Rattle.image.specs.Tags.{list_tag}
-use Rattle.records.specs.Fields.{Kind, Container, Choice, Command, Divert, Glue, Operator, Tag, BoolValue, IntValue, FloatValue, StringValue, ListValue, TargetValue, PointerValue, Assignment, Reference, Void, Unknown, Field, target_place, text, optional, command, operator, node, optionalNode, container, optionalContainer, plain, at_most, children, named, payload, wrong, fields, kind_of, schema}
+use Rattle.records.specs.Fields.{Kind, Field, target_place, text, optional, command, operator, node, optionalNode, container, optionalContainer, plain, at_most, children, named, payload, wrong, fields, kind_of, schema}
 
 -- the fields of node i
 abbrev pub fields_at : Sections → ℕ → List Field

@@ -39,7 +39,6 @@ use Rattle.views.specs.Lists.{list_part, list_entry, list_origin, definition_que
 use Rattle.walks.specs.Walk.{components, resolve}
 use Rattle.depth.specs.Depth.{depth_of}
 use Rattle.pages.specs.Page.{slot_view}
-use Rattle.texts.specs.Text.{same}
 use Rattle.lookups.specs.Lookup.{searched, find_named, list_item}
 use Rattle.list_items.specs.Search.{list_search}
 use Rattle.list_items.proofs.Plain.{same_answer}

@@ -16,7 +16,7 @@ use Rattle.laws.specs.Counted.{all_of}
 use Rattle.laws.proofs.Flags.{both_true, or_zero}
 use Rattle.laws.proofs.Lists.{drop-next}
 use Rattle.texts.specs.declared.Order.{Order}
-use Rattle.texts.specs.declared.Order.TheVariants.{Less, Equal, Greater}
+use Rattle.texts.specs.declared.Order.TheVariants.{Less, Greater}
 use Rattle.texts.specs.Text.{order_of}
 use Rattle.texts.specs.Blocks.{Alike, number_from, WordAt}
 use Rattle.texts.proofs.Text.{order-turned, turned, byte-like}

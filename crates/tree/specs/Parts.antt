@@ -1,8 +1,7 @@
 -- The sections that the tree is made of, out of their bytes, and what the record rules have shown of them before the tree is walked.
-use Rattle.std.specs.Prelude.{ℕ, suc, ◌+◌, ◌*◌, ◌-◌, ◌≤◌, ◌<◌, ◌≡◌, List, [], reverse, Bool, true, ◌||◌, get_or, eqb}
+use Rattle.std.specs.Prelude.{ℕ, ◌+◌, ◌≤◌, ◌<◌, ◌≡◌, List, [], reverse, true}
 use Rattle.words.specs.Words.{words_of}
-use Rattle.texts.specs.Text.{before}
-use Rattle.image.specs.Sections.{Sections, text_entry_words, node_count, child_count, named_count, f, is_container, good_text, text_or_empty}
+use Rattle.image.specs.Sections.{Sections, node_count, child_count, named_count, f, is_container}
 use Rattle.records.specs.Records.{children_before, named_before}
 use Rattle.tree.specs.Tree.{child_at, named_at, child_rule, named_rule, entries_rule, entry_nodes}
 use Rattle.tree.specs.Work.{Pushed, Entered}

@@ -1,5 +1,5 @@
 -- UTF-8 by places: a byte is right or wrong by itself and the three bytes before it. `proofs/Places.antt` shows that it is the same.
-use Rattle.std.specs.Prelude.{ℕ, ◌+◌, ◌-◌, ◌/◌, ◌≤◌, ◌<◌, ◌≡◌, List, [], Bool, true, not, cond, ◌&&◌, ◌||◌, length, get_or, leb, ltb, eqb}
+use Rattle.std.specs.Prelude.{ℕ, ◌+◌, ◌-◌, ◌/◌, ◌≤◌, ◌<◌, ◌≡◌, List, Bool, true, not, cond, ◌&&◌, ◌||◌, length, get_or, leb, ltb, eqb}
 
 -- 1 where the test passes, else 0
 unfoldable pub flag : Bool → ℕ

@@ -14,7 +14,7 @@ use Rattle.words.specs.Words.{word_at, NONE}
 use Rattle.image.specs.declared.NodeRecord.{NodeRecord}
 use Rattle.image.specs.declared.TextEntry.{TextEntry}
 use Rattle.image.specs.declared.Definition.{Definition}
-use Rattle.image.specs.Sections.{list_head_size, list_item_size, list_origin_size, Sections, f, named_word, definition_word, item_word, inside, inside_container, present, text_or_empty}
+use Rattle.image.specs.Sections.{list_head_size, list_item_size, list_origin_size, Sections, f, named_word, definition_word, item_word, inside_container, present, text_or_empty}
 use Rattle.image.specs.Entries.{node_in, definition_in}
 use Rattle.image.specs.declared.ImageView.{ImageView}
 use Rattle.image.specs.Header.{section_bytes, sections_by}

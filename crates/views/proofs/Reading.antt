@@ -14,7 +14,7 @@ use Rattle.image.specs.declared.NodeRecord.{NodeRecord}
 use Rattle.image.specs.declared.TextEntry.{TextEntry}
 use Rattle.image.specs.declared.Definition.{Definition}
 use Rattle.image.specs.declared.ImageView.{ImageView}
-use Rattle.image.specs.Sections.{Sections, node_words, text_entry_words, definition_words, node_size, child_size, text_entry_size, definition_size, node_count, child_count, named_count, definition_count, item_count, tag_of, child_word, inside, inside_among, inside_container}
+use Rattle.image.specs.Sections.{Sections, node_words, text_entry_words, node_size, child_size, text_entry_size, definition_size, node_count, child_count, named_count, definition_count, item_count, tag_of, child_word, inside, inside_among, inside_container}
 use Rattle.image.specs.Header.{section_bytes, sections_by}
 use Rattle.image.specs.Entries.{record_of, text_entry_of, definition_of, node_in, named_in, item_in, definition_in}
 use Rattle.image.proofs.Tests.{inside-true}

@@ -1,5 +1,5 @@
 -- The decision over the tag's number answers what the record's kind shows.
-use Prim.Native.Nat.{ℕ, suc, ◌≤◌, ◌<◌}
+use Prim.Native.Nat.{ℕ, ◌≤◌, ◌<◌}
 use mathlib.Core.Path.{◌≡◌, refl, sym, ap, ◌∙◌}
 use mathlib.Core.Logic.{◌⊎◌, inl, inr, ⊎_elim}
 use mathlib.Core.List.{List}
@@ -8,7 +8,7 @@ use native.Mathlib.Nat.{eq-or-lt_of_le}
 use lib.ListN.{length}
 use Rattle.image.specs.declared.NodeRecord.{NodeRecord}
 use Rattle.laws.proofs.Flags.{up}
-use Rattle.records.specs.Fields.{Kind, kinds, kind_of}
+use Rattle.records.specs.Fields.{kinds, kind_of}
 use Rattle.records.proofs.ByKind.{past-kinds}
 use borrow.Author.Tests.{ne_eqb}
 use Rattle.views.specs.declared.Span.{Span}

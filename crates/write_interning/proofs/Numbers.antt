@@ -1,16 +1,13 @@
 -- The uses in number order, and what their sort by texts says of each place.
 use Prim.Native.Nat.{ℕ, zero, suc, ◌+◌, ◌-◌, ◌≤◌, ◌<◌}
-use mathlib.Core.Path.{◌≡◌, refl, sym, ap, ◌∙◌}
+use mathlib.Core.Path.{◌≡◌, sym, ap, ◌∙◌}
 use mathlib.Core.Logic.{◌⊎◌, inl, inr, ⊎_elim}
-use mathlib.Core.List.{List, [], ◌∷◌, ◌++◌, append-nil, append_assoc}
+use mathlib.Core.List.{List, [], ◌∷◌, ◌++◌}
 use mathlib.Core.Bool.{true, false}
-use native.Mathlib.Nat.{add-zero}
 use native.Mathlib.Omega.{arith}
-use native.Mathlib.Numerals.{add-one}
 use borrow.Author.Tests.{ltb-true, ltb-false}
 use lib.Dec.{ltb}
-use lib.ListN.{length, get_or, take, drop, set, length-set}
-use lib.Seq.{take-suc-set, take-take, take_at, drop_at, drop-set-lt, length-take-le}
+use lib.ListN.{length, get_or, take, drop}
 use Rattle.laws.specs.Sorted.{insert, isort}
 use Rattle.laws.proofs.Lists.{drop_more}
 use Rattle.laws.proofs.Members.{All}
@@ -21,7 +18,6 @@ use Rattle.write_sorting.specs.Sorted.{up_from, merge, part, Ordered, Rises}
 use Rattle.write_sorting.proofs.Laws.{cases, differ, key_strict, sort_append}
 use Rattle.write_sorting.proofs.ListProperties.{Pairs, In, here, there, all_map, all_at, pairs_at, in_at, in_isort}
 use Rattle.write_sorting.proofs.OrderedLists.{ordered-isort, isort-rises}
-use Rattle.write_sorting.proofs.MergeInPlace.{part-take}
 use Rattle.write_sorting.proofs.NumberedWords.{up_from-length, up_from-at, up_from-append}
 use Rattle.write_interning.specs.Uses.{RisesFrom}
 

@@ -1,5 +1,5 @@
 -- Uses of texts, numbered from 0 in their order, each text stored once, at its first use; `key` gives a use's text.
-use Rattle.std.specs.Prelude.{ℕ, zero, suc, ◌+◌, ◌-◌, ◌^◌, ◌≤◌, ◌<◌, ◌≡◌, List, [], ◌∷◌, Bool, true, cond, eqb, ltb, get_or}
+use Rattle.std.specs.Prelude.{ℕ, suc, ◌+◌, ◌-◌, ◌^◌, ◌≤◌, ◌<◌, ◌≡◌, List, [], ◌∷◌, Bool, true, cond, eqb, ltb, get_or}
 use Rattle.laws.specs.Counted.{join_of}
 use Rattle.laws.specs.Lists.{flat_map}
 use Rattle.draft_image.specs.Strings.{distinct, offset_of}

@@ -18,7 +18,7 @@ use Rattle.draft.specs.Numbering.{old_of}
 use Rattle.draft_image.specs.Strings.{path_of, by_path}
 use Rattle.draft_image.specs.Ready.{OldsAt}
 use Rattle.draft.specs.Draft.{placed, paths_rule}
-use Rattle.write_sorting.specs.Sorted.{up_from, Rises, Unlike, Twice}
+use Rattle.write_sorting.specs.Sorted.{up_from, Rises}
 use Rattle.write_sorting.proofs.NumberedWords.{up_from-length, up_from-at, up_from-append}
 use Rattle.write_sorting.proofs.KeyOrder.{rises-unlike, level_twice}
 use Rattle.write_paths.specs.Listed.{tag_at, containers_in, containers, Permutation}

@@ -1,10 +1,10 @@
 -- The loop that measures paths: the length of each listed node's path, in two words at the node's place of a table.
-use Prim.Native.Nat.{ℕ, zero, suc, ◌+◌, ◌*◌, ◌^◌, ◌/◌, ◌%◌, ◌≤◌, ◌<◌}
+use Prim.Native.Nat.{ℕ, ◌+◌, ◌/◌, ◌%◌, ◌≤◌, ◌<◌}
 use mathlib.Core.Path.{◌≡◌, refl, sym, ap, ◌∙◌, subst}
-use mathlib.Core.List.{List, [], ◌∷◌}
+use mathlib.Core.List.{List}
 use native.Mathlib.Omega.{arith}
-use native.Mathlib.Decide.{ℕ_discrete, dec_lt}
-use lib.ListN.{length, get_or, set, take, drop, length-set}
+use native.Mathlib.Decide.{ℕ_discrete}
+use lib.ListN.{length, get_or, set, length-set}
 use Rattle.write_text_keys.specs.Keys.{long_of}
 use Rattle.write_paths.specs.Arranged.{Measured}
 use lib.Seq.{get_or-set_same, get_or-set_other, take-set-le, drop-set-lt, get_or-take}

@@ -4,8 +4,8 @@ use mathlib.Core.Path.{◌≡◌, refl, sym, ap, ◌∙◌}
 use mathlib.Core.List.{List, [], ◌∷◌}
 use mathlib.Core.Bool.{Bool, true, false, false≢true}
 use native.Mathlib.Omega.{arith}
-use lib.ListN.{length, get_or, take, drop, length-take}
-use lib.Seq.{sets, get_or-take, take_at, ext_get_or, length-sets}
+use lib.ListN.{length, get_or, take, drop}
+use lib.Seq.{sets, get_or-take, length-sets}
 use Rattle.laws.specs.Counted.{join_of, all_of}
 use Rattle.laws.proofs.Flags.{all_at, all_of_lem}
 use Rattle.laws.proofs.Lists.{drop_more}
@@ -17,7 +17,7 @@ use Rattle.write_sorting.proofs.MergeInPlace.{get_d-later}
 use Rattle.draft.specs.declared.layout.Layout.{Layout}
 use Rattle.write_text_keys.specs.Keys.{key_of, key_in}
 use Rattle.write_paths.specs.Arranged.{sorted_names, Arranged}
-use Rattle.write_paths.proofs.WordLoop.{sets-past, sets-before, sets_at, sets-drop}
+use Rattle.write_paths.proofs.WordLoop.{sets_at, sets-drop}
 
 -- ---- texts that rise
 

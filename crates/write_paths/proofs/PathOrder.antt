@@ -1,17 +1,16 @@
 -- The containers of a draft listed, measured and sorted: rule 22, and the order of the index.
-use Prim.Native.Nat.{ℕ, zero, suc, ◌+◌, ◌-◌, ◌*◌, ◌%◌, ◌≤◌, ◌<◌}
+use Prim.Native.Nat.{ℕ, zero, suc, ◌+◌, ◌-◌, ◌≤◌, ◌<◌}
 use mathlib.Core.Path.{◌≡◌, refl, sym, ap, ◌∙◌}
 use mathlib.Core.List.{List, [], ◌∷◌, ◌++◌, map}
 use mathlib.Core.Bool.{Bool, true, false, cond, false≢true}
 use native.Mathlib.Omega.{arith}
-use lib.ListN.{length, get_or, take, drop, length-map, length-append}
-use lib.Seq.{sets, get_or-take, get_or-drop, length-sets}
+use lib.ListN.{length, get_or, drop, length-map, length-append}
+use lib.Seq.{sets, get_or-take, get_or-drop}
 use lib.Dec.{eqb}
-use Rattle.laws.specs.Counted.{all_of, those}
+use Rattle.laws.specs.Counted.{all_of}
 use Rattle.laws.proofs.Flags.{all_at}
 use Rattle.laws.proofs.Lists.{drop_more}
-use Rattle.laws.proofs.Members.{All, all_append, all_map}
-use Rattle.laws.specs.Sorted.{isort}
+use Rattle.laws.proofs.Members.{All, all_append}
 use Rattle.laws.proofs.Sorted.{length-isort}
 use Rattle.texts.specs.Text.{before, rising, by_key}
 use Rattle.image.specs.Sections.{Sections, node_count, f, is_container, good_optional}
@@ -22,11 +21,10 @@ use Rattle.draft_image.specs.Strings.{path_of, by_path}
 use Rattle.draft_image.specs.Ready.{OldsAt}
 use Rattle.write_sorting.specs.Sorted.{up_from, Rises}
 use Rattle.draft.specs.declared.layout.Layout.{Layout}
-use Rattle.write_text_keys.specs.Keys.{key_of, key_in, node_of, long_of, length_from}
+use Rattle.write_text_keys.specs.Keys.{key_in, node_of, long_of, length_from}
 use Rattle.write_text_keys.proofs.CanonicalPaths.{path-long, key_path, every-container}
-use Rattle.write_paths.specs.declared.Indexed.{Indexed}
 use Rattle.write_paths.specs.declared.Indexed.TheVariants.{Paths, Refused}
-use Rattle.write_paths.specs.Listed.{tag_at, containers_in, containers, Permutation}
+use Rattle.write_paths.specs.Listed.{tag_at, containers_in, containers}
 use Rattle.write_paths.specs.Arranged.{Measured, sorted_names, Arranged, Rooted, indexed_of, Indexes}
 use Rattle.write_paths.proofs.Rule.{all_not, those_at, unplaced}
 use Rattle.write_paths.proofs.WordLoop.{sets_at, sets-drop}

@@ -1,5 +1,5 @@
 -- Rule 22 over the containers in the image's order: each is placed, and no two have one path.
-use Prim.Native.Nat.{ℕ, zero, suc, ◌+◌, ◌<◌}
+use Prim.Native.Nat.{ℕ, zero, suc, ◌<◌}
 use mathlib.Core.Path.{◌≡◌, refl, sym, ap, ◌∙◌}
 use mathlib.Core.Logic.{◌⊎◌, inl, inr}
 use mathlib.Core.List.{List, [], ◌∷◌, ◌++◌, append-nil}
@@ -11,7 +11,7 @@ use lib.ListN.{length, get_or, length-append, get_or-append}
 use Rattle.laws.specs.Counted.{all_of, those}
 use Rattle.laws.specs.Lists.{place_in}
 use Rattle.laws.specs.Refusal.{unless, ◌▸◌, first_of}
-use Rattle.laws.proofs.First.{pass, fail, then, first_of_lem}
+use Rattle.laws.proofs.First.{pass, then, first_of_lem}
 use Rattle.laws.proofs.Flags.{all_fails}
 use Rattle.laws.proofs.Flags.{all_at, all_of_lem}
 use Rattle.texts.specs.Text.{same}

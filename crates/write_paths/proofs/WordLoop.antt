@@ -5,8 +5,8 @@ use mathlib.Core.List.{List, [], ◌∷◌, ◌++◌}
 use native.Mathlib.Omega.{arith}
 use native.Mathlib.Nat.{add-zero, not-suc-le-zero, le_of_suc-le-suc}
 use native.Mathlib.Numerals.{add-one}
-use lib.ListN.{length, get_or, set, take, drop, length-set, length-append}
-use lib.Seq.{sets, length-sets, get_or-set_other, get_or-set_same, drop-set-lt}
+use lib.ListN.{length, get_or, set, drop, length-set}
+use lib.Seq.{sets, get_or-set_other, get_or-set_same, drop-set-lt}
 use Rattle.laws.specs.Counted.{join_of}
 use Rattle.laws.proofs.Members.{length_join}
 

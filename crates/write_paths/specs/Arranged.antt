@@ -1,16 +1,13 @@
 -- The list of containers measured and sorted by path, as the code leaves it in the work words; what the caller knows and learns.
-use Rattle.std.specs.Prelude.{ℕ, ◌+◌, ◌*◌, ◌^◌, ◌%◌, ◌≤◌, ◌<◌, ◌≡◌, List, Bool, true, cond, length, get_or, take, drop, eqb}
+use Rattle.std.specs.Prelude.{ℕ, ◌+◌, ◌*◌, ◌≤◌, ◌<◌, ◌≡◌, List, Bool, true, cond, length, get_or, take, drop, eqb}
 use Rattle.laws.specs.Counted.{all_of}
 use Rattle.laws.specs.Sorted.{isort}
-use Rattle.words.specs.Words.{NONE}
 use Rattle.texts.specs.Text.{rising, by_key}
 use Rattle.image.specs.Sections.{Sections, node_words, node_count, f, is_container, good_optional}
 use Rattle.tree.specs.Reach.{AllClimb}
-use Rattle.index.specs.Paths.{canonical_path}
 use Rattle.draft.specs.Draft.{paths_rule}
 use Rattle.draft.specs.Numbering.{old_of}
 use Rattle.draft_image.specs.Strings.{by_path, path_of}
-use Rattle.draft_image.specs.Ready.{OldsAt}
 use Rattle.write_sorting.specs.Sorted.{up_from}
 use Rattle.write_text_keys.specs.Keys.{long_of}
 use Rattle.draft.specs.declared.layout.Layout.{Layout}

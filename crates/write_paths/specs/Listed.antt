@@ -1,5 +1,5 @@
 -- The containers of a draft as the code lists them: words of nodes in the image's order.
-use Rattle.std.specs.Prelude.{ℕ, zero, suc, ◌+◌, ◌*◌, ◌<◌, ◌≡◌, List, [], ◌∷◌, ◌++◌, Bool, cond, ◌||◌, not, length, get_or, eqb}
+use Rattle.std.specs.Prelude.{ℕ, zero, suc, ◌+◌, ◌<◌, ◌≡◌, List, [], ◌∷◌, ◌++◌, Bool, cond, ◌||◌, not, get_or, eqb}
 use Rattle.laws.specs.Counted.{those}
 use Rattle.laws.specs.Lists.{place_in}
 use Rattle.image.specs.declared.NodeRecord.{NodeRecord}

@@ -4,7 +4,7 @@ use mathlib.Core.Path.{◌≡◌, refl, sym, ap, ◌∙◌, subst}
 use mathlib.Core.List.{List}
 use mathlib.Core.Bool.{Bool, true, false}
 use native.Mathlib.Omega.{arith}
-use lib.ListN.{length, get_or, drop}
+use lib.ListN.{length, get_or}
 use Rattle.texts.specs.Text.{by_key}
 use Rattle.image.specs.Sections.{Sections, node_words, node_count}
 use Rattle.image.specs.declared.EntryCounts.{EntryCounts}

@@ -1,5 +1,5 @@
 -- The record that is written holds all words of a node, since there are no others than the common ones.
-use Prim.Native.Nat.{ℕ, ◌-◌}
+use Prim.Native.Nat.{ℕ}
 use mathlib.Core.Path.{◌≡◌, refl, sym}
 use mathlib.Core.List.{List, []}
 use lib.ListN.{length}

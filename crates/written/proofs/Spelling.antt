@@ -7,10 +7,10 @@ use mathlib.Core.Option.{Option, none, some}
 use Rattle.texts.specs.Text.{holds}
 use Rattle.names.specs.Names.{commands, operators, number_in}
 use Rattle.names.proofs.Distinct.{number-placed}
-use Rattle.image.specs.Sections.{Sections, f, text_at}
+use Rattle.image.specs.Sections.{f, text_at}
 use Rattle.draft_image.specs.Strings.{text_words}
 use Rattle.draft_image.specs.Written.{field_words}
-use Rattle.written.specs.Spelling.{name_at, get_name, spelling_of, WriterSpells, Spells}
+use Rattle.written.specs.Spelling.{name_at, get_name, spelling_of, Spells}
 
 module _ (names : List (List ℕ)) (t : List ℕ) where
   -- a known name is its own name

@@ -23,8 +23,7 @@ use Rattle.draft_image.specs.Written.{field_start, field_words, put_fields, more
 use Rattle.draft_image.proofs.Joins.{sum_below}
 use Rattle.written.proofs.Lists.{all_joined, all_sets, all_below}
 use Rattle.written.proofs.Header.{WholeSections}
-use Rattle.written.proofs.Draft.{taken, numbered}
-use Rattle.written.proofs.Texts.{stored, offset_inside}
+use Rattle.written.proofs.Texts.{offset_inside}
 use Rattle.draft_image.proofs.Blocks.{w, nodes-length, child-count, named-whole, definitions-whole, items-whole, index-whole}
 use Rattle.written.proofs.Fields.{Given, counted, few, start_is}
 use Rattle.written.proofs.Payload.{Small, offset_small, text-small, cond_small, strings-small, payload-count}

@@ -1,6 +1,5 @@
 -- `answers::put_answer` meets its contract.
 use Rattle.answers.proofs.AnswerSlices.{fitting, too_short}
-use borrow.Author.Rules.{rules}
 use Rattle.answers.proofs.put_answer.Goals as goal
 
 pub returns-then-words-answer : goal.returns-then-words-answer

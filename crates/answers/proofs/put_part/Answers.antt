@@ -1,6 +1,5 @@
 -- `answers::put_part` meets its contract.
 use Rattle.answers.proofs.AnswerSlices.{unanswered, answered_as, outside, past, part-some}
-use borrow.Author.Rules.{rules}
 use Rattle.answers.proofs.put_part.Goals as goal
 
 pub returns-then-bytes-start : goal.returns-then-bytes-start

@@ -2,7 +2,6 @@
 use mathlib.Core.Path.{sym, ap}
 use Rattle.answers.specs.AnswerWords.{part_answer}
 use Rattle.answers.proofs.AnswerSlices.{unanswered, answered_as}
-use borrow.Author.Rules.{rules}
 use Rattle.answers.proofs.put_text.Goals as goal
 
 pub returns-in-NotFound : goal.returns-in-NotFound

@@ -1,9 +1,7 @@
 -- `answers::put_words` meets its contract: after i turns the first i words are written.
-use Prim.Native.Nat.{◌≤◌, ◌-◌}
-use mathlib.Core.Path.{◌≡◌, refl}
-use mathlib.Core.List.{◌++◌}
+use mathlib.Core.Path.{refl}
 use native.Mathlib.Omega.{arith}
-use lib.ListN.{length, length-set, take, drop}
+use lib.ListN.{length-set}
 use borrow.Author.Rules.{rules}
 use Rattle.laws.proofs.Lists.{copy_step, copy_end}
 use Rattle.answers.proofs.put_words.Goals as goal

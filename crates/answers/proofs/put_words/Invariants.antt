@@ -1,11 +1,8 @@
 -- `answers::put_words` meets its contract: after i turns the first i words are written.
 use Prim.Native.Nat.{◌≤◌, ◌-◌}
-use mathlib.Core.Path.{◌≡◌, refl}
+use mathlib.Core.Path.{◌≡◌}
 use mathlib.Core.List.{◌++◌}
-use native.Mathlib.Omega.{arith}
-use lib.ListN.{length, length-set, take, drop}
-use borrow.Author.Rules.{rules}
-use Rattle.laws.proofs.Lists.{copy_step, copy_end}
+use lib.ListN.{length, take, drop}
 use Rattle.answers.proofs.put_words.Given as goal
 
 abbrev pub invariant-loop-i : goal.invariant-loop-i

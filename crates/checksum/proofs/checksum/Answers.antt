@@ -1,7 +1,6 @@
 -- The two parts around the checksum's own bytes, which may lie past the end.
 use native.Mathlib.Omega.{arith}
 use lib.ListN.{length-take}
-use borrow.Author.Rules.{rules}
 use Rattle.checksum.proofs.Checksums.{checksum-parts}
 use Rattle.checksum.proofs.checksum.Goals as goal
 

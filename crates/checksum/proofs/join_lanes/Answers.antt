@@ -1,11 +1,10 @@
 -- Each lane's word, and what the lane before it was, go into the next.
-use mathlib.Core.Path.{sym, ap, ◌∙◌}
+use mathlib.Core.Path.{ap, ◌∙◌}
 use native.Mathlib.Omega.{arith}
 use lib.ListN.{length-take}
 use Rattle.laws.proofs.Lists.{to_end}
 use Rattle.checksum.specs.Crc.{crc_from}
 use Rattle.checksum.proofs.Lanes.{lanes_end}
-use borrow.Author.Rules.{rules}
 use Rattle.checksum.proofs.join_lanes.Goals as goal
 
 pub slice_bounds-update_bytes-end : goal.slice_bounds-update_bytes-end

@@ -4,7 +4,6 @@ use lib.Bits.{bit_xor}
 use Rattle.checksum.specs.Crc.{shifts}
 use Rattle.checksum.specs.Lanes.{little_endian}
 use Rattle.checksum.proofs.Lanes.{four_of}
-use borrow.Author.Rules.{rules}
 use Rattle.checksum.proofs.lane.Goals as goal
 
 pub returns : goal.returns

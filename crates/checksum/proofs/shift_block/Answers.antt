@@ -1,7 +1,6 @@
 -- A word by four tables is 128 shifts of it.
 use native.Mathlib.Omega.{arith}
 use Rattle.checksum.proofs.Tables.{by_tables}
-use borrow.Author.Rules.{rules}
 use Rattle.checksum.proofs.shift_block.Goals as goal
 
 pub returns : goal.returns

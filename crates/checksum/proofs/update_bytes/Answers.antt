@@ -1,9 +1,6 @@
 -- The loop's invariant: what is left of the bytes, from the checksum so far, gives the checksum of them all.
-use mathlib.Core.Path.{◌≡◌, refl, ◌∙◌}
-use Prim.Native.Nat.{◌≤◌, ◌-◌}
-use lib.ListN.{length, drop}
+use mathlib.Core.Path.{refl, ◌∙◌}
 use borrow.Author.Rules.{rules}
-use Rattle.checksum.specs.Crc.{crc_from}
 use Rattle.checksum.proofs.Checksums.{crc_next, crc_end}
 use Rattle.checksum.proofs.update_bytes.Goals as goal
 

@@ -1,10 +1,6 @@
 -- The loop's invariant: the four lanes, with what is left of the bytes, give the checksum of them all.
-use mathlib.Core.Path.{◌≡◌, refl, sym, ap, ◌∙◌}
-use Prim.Native.Nat.{◌+◌, ◌-◌, ◌≤◌}
-use native.Mathlib.Omega.{arith}
-use lib.ListN.{length, drop}
+use mathlib.Core.Path.{ap, ◌∙◌}
 use Rattle.laws.proofs.Lists.{to_end}
-use Rattle.checksum.specs.Crc.{crc_from}
 use Rattle.checksum.specs.Lanes.{lanes_from}
 use Rattle.checksum.proofs.Lanes.{lanes_start, lanes_next}
 use borrow.Author.Rules.{rules}

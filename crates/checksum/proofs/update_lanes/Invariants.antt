@@ -1,13 +1,9 @@
 -- The loop's invariant: the four lanes, with what is left of the bytes, give the checksum of them all.
-use mathlib.Core.Path.{◌≡◌, refl, sym, ap, ◌∙◌}
+use mathlib.Core.Path.{◌≡◌}
 use Prim.Native.Nat.{◌+◌, ◌-◌, ◌≤◌}
-use native.Mathlib.Omega.{arith}
 use lib.ListN.{length, drop}
-use Rattle.laws.proofs.Lists.{to_end}
 use Rattle.checksum.specs.Crc.{crc_from}
 use Rattle.checksum.specs.Lanes.{lanes_from}
-use Rattle.checksum.proofs.Lanes.{lanes_start, lanes_next}
-use borrow.Author.Rules.{rules}
 use Rattle.checksum.proofs.update_lanes.Given as goal
 
 abbrev pub invariant-loop-i : goal.invariant-loop-i

@@ -1,7 +1,6 @@
 -- Four bytes by sums are their number.
 use native.Mathlib.Omega.{arith}
 use Rattle.checksum.proofs.Lanes.{word_number}
-use borrow.Author.Rules.{rules}
 use Rattle.checksum.proofs.word.Goals as goal
 
 pub returns : goal.returns

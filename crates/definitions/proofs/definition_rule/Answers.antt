@@ -16,7 +16,6 @@ use Rattle.definitions.proofs.Definitions.{item-like}
 use Rattle.image.proofs.Parts.{text-entry-count}
 use Rattle.definitions.proofs.Readers.{definition_by, definition-past}
 use Rattle.laws.proofs.RuleRuns.{first-like}
-use borrow.Author.Rules.{rules}
 use Rattle.definitions.proofs.definition_rule.Goals as goal
 
 pub returns-then-not-good_text : goal.returns-then-not-good_text
@@ -46,8 +45,8 @@ returns-then-items-first c =
     let whole : Sections = definition_parts c.args.definitions.now c.args.items.now c.args.strings.now in
     let entry : Definition = c.definition_at-definition.result in
     let past-texts : definition_rule whole c.args.d
-    ≡ (unless (leb (entry.first + entry.count) (item_count whole) && eqb entry.first c.args.used) 11 ▸ first_of entry.count (item_rule_from whole entry.first)) = 
-      let at = c.args in
+    ≡ (unless (leb (entry.first + entry.count) (item_count whole) && eqb entry.first c.args.used) 11 ▸ first_of entry.count (item_rule_from whole entry.first)) =
+    let at = c.args in
     let good = c.good_text in
     let rises = c.definition_rises in
     definition-past whole (words_of at.definitions.now) at.d at.used entry good.result rises.result refl c.requires.1 c.definition_at-definition.ensures
@@ -61,8 +60,8 @@ returns-then-first-used c =
     let whole : Sections = definition_parts c.args.definitions.now c.args.items.now c.args.strings.now in
     let entry : Definition = c.definition_at-definition.result in
     let past-texts : definition_rule whole c.args.d
-    ≡ (unless (leb (entry.first + entry.count) (item_count whole) && eqb entry.first c.args.used) 11 ▸ first_of entry.count (item_rule_from whole entry.first)) = 
-      let at = c.args in
+    ≡ (unless (leb (entry.first + entry.count) (item_count whole) && eqb entry.first c.args.used) 11 ▸ first_of entry.count (item_rule_from whole entry.first)) =
+    let at = c.args in
     let good = c.good_text in
     let rises = c.definition_rises in
     definition-past whole (words_of at.definitions.now) at.d at.used entry good.result rises.result refl c.requires.1 c.definition_at-definition.ensures
@@ -76,8 +75,8 @@ returns c =
     let whole : Sections = definition_parts c.args.definitions.now c.args.items.now c.args.strings.now in
     let entry : Definition = c.definition_at-definition.result in
     let past-texts : definition_rule whole c.args.d
-    ≡ (unless (leb (entry.first + entry.count) (item_count whole) && eqb entry.first c.args.used) 11 ▸ first_of entry.count (item_rule_from whole entry.first)) = 
-      let at = c.args in
+    ≡ (unless (leb (entry.first + entry.count) (item_count whole) && eqb entry.first c.args.used) 11 ▸ first_of entry.count (item_rule_from whole entry.first)) =
+    let at = c.args in
     let good = c.good_text in
     let rises = c.definition_rises in
     definition-past whole (words_of at.definitions.now) at.d at.used entry good.result rises.result refl c.requires.1 c.definition_at-definition.ensures

@@ -7,7 +7,6 @@ use Rattle.words.specs.Words.{words_of}
 use Rattle.definitions.specs.Definitions.{item_rule_from}
 use Rattle.definitions.specs.Parts.{definition_parts}
 use Rattle.definitions.proofs.Readers.{item_by}
-use borrow.Author.Rules.{rules}
 use Rattle.definitions.proofs.item_rule.Goals as goal
 
 pub returns-then-not-good_text : goal.returns-then-not-good_text
@@ -19,8 +18,8 @@ returns-then-not-good_text c =
 pub returns-then-entry_rises : goal.returns-then-entry_rises
 unfolding unless ◌▸◌
 returns-then-entry_rises c =
-    let last-test : item_rule_from (definition_parts [] c.args.items.now c.args.strings.now) c.args.first c.args.place ≡ unless c.entry_rises.result 17 = 
-      let at = c.args in
+    let last-test : item_rule_from (definition_parts [] c.args.items.now c.args.strings.now) c.args.first c.args.place ≡ unless c.entry_rises.result 17 =
+    let at = c.args in
     item_by (definition_parts [] at.items.now at.strings.now) (words_of at.items.now) at.first at.place c.text_entry-item.result c.good_text.result c.entry_rises.result
     refl c.text_entry-item.ensures c.good_text.ensures c.entry_rises.ensures
     ∙ rw (not-false c.good_text.result c.if-not-good_text.false-raw) in
@@ -29,8 +28,8 @@ returns-then-entry_rises c =
 pub returns-else-entry_rises : goal.returns-else-entry_rises
 unfolding unless ◌▸◌
 returns-else-entry_rises c =
-    let last-test : item_rule_from (definition_parts [] c.args.items.now c.args.strings.now) c.args.first c.args.place ≡ unless c.entry_rises.result 17 = 
-      let at = c.args in
+    let last-test : item_rule_from (definition_parts [] c.args.items.now c.args.strings.now) c.args.first c.args.place ≡ unless c.entry_rises.result 17 =
+    let at = c.args in
     item_by (definition_parts [] at.items.now at.strings.now) (words_of at.items.now) at.first at.place c.text_entry-item.result c.good_text.result c.entry_rises.result
     refl c.text_entry-item.ensures c.good_text.ensures c.entry_rises.ensures
     ∙ rw (not-false c.good_text.result c.if-not-good_text.false-raw) in

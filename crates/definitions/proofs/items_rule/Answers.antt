@@ -1,8 +1,5 @@
 -- `definitions::items_rule` meets its contract. The invariant: no item so far is refused.
-use Prim.Native.Nat.{◌≤◌, ◌-◌}
-use mathlib.Core.Path.{◌≡◌}
 use mathlib.Core.List.{[]}
-use Rattle.laws.specs.Refusal.{first_of}
 use Rattle.definitions.specs.Definitions.{item_rule_from}
 use Rattle.definitions.specs.Parts.{definition_parts}
 use Rattle.laws.proofs.Chains.{first-broken, first_done}

@@ -5,9 +5,6 @@ use mathlib.Core.List.{[]}
 use Rattle.laws.specs.Refusal.{first_of}
 use Rattle.definitions.specs.Definitions.{item_rule_from}
 use Rattle.definitions.specs.Parts.{definition_parts}
-use Rattle.laws.proofs.Chains.{first-broken, first_done}
-use Rattle.laws.proofs.RuleRuns.{run_starts, run_goes}
-use borrow.Author.Rules.{rules}
 use Rattle.definitions.proofs.items_rule.Given as goal
 
 abbrev pub invariant-loop-place : goal.invariant-loop-place

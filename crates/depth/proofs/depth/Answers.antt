@@ -1,9 +1,6 @@
 -- `depth::depth` meets its contract. The loop's invariant: so many steps have led to the node, and the rest are those from it.
-use Prim.Native.Nat.{◌-◌}
 use native.Mathlib.Omega.{arith}
-use borrow.Author.Rules.{rules}
-use Rattle.image.specs.Header.{sections_by}
-use Rattle.depth.proofs.ClimbLoop.{Climbed, loop_start, loop_end, loop_out, loop_root, loop_above, at_below, node-there}
+use Rattle.depth.proofs.ClimbLoop.{loop_start, loop_end, loop_out, loop_root, loop_above, at_below, node-there}
 use Rattle.depth.proofs.depth.Goals as goal
 
 pub loop-steps-init : goal.loop-steps-init

@@ -1,9 +1,7 @@
 -- `depth::depth` meets its contract. The loop's invariant: so many steps have led to the node, and the rest are those from it.
 use Prim.Native.Nat.{◌-◌}
-use native.Mathlib.Omega.{arith}
-use borrow.Author.Rules.{rules}
 use Rattle.image.specs.Header.{sections_by}
-use Rattle.depth.proofs.ClimbLoop.{Climbed, loop_start, loop_end, loop_out, loop_root, loop_above, at_below, node-there}
+use Rattle.depth.proofs.ClimbLoop.{Climbed}
 use Rattle.depth.proofs.depth.Given as goal
 
 abbrev pub invariant-loop-steps : goal.invariant-loop-steps

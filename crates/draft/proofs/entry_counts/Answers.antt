@@ -1,5 +1,4 @@
 -- `draft::entry_counts` meets its contract.
-use borrow.Author.Rules.{rules}
 use Rattle.draft.proofs.entry_counts.Goals as goal
 
 pub returns : goal.returns

@@ -1,5 +1,4 @@
 -- `draft::work_words_fit` meets its contract.
-use borrow.Author.Rules.{rules}
 use Rattle.draft.proofs.WorkWords.{few_nodes, few_children, few_named, few_definitions, few_items, few_payload, enough, after-nodes, after_next, quarter}
 use Rattle.draft.proofs.work_words_fit.Goals as goal
 

@@ -1,6 +1,5 @@
 -- `draft_tree::stands` meets its contract.
 use mathlib.Core.Path.{◌∙◌}
-use borrow.Author.Rules.{rules}
 use borrow.Author.Tests.{not-false}
 use Rattle.records.proofs.ByKind.{shown-root}
 use Rattle.draft.proofs.NodeTable.{node_is}

@@ -1,6 +1,5 @@
 -- `draft_walks::child_at` meets its contract.
 use Rattle.views.proofs.Answers.{child-missing, child-found, child-past}
-use borrow.Author.Rules.{rules}
 use Rattle.draft_walks.proofs.child_at.Goals as goal
 
 pub returns-in-NotFound : goal.returns-in-NotFound

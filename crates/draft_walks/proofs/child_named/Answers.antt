@@ -1,6 +1,5 @@
 -- `draft_walks::child_named` meets its contract.
 use Rattle.walks.proofs.Steps.{name-inside, name-outside}
-use borrow.Author.Rules.{rules}
 use Rattle.draft_walks.proofs.child_named.Goals as goal
 
 pub returns-then-end-names : goal.returns-then-end-names

@@ -1,6 +1,5 @@
 -- `draft_walks::child_of` meets its contract.
 use mathlib.Core.Path.{refl}
-use borrow.Author.Rules.{rules}
 use Rattle.laws.proofs.Cases.{lt_yes, lt_no}
 use Rattle.image.specs.Sections.{child_word}
 use Rattle.views.specs.Found.{child_found}

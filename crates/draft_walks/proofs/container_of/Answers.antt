@@ -1,6 +1,5 @@
 -- `draft_walks::container_of` meets its contract.
 use Rattle.views.proofs.Reading.{none_contains, one_contains, other_contains}
-use borrow.Author.Rules.{rules}
 use Rattle.draft_walks.proofs.container_of.Goals as goal
 
 pub returns-in-NotFound : goal.returns-in-NotFound

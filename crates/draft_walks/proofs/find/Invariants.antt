@@ -1,7 +1,6 @@
 -- `draft_walks::find` meets its contract. The loop's invariant: the range lo to hi is all that is left to search.
-use borrow.Author.Rules.{rules}
 use Prim.Native.Nat.{◌-◌}
-use Rattle.lookups.proofs.Lookups.{Halved, halved_start, halved_above, halved_below, halved_here, halved_end}
+use Rattle.lookups.proofs.Lookups.{Halved}
 use Rattle.draft_walks.proofs.find.Given as goal
 
 abbrev pub invariant-loop-lo : goal.invariant-loop-lo

@@ -1,7 +1,6 @@
 -- `draft_walks::find_named_child` meets its contract.
 use Rattle.lookups.proofs.Lookups.{find-missing, find-found}
 use mathlib.Core.Path.{refl}
-use borrow.Author.Rules.{rules}
 use Rattle.draft_walks.proofs.find_named_child.Goals as goal
 
 pub returns-in-NotFound : goal.returns-in-NotFound

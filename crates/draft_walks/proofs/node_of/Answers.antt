@@ -1,6 +1,5 @@
 -- `draft_walks::node_of` meets its contract.
 use mathlib.Core.Path.{refl, ap, ◌∙◌}
-use borrow.Author.Rules.{rules}
 use borrow.Author.Tests.{not-false}
 use Rattle.laws.proofs.Cases.{flag-not_yes, flag-not_no}
 use Rattle.image.proofs.Entries.{node_record}

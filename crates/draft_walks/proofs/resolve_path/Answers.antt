@@ -1,6 +1,5 @@
 -- `draft_walks::resolve_path` meets its contract.
 use Rattle.draft_walks.proofs.SameWalks.{same-walk, walk-missing, walk-begun}
-use borrow.Author.Rules.{rules}
 use Rattle.draft_walks.proofs.resolve_path.Goals as goal
 
 pub returns-in-Nowhere : goal.returns-in-Nowhere

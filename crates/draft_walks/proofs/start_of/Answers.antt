@@ -1,7 +1,6 @@
 -- `draft_walks::start_of` meets its contract.
 use mathlib.Core.Path.{refl}
 use Rattle.walks.proofs.Steps.{absolute, origin-missing, from-container, from-root, from-leaf}
-use borrow.Author.Rules.{rules}
 use Rattle.draft_walks.proofs.start_of.Goals as goal
 
 pub returns-then-not-relative : goal.returns-then-not-relative

@@ -1,6 +1,5 @@
 -- `draft_walks::step_along` meets its contract.
 use Rattle.walks.proofs.Steps.{step-parent, step-index, step-name, step-broken}
-use borrow.Author.Rules.{rules}
 use Rattle.draft_walks.proofs.step_along.Goals as goal
 
 pub returns-in-0 : goal.returns-in-0

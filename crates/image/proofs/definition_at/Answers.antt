@@ -1,6 +1,5 @@
 -- `image::definition_at` meets its contract.
 use Rattle.image.specs.Entries.{definition_of}
-use borrow.Author.Rules.{rules}
 use Rattle.image.proofs.definition_at.Goals as goal
 
 pub returns : goal.returns

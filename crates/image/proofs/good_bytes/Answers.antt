@@ -1,6 +1,5 @@
 -- `image::good_bytes` meets its contract.
 use Rattle.image.specs.Sections.{good_bytes}
-use borrow.Author.Rules.{rules}
 use Rattle.image.proofs.good_bytes.Goals as goal
 
 pub returns : goal.returns

@@ -1,6 +1,5 @@
 -- `image::good_within` meets its contract.
 use mathlib.Core.Path.{sym}
-use borrow.Author.Rules.{rules}
 use borrow.Author.Tests.{not-false}
 use Rattle.image.proofs.good_within.Goals as goal
 

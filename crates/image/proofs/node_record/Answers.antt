@@ -2,7 +2,6 @@
 use Rattle.image.specs.Entries.{record_of}
 use native.Mathlib.Omega.{arith}
 use Rattle.image.proofs.Widths.{node-inside}
-use borrow.Author.Rules.{rules}
 use Rattle.image.proofs.node_record.Goals as goal
 
 pub first_word-at-requires : goal.first_word-at-requires

@@ -6,7 +6,6 @@ use Rattle.words.specs.Words.{NONE}
 use Rattle.image.specs.Sections.{most_words, node_words}
 use Rattle.image.proofs.Parts.{word_get}
 use Rattle.image.proofs.Widths.{width, number-words}
-use borrow.Author.Rules.{rules}
 use Rattle.image.proofs.node_word_or_zero.Goals as goal
 
 -- the word's number is far below 64 bits

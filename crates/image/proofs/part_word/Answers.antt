@@ -1,7 +1,6 @@
 -- `image::part_word` meets its contract.
 use mathlib.Core.Path.{◌∙◌, sym}
 use Rattle.words.proofs.Words.{word_at_lem}
-use borrow.Author.Rules.{rules}
 use Rattle.image.proofs.part_word.Goals as goal
 
 pub returns : goal.returns

@@ -1,6 +1,5 @@
 -- `image::section_sizes` meets its contract.
 use Rattle.image.specs.Header.{sizes}
-use borrow.Author.Rules.{rules}
 use Rattle.image.proofs.section_sizes.Goals as goal
 
 pub returns : goal.returns

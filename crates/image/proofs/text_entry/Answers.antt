@@ -1,6 +1,5 @@
 -- `image::text_entry` meets its contract.
 use Rattle.image.specs.Entries.{text_entry_of}
-use borrow.Author.Rules.{rules}
 use Rattle.image.proofs.text_entry.Goals as goal
 
 pub returns : goal.returns

@@ -12,7 +12,6 @@ use Rattle.words.specs.Words.{NONE}
 use Rattle.texts.specs.Dots.{dot}
 use Rattle.texts.proofs.Text.{equal-same}
 use Rattle.index.proofs.Extended.{Seen, extends_tests, extends_absent, text-given, seen-decides, front_shared}
-use borrow.Author.Rules.{rules}
 use Rattle.index.proofs.extends.Goals as goal
 
 pub returns-then-entry-eq-NONE : goal.returns-then-entry-eq-NONE

@@ -14,7 +14,6 @@ use Rattle.image.specs.Entries.{entry_text_from}
 use Rattle.index.specs.Parts.{index_parts}
 use Rattle.index.proofs.Index.{container-like, fits-like}
 use Rattle.index.proofs.Readers.{index_by, index-past}
-use borrow.Author.Rules.{rules}
 use Rattle.index.proofs.index_entry_rule.Goals as goal
 
 pub returns-then-not-good_text : goal.returns-then-not-good_text
@@ -47,7 +46,7 @@ returns-then-not-entry_rises c =
     let past-target : index_entry_rule whole c.args.j
     ≡ (unless (rising (entry_text_from (words_of c.args.index.now) c.args.strings.now 0) c.args.j) 16
     ▸ unless (fits whole entry.value (part_at c.args.strings.now entry.offset entry.len)) 16) =
-      let at = c.args in
+    let at = c.args in
     let good = c.good_text in
     let there = c.is_container in
     index-past whole (words_of at.index.now) at.j entry good.result there.result refl c.text_entry-entry.ensures good.ensures
@@ -64,14 +63,14 @@ returns-then-matches_canonical_path c =
     let past-target : index_entry_rule whole c.args.j
     ≡ (unless (rising (entry_text_from (words_of c.args.index.now) c.args.strings.now 0) c.args.j) 16
     ▸ unless (fits whole entry.value (part_at c.args.strings.now entry.offset entry.len)) 16) =
-      let at = c.args in
+    let at = c.args in
     let good = c.good_text in
     let there = c.is_container in
     index-past whole (words_of at.index.now) at.j entry good.result there.result refl c.text_entry-entry.ensures good.ensures
     (there.ensures ∙ container-like (parts_of at.version at.nodes.now [] [] []) whole refl refl entry.value)
     (not-false good.result c.if-not-good_text.false-raw) (not-false there.result c.if-not-is_container.false-raw) in
     let past-order : index_entry_rule whole c.args.j ≡ unless c.matches_canonical_path.result 16 =
-      let at = c in
+    let at = c in
     let rises = c.entry_rises in
     let nodes = index_parts c.args.version c.args.nodes.now [] c.args.strings.now in
     past-target
@@ -86,14 +85,14 @@ returns-else-matches_canonical_path c =
     let past-target : index_entry_rule whole c.args.j
     ≡ (unless (rising (entry_text_from (words_of c.args.index.now) c.args.strings.now 0) c.args.j) 16
     ▸ unless (fits whole entry.value (part_at c.args.strings.now entry.offset entry.len)) 16) =
-      let at = c.args in
+    let at = c.args in
     let good = c.good_text in
     let there = c.is_container in
     index-past whole (words_of at.index.now) at.j entry good.result there.result refl c.text_entry-entry.ensures good.ensures
     (there.ensures ∙ container-like (parts_of at.version at.nodes.now [] [] []) whole refl refl entry.value)
     (not-false good.result c.if-not-good_text.false-raw) (not-false there.result c.if-not-is_container.false-raw) in
     let past-order : index_entry_rule whole c.args.j ≡ unless c.matches_canonical_path.result 16 =
-      let at = c in
+    let at = c in
     let rises = c.entry_rises in
     let nodes = index_parts c.args.version c.args.nodes.now [] c.args.strings.now in
     past-target

@@ -1,16 +1,13 @@
 -- `index::index_rule` meets its contract. The invariant: no entry so far is refused, the words of their targets hold their numbers, and the words past the
-use Prim.Native.Nat.{◌≤◌, ◌<◌, ◌-◌, ◌/◌}
-use mathlib.Core.Path.{◌≡◌, refl, sym, ◌∙◌}
+use Prim.Native.Nat.{◌<◌, ◌/◌}
+use mathlib.Core.Path.{refl, sym, ◌∙◌}
 use mathlib.Core.List.{[]}
 use native.Mathlib.Omega.{arith}
-use lib.ListN.{length, drop, length-set}
+use lib.ListN.{length, length-set}
 use lib.Seq.{drop-set-lt}
 use Rattle.image.specs.Sections.{Sections, text_entry_size, node_count}
-use Rattle.laws.specs.Refusal.{first_of}
-use Rattle.words.specs.Words.{words_of}
 use Rattle.index.specs.Index.{index_entry_rule}
 use Rattle.index.specs.Parts.{index_parts}
-use Rattle.index.specs.Extended.{Filed}
 use Rattle.index.proofs.Readers.{index_run}
 use Rattle.index.proofs.Extended.{climbs-like, target_below, none-filed, entry-filed}
 use Rattle.laws.proofs.Chains.{first-broken, first_done}
@@ -49,7 +46,7 @@ pub bounds-work-entry : goal.bounds-work-entry
 bounds-work-entry c =
     let bare : Sections = index_parts c.args.version c.args.nodes.now [] [] in
     let entry-below : c.text_entry-entry.result.value < node_count bare =
-      let at = c.args in
+    let at = c.args in
     target_below at.version at.nodes.now at.index.now at.strings.now c.loop-j.j c.text_entry-entry.result
     (sym c.next_entry_rule-refused.ensures ∙ c.if-refused-ne0.false) c.text_entry-entry.ensures in
     let low = entry-below in
@@ -62,7 +59,7 @@ loop-j-preserved c =
     let whole : Sections = index_parts c.args.version c.args.nodes.now c.args.index.now c.args.strings.now in
     let bare : Sections = index_parts c.args.version c.args.nodes.now [] [] in
     let entry-below : c.text_entry-entry.result.value < node_count bare =
-      let at = c.args in
+    let at = c.args in
     target_below at.version at.nodes.now at.index.now at.strings.now c.loop-j.j c.text_entry-entry.result
     (sym c.next_entry_rule-refused.ensures ∙ c.if-refused-ne0.false) c.text_entry-entry.ensures in
     let at = c in

@@ -1,21 +1,14 @@
 -- `index::index_rule` meets its contract. The invariant: no entry so far is refused, the words of their targets hold their numbers, and the words past the
-use Prim.Native.Nat.{◌≤◌, ◌<◌, ◌-◌, ◌/◌}
-use mathlib.Core.Path.{◌≡◌, refl, sym, ◌∙◌}
+use Prim.Native.Nat.{◌≤◌, ◌-◌}
+use mathlib.Core.Path.{◌≡◌}
 use mathlib.Core.List.{[]}
-use native.Mathlib.Omega.{arith}
-use lib.ListN.{length, drop, length-set}
-use lib.Seq.{drop-set-lt}
-use Rattle.image.specs.Sections.{Sections, text_entry_size, node_count}
+use lib.ListN.{length, drop}
+use Rattle.image.specs.Sections.{node_count}
 use Rattle.laws.specs.Refusal.{first_of}
 use Rattle.words.specs.Words.{words_of}
 use Rattle.index.specs.Index.{index_entry_rule}
 use Rattle.index.specs.Parts.{index_parts}
 use Rattle.index.specs.Extended.{Filed}
-use Rattle.index.proofs.Readers.{index_run}
-use Rattle.index.proofs.Extended.{climbs-like, target_below, none-filed, entry-filed}
-use Rattle.laws.proofs.Chains.{first-broken, first_done}
-use Rattle.laws.proofs.RuleRuns.{run_starts, run_goes}
-use borrow.Author.Rules.{rules}
 use Rattle.index.proofs.index_rule.Given as goal
 
 abbrev pub invariant-loop-j : goal.invariant-loop-j

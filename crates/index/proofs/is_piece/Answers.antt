@@ -1,6 +1,5 @@
 -- `index::is_piece` meets its contract.
 use Rattle.index.specs.Paths.{piece_of}
-use borrow.Author.Rules.{rules}
 use Rattle.index.proofs.is_piece.Goals as goal
 
 pub returns-then-no_name : goal.returns-then-no_name

@@ -6,7 +6,6 @@ use Rattle.words.specs.Words.{words_of}
 use Rattle.index.specs.Parts.{index_parts}
 use Rattle.index.proofs.Readers.{index-texts}
 use Rattle.index.proofs.Extended.{extended-found, extended-rule, extended-next}
-use borrow.Author.Rules.{rules}
 use Rattle.index.proofs.next_entry_rule.Goals as goal
 
 pub returns-then-k-j : goal.returns-then-k-j

@@ -2,7 +2,6 @@
 use mathlib.Core.Path.{ap}
 use lib.ListN.{length}
 use Rattle.index.specs.Paths.{piece_of}
-use borrow.Author.Rules.{rules}
 use Rattle.index.proofs.piece_len.Goals as goal
 
 pub returns-then-no_name : goal.returns-then-no_name

@@ -1,5 +1,4 @@
 -- `list_items::items_inside` meets its contract.
-use borrow.Author.Rules.{rules}
 use Rattle.list_items.proofs.Search.{inside_yes, inside_no}
 use Rattle.list_items.proofs.items_inside.Goals as goal
 

@@ -1,11 +1,8 @@
 -- `list_items::last_item` meets its contract. The inner loop halves the items of one definition; the outer one's invariant: the first `left`
-use borrow.Author.Rules.{rules}
 use native.Mathlib.Omega.{arith}
-use Prim.Native.Nat.{◌-◌}
-use mathlib.Core.Path.{◌≡◌, refl}
-use Rattle.words.specs.Words.{words_of}
-use Rattle.lookups.proofs.Lookups.{Halved, halved_start, halved_above, halved_below, halved_here, halved_end}
-use Rattle.list_items.proofs.Search.{inside-range, one_less, Sought, sought_start, sought_end, sought_next, sought_found}
+use mathlib.Core.Path.{refl}
+use Rattle.lookups.proofs.Lookups.{halved_start, halved_above, halved_below, halved_here, halved_end}
+use Rattle.list_items.proofs.Search.{inside-range, one_less, sought_start, sought_end, sought_next, sought_found}
 use Rattle.list_items.proofs.last_item.Goals as goal
 
 pub definitions-init : goal.definitions-init

@@ -1,6 +1,5 @@
 -- `list_items::origin_at` meets its contract. The loop's invariant: the definitions before d are left to ask.
-use borrow.Author.Rules.{rules}
-use Rattle.list_items.proofs.Search.{one_less, Unnamed, unnamed-start, unnamed-next, unnamed-found, unnamed_end}
+use Rattle.list_items.proofs.Search.{Unnamed}
 use Rattle.list_items.proofs.origin_at.Given as goal
 
 abbrev pub invariant-loop-d : goal.invariant-loop-d

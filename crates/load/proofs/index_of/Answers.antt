@@ -1,7 +1,6 @@
 -- `load::index_of` meets its contract.
 use lib.ListN.{length}
 use Rattle.load.proofs.Indexes.{index-climbs, index-room, index-rest, index-refused, index-passed}
-use borrow.Author.Rules.{rules}
 use Rattle.load.proofs.index_of.Goals as goal
 
 pub index_rule-wrong-requires : goal.index_rule-wrong-requires

@@ -1,6 +1,5 @@
 -- `load::load` meets its contract: the header, then the rest.
 use Rattle.load.proofs.Answers.{header-kept, header-broken, header_refused, header-early, refused-load, left-alone_at}
-use borrow.Author.Rules.{rules}
 use Rattle.load.proofs.load.Goals as goal
 
 pub load_view-requires : goal.load_view-requires

@@ -1,9 +1,8 @@
 -- `load::load_view` meets its contract: checksum, work words, sections; then the words are cleared.
-use mathlib.Core.Path.{◌≡◌, refl, sym, ap, ◌∙◌}
+use mathlib.Core.Path.{refl, sym, ◌∙◌}
 use native.Mathlib.Omega.{arith}
 use Rattle.image.proofs.OpenedHeader.{opens}
 use Rattle.load.proofs.Answers.{refused-load, accepted-load, left-alone_at, needed_is, sum_wrong, too_few, few_of, most_of, enough_of, sections_decide, words-after}
-use borrow.Author.Rules.{rules}
 use Rattle.load.proofs.load_view.Goals as goal
 
 pub word-requires : goal.word-requires

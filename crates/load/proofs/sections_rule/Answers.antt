@@ -15,7 +15,7 @@ pub returns-then-second-ne0 : goal.returns-then-second-ne0
 returns-then-second-ne0 c =
     record {
       answer = tree-refused _ _ c.records_rule-first.ensures c.if-first-ne0.false _
-      c.tree_of-second.ensures.answer c.if-second-ne0.true;
+          c.tree_of-second.ensures.answer c.if-second-ne0.true;
       rest = c.tree_of-second.ensures.rest;
     }
 

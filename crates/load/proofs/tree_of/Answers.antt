@@ -1,6 +1,5 @@
 -- `load::tree_of` meets its contract: the tree's rule of the parts is that of the view's sections.
 use Rattle.load.proofs.Rows.{part_fit, part_room, part-tree, part-rest}
-use borrow.Author.Rules.{rules}
 use Rattle.load.proofs.tree_of.Goals as goal
 
 pub tree_rule-requires : goal.tree_rule-requires

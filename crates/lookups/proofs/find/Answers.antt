@@ -1,8 +1,5 @@
 -- `lookups::find` meets its contract. The loop's invariant: the range lo to hi is all that is left to search.
-use borrow.Author.Rules.{rules}
-use Prim.Native.Nat.{◌-◌}
-use Rattle.words.specs.Words.{words_of}
-use Rattle.lookups.proofs.Lookups.{Halved, halved_start, halved_above, halved_below, halved_here, halved_end}
+use Rattle.lookups.proofs.Lookups.{halved_start, halved_above, halved_below, halved_here, halved_end}
 use Rattle.lookups.proofs.find.Goals as goal
 
 pub loop-lo-init : goal.loop-lo-init

@@ -1,6 +1,5 @@
 -- `lookups::find_named_child` meets its contract.
 use Rattle.lookups.proofs.Lookups.{find-missing, find-found, named-part, strings-part}
-use borrow.Author.Rules.{rules}
 use Rattle.lookups.proofs.find_named_child.Goals as goal
 
 pub returns-in-NotFound : goal.returns-in-NotFound

@@ -2,7 +2,6 @@
 use native.Mathlib.Omega.{arith}
 use Rattle.image.proofs.Parts.{text-entry-count}
 use Rattle.lookups.proofs.Lookups.{named-outside, named-nowhere, named_at_lem, named-place}
-use borrow.Author.Rules.{rules}
 use Rattle.lookups.proofs.named_by.Goals as goal
 
 pub returns-then-named-from : goal.returns-then-named-from

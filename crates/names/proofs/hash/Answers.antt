@@ -1,6 +1,5 @@
 -- `names::hash` meets its contract.
 use native.Mathlib.Omega.{arith}
-use borrow.Author.Rules.{rules}
 use Rattle.names.proofs.Hashes.{hash_none, hash_some}
 use Rattle.names.proofs.hash.Goals as goal
 

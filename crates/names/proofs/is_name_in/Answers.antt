@@ -1,10 +1,8 @@
 -- `names::is_name_in` meets its contract: what is left of the text and of the name is compared as the two are.
-use Prim.Native.Nat.{◌≤◌, ◌-◌}
 use mathlib.Core.Path.{refl}
 use native.Mathlib.Omega.{arith}
 use borrow.Author.Rules.{rules}
-use lib.ListN.{length}
-use Rattle.names.proofs.Parts.{Alike, length-unlike, byte-unlike, alike_next, alike_all}
+use Rattle.names.proofs.Parts.{length-unlike, byte-unlike, alike_next, alike_all}
 use Rattle.names.proofs.is_name_in.Goals as goal
 
 pub returns-then-end-start : goal.returns-then-end-start

@@ -1,10 +1,7 @@
 -- `names::is_name_in` meets its contract: what is left of the text and of the name is compared as the two are.
 use Prim.Native.Nat.{◌≤◌, ◌-◌}
-use mathlib.Core.Path.{refl}
-use native.Mathlib.Omega.{arith}
-use borrow.Author.Rules.{rules}
 use lib.ListN.{length}
-use Rattle.names.proofs.Parts.{Alike, length-unlike, byte-unlike, alike_next, alike_all}
+use Rattle.names.proofs.Parts.{Alike}
 use Rattle.names.proofs.is_name_in.Given as goal
 
 abbrev pub invariant-loop-i : goal.invariant-loop-i

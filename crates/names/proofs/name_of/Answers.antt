@@ -1,10 +1,9 @@
 -- `names::name_of` meets its contract: after i turns the first i bytes are the text's.
-use Prim.Native.Nat.{◌≤◌, ◌-◌}
 use mathlib.Core.Path.{◌≡◌, refl}
 use native.Mathlib.Omega.{arith}
 use borrow.Author.Rules.{rules}
 use lib.ListN.{length}
-use Rattle.names.proofs.Copies.{copied, copied_more, copied_all}
+use Rattle.names.proofs.Copies.{copied_more, copied_all}
 use Rattle.names.proofs.name_of.Goals as goal
 
 pub loop-i-init : goal.loop-i-init

@@ -1,10 +1,8 @@
 -- `names::name_of` meets its contract: after i turns the first i bytes are the text's.
 use Prim.Native.Nat.{◌≤◌, ◌-◌}
-use mathlib.Core.Path.{◌≡◌, refl}
-use native.Mathlib.Omega.{arith}
-use borrow.Author.Rules.{rules}
+use mathlib.Core.Path.{◌≡◌}
 use lib.ListN.{length}
-use Rattle.names.proofs.Copies.{copied, copied_more, copied_all}
+use Rattle.names.proofs.Copies.{copied}
 use Rattle.names.proofs.name_of.Given as goal
 
 abbrev pub invariant-loop-i : goal.invariant-loop-i

@@ -1,5 +1,4 @@
 -- `notes::is_note_kind` meets its contract.
-use borrow.Author.Rules.{rules}
 use Rattle.notes.proofs.is_note_kind.Goals as goal
 
 pub returns-in-Tag : goal.returns-in-Tag

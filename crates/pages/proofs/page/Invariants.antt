@@ -1,11 +1,8 @@
 -- `pages::page` meets its contract. The loop's invariant: the slots of the numbers before k are written.
 use Prim.Native.Nat.{◌-◌}
-use mathlib.Core.Path.{refl}
-use native.Mathlib.Omega.{arith}
 use lib.ListN.{length}
 use Rattle.image.specs.Header.{sections_by}
-use Rattle.pages.proofs.Slots.{PageSoFar, page-refused, page-start, page-next, page_end}
-use borrow.Author.Rules.{rules}
+use Rattle.pages.proofs.Slots.{PageSoFar}
 use Rattle.pages.proofs.page.Given as goal
 
 abbrev pub invariant-loop-k : goal.invariant-loop-k

@@ -7,7 +7,6 @@ use Rattle.image.proofs.Views.{payload_by, strings_by}
 use Rattle.views.proofs.Reading.{a_node}
 use Rattle.views.proofs.Answers.{view-missing, view-found}
 use Rattle.pages.proofs.Slots.{slot-missing, viewed-slot, viewless_slot, slot-over, slot_again}
-use borrow.Author.Rules.{rules}
 use Rattle.pages.proofs.put_slot.Goals as goal
 
 pub returns-in-NotFound : goal.returns-in-NotFound

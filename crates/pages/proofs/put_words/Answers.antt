@@ -3,7 +3,6 @@ use mathlib.Core.Path.{refl}
 use native.Mathlib.Omega.{arith}
 use lib.ListN.{length-set}
 use Rattle.pages.proofs.Slots.{slot_put}
-use borrow.Author.Rules.{rules}
 use Rattle.pages.proofs.put_words.Goals as goal
 
 pub bounds-out-1 : goal.bounds-out-1

@@ -4,7 +4,6 @@ use lib.ListN.{length}
 use Rattle.image.specs.Header.{sections_by}
 use Rattle.image.proofs.Views.{payload_by, strings_by}
 use Rattle.pages.proofs.Slots.{record_viewed, slot-short, slot-viewed}
-use borrow.Author.Rules.{rules}
 use Rattle.pages.proofs.slot_view.Goals as goal
 
 pub returns-then-slot-lt-RECORD_WORDS : goal.returns-then-slot-lt-RECORD_WORDS

@@ -1,5 +1,4 @@
 -- `records::assignment` meets its contract.
-use borrow.Author.Rules.{rules}
 use Rattle.records.proofs.Tests.{test_rules}
 use Rattle.records.specs.Shown.{assignment_rule}
 use Rattle.records.proofs.assignment.Goals as goal

@@ -1,5 +1,4 @@
 -- `records::choice` meets its contract.
-use borrow.Author.Rules.{rules}
 use Rattle.records.proofs.Tests.{test_rules}
 use Rattle.records.specs.Shown.{choice_rule}
 use Rattle.records.proofs.choice.Goals as goal

@@ -1,5 +1,4 @@
 -- `records::container` meets its contract.
-use borrow.Author.Rules.{rules}
 use Rattle.records.proofs.Tests.{test_rules}
 use Rattle.records.specs.Shown.{container_rule}
 use Rattle.records.proofs.container.Goals as goal

@@ -1,5 +1,4 @@
 -- `records::divert` meets its contract.
-use borrow.Author.Rules.{rules}
 use Rattle.records.proofs.Tests.{test_rules}
 use Rattle.records.specs.Shown.{divert_rule}
 use Rattle.records.proofs.divert.Goals as goal

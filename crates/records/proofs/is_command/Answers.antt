@@ -1,5 +1,4 @@
 -- `records::is_command` meets its contract.
-use borrow.Author.Rules.{rules}
 use Rattle.records.proofs.Texts.{known-name, unknown_name}
 use Rattle.records.proofs.is_command.Goals as goal
 

@@ -1,5 +1,4 @@
 -- `records::is_container` meets its contract.
-use borrow.Author.Rules.{rules}
 use Rattle.records.proofs.Tests.{other_tag, that_tag}
 use Rattle.records.proofs.is_container.Goals as goal
 

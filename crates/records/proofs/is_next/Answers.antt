@@ -1,5 +1,4 @@
 -- `records::is_next` meets its contract.
-use borrow.Author.Rules.{rules}
 use Rattle.records.proofs.Tests.{past_end, in_end}
 use Rattle.records.proofs.is_next.Goals as goal
 

@@ -1,5 +1,4 @@
 -- `records::is_optional_container` meets its contract.
-use borrow.Author.Rules.{rules}
 use Rattle.records.proofs.Tests.{none-optional, some-optional}
 use Rattle.records.proofs.is_optional_container.Goals as goal
 

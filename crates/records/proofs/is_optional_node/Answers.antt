@@ -1,6 +1,5 @@
 -- `records::is_optional_node` meets its contract.
 use Rattle.records.proofs.Tests.{none-optional, some-optional}
-use borrow.Author.Rules.{rules}
 use Rattle.records.proofs.is_optional_node.Goals as goal
 
 pub returns-then-word-eq-NONE : goal.returns-then-word-eq-NONE

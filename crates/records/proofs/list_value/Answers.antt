@@ -1,5 +1,4 @@
 -- `records::list_value` meets its contract.
-use borrow.Author.Rules.{rules}
 use Rattle.laws.proofs.Chains.{stop_unequal, go_equal}
 use Rattle.records.specs.Shown.{list_rule}
 use Rattle.records.proofs.list_value.Goals as goal

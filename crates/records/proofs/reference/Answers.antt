@@ -1,5 +1,4 @@
 -- `records::reference` meets its contract.
-use borrow.Author.Rules.{rules}
 use Rattle.records.proofs.Tests.{test_rules}
 use Rattle.records.specs.Shown.{reference_rule}
 use Rattle.records.proofs.reference.Goals as goal

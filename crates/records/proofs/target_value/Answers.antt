@@ -1,5 +1,4 @@
 -- `records::target_value` meets its contract.
-use borrow.Author.Rules.{rules}
 use Rattle.records.proofs.Tests.{test_rules}
 use Rattle.records.specs.Shown.{target_rule}
 use Rattle.records.proofs.target_value.Goals as goal

@@ -1,5 +1,4 @@
 -- `records::text_only` meets its contract.
-use borrow.Author.Rules.{rules}
 use Rattle.records.proofs.Texts.{text_bad, text_any, command_known, command_unknown, operator_known, operator_unknown}
 use Rattle.records.proofs.text_only.Goals as goal
 

@@ -17,11 +17,11 @@ returns-then-not-ink_right c =
     let p = path_list to.paths.now to.components.now to.names.now in
     record {
       answer = (ended _ _ _ _ _ _ _
-    (ink_refused to.ink s p to.work.now (sym c.ink_right.ensures ∙ not-true _ c.if-not-ink_right.true-raw))).0;
+          (ink_refused to.ink s p to.work.now (sym c.ink_right.ensures ∙ not-true _ c.if-not-ink_right.true-raw))).0;
       draft = (ended _ _ _ _ _ _ _
-    (ink_refused to.ink s p to.work.now (sym c.ink_right.ensures ∙ not-true _ c.if-not-ink_right.true-raw))).1.0;
+          (ink_refused to.ink s p to.work.now (sym c.ink_right.ensures ∙ not-true _ c.if-not-ink_right.true-raw))).1.0;
       words = (ended _ _ _ _ _ _ _
-    (ink_refused to.ink s p to.work.now (sym c.ink_right.ensures ∙ not-true _ c.if-not-ink_right.true-raw))).1.1;
+          (ink_refused to.ink s p to.work.now (sym c.ink_right.ensures ∙ not-true _ c.if-not-ink_right.true-raw))).1.1;
     }
 
 pub returns-then-not-list_right : goal.returns-then-not-list_right
@@ -32,11 +32,11 @@ returns-then-not-list_right c =
     let right = sym c.ink_right.ensures ∙ not-false _ c.if-not-ink_right.false-raw in
     record {
       answer = (ended _ _ _ _ _ _ _
-    (list-refused to.ink s p to.work.now right (list_is _ _ _ _ _ _ c.node_count-count.ensures c.list_right.ensures (not-true _ c.if-not-list_right.true-raw)))).0;
+          (list-refused to.ink s p to.work.now right (list_is _ _ _ _ _ _ c.node_count-count.ensures c.list_right.ensures (not-true _ c.if-not-list_right.true-raw)))).0;
       draft = (ended _ _ _ _ _ _ _
-    (list-refused to.ink s p to.work.now right (list_is _ _ _ _ _ _ c.node_count-count.ensures c.list_right.ensures (not-true _ c.if-not-list_right.true-raw)))).1.0;
+          (list-refused to.ink s p to.work.now right (list_is _ _ _ _ _ _ c.node_count-count.ensures c.list_right.ensures (not-true _ c.if-not-list_right.true-raw)))).1.0;
       words = (ended _ _ _ _ _ _ _
-    (list-refused to.ink s p to.work.now right (list_is _ _ _ _ _ _ c.node_count-count.ensures c.list_right.ensures (not-true _ c.if-not-list_right.true-raw)))).1.1;
+          (list-refused to.ink s p to.work.now right (list_is _ _ _ _ _ _ c.node_count-count.ensures c.list_right.ensures (not-true _ c.if-not-list_right.true-raw)))).1.1;
     }
 
 pub returns-then-broken-ne0 : goal.returns-then-broken-ne0
@@ -48,11 +48,11 @@ returns-then-broken-ne0 c =
     let listed = list_is _ _ _ _ _ _ c.node_count-count.ensures c.list_right.ensures (not-false _ c.if-not-list_right.false-raw) in
     record {
       answer = (ended _ _ _ _ _ _ _
-    (tables-refused to.ink s p to.work.now right listed _ c.tables_rule-broken.ensures c.if-broken-ne0.true)).0;
+          (tables-refused to.ink s p to.work.now right listed _ c.tables_rule-broken.ensures c.if-broken-ne0.true)).0;
       draft = (ended _ _ _ _ _ _ _
-    (tables-refused to.ink s p to.work.now right listed _ c.tables_rule-broken.ensures c.if-broken-ne0.true)).1.0;
+          (tables-refused to.ink s p to.work.now right listed _ c.tables_rule-broken.ensures c.if-broken-ne0.true)).1.0;
       words = (ended _ _ _ _ _ _ _
-    (tables-refused to.ink s p to.work.now right listed _ c.tables_rule-broken.ensures c.if-broken-ne0.true)).1.1;
+          (tables-refused to.ink s p to.work.now right listed _ c.tables_rule-broken.ensures c.if-broken-ne0.true)).1.1;
     }
 
 pub slice_bounds-resolve-end : goal.slice_bounds-resolve-end
@@ -127,12 +127,12 @@ returns-in-Words c =
     let work = c.resolve-answer.new.work in
     record {
       answer = (ended _ _ _ _ _ _ _
-    (late-answered to.ink s p to.work.now right listed ruled (lent (write_words s) _ to.work.now _ fit known).1 _ _ c.resolve-answer.ensures _
-    (given_back (write_words s) _ to.work.now _ fit known work (search rules) _ c.clear.ensures))).0;
+          (late-answered to.ink s p to.work.now right listed ruled (lent (write_words s) _ to.work.now _ fit known).1 _ _ c.resolve-answer.ensures _
+          (given_back (write_words s) _ to.work.now _ fit known work (search rules) _ c.clear.ensures))).0;
       draft = (ended _ _ _ _ _ _ _
-    (late-answered to.ink s p to.work.now right listed ruled (lent (write_words s) _ to.work.now _ fit known).1 _ _ c.resolve-answer.ensures _
-    (given_back (write_words s) _ to.work.now _ fit known work (search rules) _ c.clear.ensures))).1.0;
+          (late-answered to.ink s p to.work.now right listed ruled (lent (write_words s) _ to.work.now _ fit known).1 _ _ c.resolve-answer.ensures _
+          (given_back (write_words s) _ to.work.now _ fit known work (search rules) _ c.clear.ensures))).1.0;
       words = (ended _ _ _ _ _ _ _
-    (late-answered to.ink s p to.work.now right listed ruled (lent (write_words s) _ to.work.now _ fit known).1 _ _ c.resolve-answer.ensures _
-    (given_back (write_words s) _ to.work.now _ fit known work (search rules) _ c.clear.ensures))).1.1;
+          (late-answered to.ink s p to.work.now right listed ruled (lent (write_words s) _ to.work.now _ fit known).1 _ _ c.resolve-answer.ensures _
+          (given_back (write_words s) _ to.work.now _ fit known work (search rules) _ c.clear.ensures))).1.1;
     }

@@ -1,7 +1,6 @@
 -- `static_targets::tree_rule` meets its contract.
 use mathlib.Core.Path.{sym, ◌∙◌}
 use mathlib.Core.List.{[]}
-use borrow.Author.Rules.{rules}
 use borrow.Author.Tests.{eqb-true, not-true, not-false}
 use Rattle.static_targets.proofs.Steps.{shape_asks, tree_asks, number_asks, unreached, shape-decides}
 use Rattle.static_targets.proofs.tree_rule.Goals as goal

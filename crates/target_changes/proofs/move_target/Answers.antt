@@ -1,6 +1,5 @@
 -- `target_changes::move_target` meets its contract.
 use native.Mathlib.Omega.{arith}
-use borrow.Author.Rules.{rules}
 use Rattle.target_counts.proofs.Counting.{nodes_alone}
 use Rattle.target_changes.proofs.Moves.{move_outside, move_inside, move_forbidden, move_stuck, move_steps, move_done, node-begins, node-room}
 use Rattle.target_changes.proofs.move_target.Goals as goal

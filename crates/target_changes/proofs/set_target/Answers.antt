@@ -1,5 +1,4 @@
 -- `target_changes::set_target` meets its contract.
-use borrow.Author.Rules.{rules}
 use Rattle.image.specs.Header.{version}
 use Rattle.draft.specs.Source.{draft_of}
 use Rattle.target_changes.proofs.Moves.{set-broken, set-short, summarised, set_moved}

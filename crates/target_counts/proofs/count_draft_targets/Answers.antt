@@ -4,7 +4,6 @@ use borrow.Author.Tests.{not-false}
 use Rattle.image.specs.Header.{version}
 use Rattle.draft.specs.Source.{draft_of}
 use Rattle.target_counts.proofs.Answers.{draft-broken, draft-short, draft-many, draft-counted}
-use borrow.Author.Rules.{rules}
 use Rattle.target_counts.proofs.count_draft_targets.Goals as goal
 
 pub returns-then-refused-ne0 : goal.returns-then-refused-ne0

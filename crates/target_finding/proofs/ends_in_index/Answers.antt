@@ -1,6 +1,5 @@
 -- `target_finding::ends_in_index` meets its contract.
 use Rattle.target_finding.proofs.Finding.{index-none, index-last}
-use borrow.Author.Rules.{rules}
 use Rattle.target_finding.proofs.ends_in_index.Goals as goal
 
 pub returns-then-count-eq0 : goal.returns-then-count-eq0

@@ -1,7 +1,6 @@
 -- `target_finding::entry_target` meets its contract.
 use borrow.Author.Tests.{not-true, not-false}
 use Rattle.target_finding.proofs.Finding.{not-followed, entry-followed}
-use borrow.Author.Rules.{rules}
 use Rattle.target_finding.proofs.entry_target.Goals as goal
 
 pub returns-then-not-may_follow : goal.returns-then-not-may_follow

@@ -1,9 +1,7 @@
 -- `target_finding::fill_none` meets its contract.
-use Prim.Native.Nat.{◌-◌, ◌≤◌}
-use mathlib.Core.Path.{◌≡◌, refl}
-use lib.ListN.{length, length-set}
+use mathlib.Core.Path.{refl}
+use lib.ListN.{length-set}
 use native.Mathlib.Omega.{arith}
-use Rattle.target_finding.specs.Finding.{NoneBelow}
 use borrow.Author.Rules.{rules}
 use Rattle.target_finding.proofs.EntryLoop.{none-start, none_more, none_end}
 use Rattle.target_finding.proofs.fill_none.Goals as goal

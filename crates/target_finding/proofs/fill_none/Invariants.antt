@@ -1,11 +1,8 @@
 -- `target_finding::fill_none` meets its contract.
 use Prim.Native.Nat.{◌-◌, ◌≤◌}
-use mathlib.Core.Path.{◌≡◌, refl}
-use lib.ListN.{length, length-set}
-use native.Mathlib.Omega.{arith}
+use mathlib.Core.Path.{◌≡◌}
+use lib.ListN.{length}
 use Rattle.target_finding.specs.Finding.{NoneBelow}
-use borrow.Author.Rules.{rules}
-use Rattle.target_finding.proofs.EntryLoop.{none-start, none_more, none_end}
 use Rattle.target_finding.proofs.fill_none.Given as goal
 
 abbrev pub invariant-loop-at : goal.invariant-loop-at

@@ -2,7 +2,6 @@
 use mathlib.Core.Path.{sym, ◌∙◌}
 use borrow.Author.Tests.{not-true, not-false}
 use Rattle.target_finding.proofs.Finding.{end_none, end_free, end_wrong, end_right, end_is}
-use borrow.Author.Rules.{rules}
 use Rattle.target_finding.proofs.follow.Goals as goal
 
 pub returns-then-not-needs_container : goal.returns-then-not-needs_container

@@ -1,6 +1,5 @@
 -- `target_finding::needs_container` meets its contract.
 use Rattle.target_finding.proofs.Finding.{choice_due, reference_due, none_due, divert_due}
-use borrow.Author.Rules.{rules}
 use Rattle.target_finding.proofs.needs_container.Goals as goal
 
 pub returns-then-tag-eq-CHOICE : goal.returns-then-tag-eq-CHOICE

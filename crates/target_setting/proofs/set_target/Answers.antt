@@ -2,7 +2,6 @@
 use native.Mathlib.Omega.{arith}
 use lib.ListN.{length-set}
 use Rattle.target_setting.proofs.SetNode.{node_kept, reference-set, value_set, other-set}
-use borrow.Author.Rules.{rules}
 use Rattle.target_setting.proofs.set_target.Goals as goal
 
 pub returns-then-target-eq-NONE : goal.returns-then-target-eq-NONE

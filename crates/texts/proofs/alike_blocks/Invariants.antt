@@ -1,11 +1,6 @@
 -- The invariant: both are alike so far.
 use Prim.Native.Nat.{◌≤◌, ◌-◌}
-use mathlib.Core.Path.{sym, ◌∙◌}
-use native.Mathlib.Omega.{arith}
-use borrow.Author.Rules.{rules}
-use borrow.Author.Tests.{not-false}
 use Rattle.texts.specs.Blocks.{Alike}
-use Rattle.texts.proofs.Blocks.{alike-none, alike_block}
 use Rattle.texts.proofs.alike_blocks.Given as goal
 
 abbrev pub invariant-loop-i : goal.invariant-loop-i

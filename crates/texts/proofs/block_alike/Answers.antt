@@ -1,10 +1,8 @@
 -- The invariant: the differences so far are 0 where all bytes so far are alike.
-use Prim.Native.Nat.{◌≤◌, ◌-◌}
-use mathlib.Core.Path.{◌≡◌, refl}
+use mathlib.Core.Path.{refl}
 use borrow.Author.Rules.{rules}
-use lib.Dec.{eqb}
 use Rattle.laws.specs.Counted.{all_of}
-use Rattle.texts.proofs.Blocks.{like_at, bits-next, bits_all}
+use Rattle.texts.proofs.Blocks.{bits-next, bits_all}
 use Rattle.texts.proofs.block_alike.Goals as goal
 
 pub loop-j-init : goal.loop-j-init

@@ -1,6 +1,5 @@
 -- `texts::comes_before` meets its contract.
 use Rattle.texts.specs.Text.{before}
-use borrow.Author.Rules.{rules}
 use Rattle.texts.proofs.comes_before.Goals as goal
 
 pub returns-in-Less : goal.returns-in-Less

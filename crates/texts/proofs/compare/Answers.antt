@@ -1,5 +1,4 @@
 -- Both ways give the order.
-use borrow.Author.Rules.{rules}
 use Rattle.texts.proofs.Blocks.{alike-none}
 use Rattle.texts.proofs.compare.Goals as goal
 

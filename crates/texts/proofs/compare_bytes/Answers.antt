@@ -1,10 +1,7 @@
 -- The invariant: what is left of the two is ordered as the two are.
 use borrow.Author.Rules.{rules}
 use native.Mathlib.Omega.{arith}
-use Prim.Native.Nat.{◌≤◌, ◌-◌}
-use mathlib.Core.Path.{◌≡◌, sym, ◌∙◌}
-use lib.ListN.{drop}
-use Rattle.texts.specs.Text.{order_of}
+use mathlib.Core.Path.{sym, ◌∙◌}
 use Rattle.texts.proofs.Text.{byte-like, byte-less, byte_more, first-longer, second-longer, both_end}
 use Rattle.texts.proofs.compare_bytes.Goals as goal
 

@@ -1,11 +1,8 @@
 -- The invariant: what is left of the two is ordered as the two are.
-use borrow.Author.Rules.{rules}
-use native.Mathlib.Omega.{arith}
 use Prim.Native.Nat.{◌≤◌, ◌-◌}
-use mathlib.Core.Path.{◌≡◌, sym, ◌∙◌}
+use mathlib.Core.Path.{◌≡◌}
 use lib.ListN.{drop}
 use Rattle.texts.specs.Text.{order_of}
-use Rattle.texts.proofs.Text.{byte-like, byte-less, byte_more, first-longer, second-longer, both_end}
 use Rattle.texts.proofs.compare_bytes.Given as goal
 
 abbrev pub invariant-loop-i : goal.invariant-loop-i

@@ -1,6 +1,5 @@
 -- The first words decide where they differ; else the bytes behind them do, or all.
 use native.Mathlib.Omega.{arith}
-use borrow.Author.Rules.{rules}
 use Rattle.texts.proofs.Blocks.{alike-none, word-less, word_more, word_same}
 use Rattle.texts.proofs.compare_front.Goals as goal
 

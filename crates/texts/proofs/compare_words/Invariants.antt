@@ -1,9 +1,6 @@
 -- The invariant: both are alike so far.
 use Prim.Native.Nat.{◌≤◌, ◌-◌}
-use native.Mathlib.Omega.{arith}
-use borrow.Author.Rules.{rules}
 use Rattle.texts.specs.Blocks.{Alike}
-use Rattle.texts.proofs.Blocks.{word-less, word_more, word_same}
 use Rattle.texts.proofs.compare_words.Given as goal
 
 abbrev pub invariant-loop-i : goal.invariant-loop-i

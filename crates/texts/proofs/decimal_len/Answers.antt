@@ -1,10 +1,5 @@
 -- `texts::decimal_len` meets its contract. The invariant: the digits of what is left, and k - 1 more, are those of n.
-use borrow.Author.Rules.{rules}
 use native.Mathlib.Omega.{arith}
-use Prim.Native.Nat.{◌+◌}
-use mathlib.Core.Path.{◌≡◌}
-use lib.ListN.{length}
-use Rattle.texts.specs.Decimal.{decimal}
 use Rattle.texts.proofs.Decimal.{decimal-some, length_one, length_more, word-length}
 use Rattle.texts.proofs.decimal_len.Goals as goal
 

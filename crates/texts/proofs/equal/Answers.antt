@@ -2,7 +2,6 @@
 use mathlib.Core.Path.{sym}
 use Rattle.texts.specs.Text.{same}
 use Rattle.texts.proofs.Text.{length-same}
-use borrow.Author.Rules.{rules}
 use Rattle.texts.proofs.equal.Goals as goal
 
 pub returns-then-a-b : goal.returns-then-a-b

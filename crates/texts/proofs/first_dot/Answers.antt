@@ -1,10 +1,7 @@
 -- `texts::first_dot` meets its contract. The invariant: the first dot is i further than the first dot from i on.
 use borrow.Author.Rules.{rules}
 use native.Mathlib.Omega.{arith}
-use Prim.Native.Nat.{◌≤◌, ◌+◌, ◌-◌}
-use mathlib.Core.Path.{◌≡◌, sym}
-use lib.ListN.{length, drop}
-use Rattle.texts.specs.Dots.{first_dot}
+use mathlib.Core.Path.{sym}
 use Rattle.texts.proofs.Dots.{dot_found, dot_passed, dot_missed}
 use Rattle.texts.proofs.first_dot.Goals as goal
 

@@ -1,11 +1,8 @@
 -- `texts::first_dot` meets its contract. The invariant: the first dot is i further than the first dot from i on.
-use borrow.Author.Rules.{rules}
-use native.Mathlib.Omega.{arith}
 use Prim.Native.Nat.{◌≤◌, ◌+◌, ◌-◌}
-use mathlib.Core.Path.{◌≡◌, sym}
+use mathlib.Core.Path.{◌≡◌}
 use lib.ListN.{length, drop}
 use Rattle.texts.specs.Dots.{first_dot}
-use Rattle.texts.proofs.Dots.{dot_found, dot_passed, dot_missed}
 use Rattle.texts.proofs.first_dot.Given as goal
 
 abbrev pub invariant-loop-i : goal.invariant-loop-i

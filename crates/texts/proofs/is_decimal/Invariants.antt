@@ -1,13 +1,9 @@
 -- `texts::is_decimal` meets its contract. The invariant: the text is n in decimal if its first i bytes are what is left of n in decimal.
-use borrow.Author.Rules.{rules}
-use native.Mathlib.Omega.{arith}
-use Prim.Native.Nat.{◌≤◌, ◌-◌}
-use mathlib.Core.Path.{◌≡◌, sym, ◌∙◌}
+use Prim.Native.Nat.{◌≤◌}
+use mathlib.Core.Path.{◌≡◌}
 use lib.ListN.{length, take}
-use lib.Seq.{take-length}
 use Rattle.texts.specs.Text.{same}
 use Rattle.texts.specs.Decimal.{decimal}
-use Rattle.texts.proofs.Decimal.{decimal-some, length_one, digit-like, digit-unlike, digits-unlike, digit-alone}
 use Rattle.texts.proofs.is_decimal.Given as goal
 
 abbrev pub invariant-loop-rest : goal.invariant-loop-rest

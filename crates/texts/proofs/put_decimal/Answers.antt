@@ -1,11 +1,8 @@
 -- `texts::put_decimal` meets its contract. The invariant: what is to be written stands behind the digits of what is left.
-use borrow.Author.Rules.{rules}
 use native.Mathlib.Omega.{arith}
-use Prim.Native.Nat.{◌≤◌, ◌-◌}
+use Prim.Native.Nat.{◌-◌}
 use mathlib.Core.Path.{◌≡◌, refl, sym, ◌∙◌}
-use mathlib.Core.List.{◌++◌}
-use lib.ListN.{length, drop, length-set}
-use Rattle.texts.specs.Decimal.{decimal}
+use lib.ListN.{length-set}
 use Rattle.texts.proofs.Decimal.{decimal-some, length_one, length_more, digit-written, digit-first}
 use Rattle.texts.proofs.put_decimal.Goals as goal
 

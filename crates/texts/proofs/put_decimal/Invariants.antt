@@ -1,12 +1,9 @@
 -- `texts::put_decimal` meets its contract. The invariant: what is to be written stands behind the digits of what is left.
-use borrow.Author.Rules.{rules}
-use native.Mathlib.Omega.{arith}
-use Prim.Native.Nat.{◌≤◌, ◌-◌}
-use mathlib.Core.Path.{◌≡◌, refl, sym, ◌∙◌}
+use Prim.Native.Nat.{◌≤◌}
+use mathlib.Core.Path.{◌≡◌}
 use mathlib.Core.List.{◌++◌}
-use lib.ListN.{length, drop, length-set}
+use lib.ListN.{length, drop}
 use Rattle.texts.specs.Decimal.{decimal}
-use Rattle.texts.proofs.Decimal.{decimal-some, length_one, length_more, digit-written, digit-first}
 use Rattle.texts.proofs.put_decimal.Given as goal
 
 abbrev pub invariant-loop-left : goal.invariant-loop-left

@@ -1,6 +1,5 @@
 -- The eight bytes that are read are those of the list.
 use native.Mathlib.Omega.{arith}
-use borrow.Author.Rules.{rules}
 use Rattle.texts.proofs.Blocks.{by_halves}
 use Rattle.texts.proofs.word.Goals as goal
 

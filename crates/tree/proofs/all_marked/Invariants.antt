@@ -1,13 +1,9 @@
 -- `tree::all_marked` meets its contract.
 use Prim.Native.Nat.{◌≤◌, ◌-◌}
-use mathlib.Core.Path.{◌≡◌, refl, sym, ap}
-use mathlib.Core.Bool.{true, not}
-use native.Mathlib.Omega.{arith}
-use borrow.Author.Tests.{eq-eqb, ne_eqb}
+use mathlib.Core.Path.{◌≡◌}
+use mathlib.Core.Bool.{true}
 use Rattle.laws.specs.Counted.{all_of}
-use Rattle.laws.proofs.Flags.{all_next, all_fails}
 use Rattle.tree.specs.Work.{marked}
-use borrow.Author.Rules.{rules}
 use Rattle.tree.proofs.all_marked.Given as goal
 
 abbrev pub invariant-loop-i : goal.invariant-loop-i

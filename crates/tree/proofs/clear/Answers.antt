@@ -1,10 +1,8 @@
 -- `tree::clear` meets its contract.
 use native.Mathlib.Omega.{arith}
 use borrow.Author.Fill.{fill_more}
-use Prim.Native.Nat.{◌≤◌, ◌-◌}
 use mathlib.Core.Path.{◌≡◌, refl}
-use mathlib.Core.List.{◌++◌}
-use lib.ListN.{length, length-set, drop, replicate}
+use lib.ListN.{length-set}
 use borrow.Author.Rules.{rules}
 use Rattle.tree.proofs.clear.Goals as goal
 

@@ -1,11 +1,8 @@
 -- `tree::clear` meets its contract.
-use native.Mathlib.Omega.{arith}
-use borrow.Author.Fill.{fill_more}
 use Prim.Native.Nat.{◌≤◌, ◌-◌}
-use mathlib.Core.Path.{◌≡◌, refl}
+use mathlib.Core.Path.{◌≡◌}
 use mathlib.Core.List.{◌++◌}
-use lib.ListN.{length, length-set, drop, replicate}
-use borrow.Author.Rules.{rules}
+use lib.ListN.{length, drop, replicate}
 use Rattle.tree.proofs.clear.Given as goal
 
 abbrev pub invariant-loop-i : goal.invariant-loop-i

@@ -6,7 +6,6 @@ use Rattle.image.specs.Sections.{Sections}
 use Rattle.image.proofs.Entries.{IsNode, read-node}
 use Rattle.tree.specs.Parts.{parts_of}
 use Rattle.tree.proofs.NodeTurn.{enter-leaf, enter-refused, enter-pushed, leaf, container, Room, room}
-use borrow.Author.Rules.{rules}
 use Rattle.tree.proofs.enter.Goals as goal
 
 pub node_record-node-requires : goal.node_record-node-requires

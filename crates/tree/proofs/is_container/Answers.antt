@@ -4,12 +4,10 @@ use native.Mathlib.Omega.{arith}
 use borrow.Author.Tests.{not-true, not-false}
 use mathlib.Core.Path.{◌≡◌}
 use mathlib.Core.List.{[]}
-use mathlib.Core.Bool.{true}
 use Rattle.image.specs.Sections.{node_word, inside}
 use Rattle.image.proofs.Widths.{words-some}
 use Rattle.tree.specs.Parts.{parts_of}
 use Rattle.tree.proofs.Tests.{inside_is, inside-below, outside-container, tag_container}
-use borrow.Author.Rules.{rules}
 use Rattle.tree.proofs.is_container.Goals as goal
 
 pub returns-then-not-is_inside : goal.returns-then-not-is_inside

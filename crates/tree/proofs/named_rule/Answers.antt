@@ -5,7 +5,6 @@ use native.Mathlib.Omega.{arith}
 use borrow.Author.Tests.{not-true, not-false}
 use Rattle.image.proofs.Widths.{words-some}
 use Rattle.tree.proofs.Tests.{Reading, bad_text_lem, bad_order, bad_target, bad_parent, right-named, container-below}
-use borrow.Author.Rules.{rules}
 use Rattle.tree.proofs.named_rule.Goals as goal
 
 pub returns-then-not-good_text : goal.returns-then-not-good_text

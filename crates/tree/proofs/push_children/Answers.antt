@@ -1,15 +1,10 @@
 -- `tree::push_children` meets its contract.
 use mathlib.Core.Path.{sym, ◌∙◌}
-use mathlib.Core.List.{[]}
-use Prim.Native.Nat.{◌-◌}
 use native.Mathlib.Omega.{arith}
 use borrow.Author.Tests.{not-true, not-false}
 use Rattle.words.proofs.Words.{length-words}
-use Rattle.tree.specs.Tree.{child_rule, child_at}
-use Rattle.tree.specs.Parts.{parts_of}
-use Rattle.tree.proofs.Stack.{Pushing, push_start, push_more, push_end, push_stop}
+use Rattle.tree.proofs.Stack.{push_start, push_more, push_end, push_stop}
 use Rattle.tree.proofs.Tests.{child_is, child-passes, child-fails}
-use borrow.Author.Rules.{rules}
 use Rattle.tree.proofs.push_children.Goals as goal
 
 pub loop-j-init : goal.loop-j-init

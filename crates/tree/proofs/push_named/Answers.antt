@@ -1,14 +1,9 @@
 -- `tree::push_named` meets its contract.
 use mathlib.Core.Path.{sym, ◌∙◌}
-use mathlib.Core.List.{[]}
-use Prim.Native.Nat.{◌-◌}
 use native.Mathlib.Omega.{arith}
 use Rattle.words.proofs.Words.{length-words}
-use Rattle.tree.specs.Tree.{named_rule}
-use Rattle.tree.specs.Parts.{parts_of, named_node}
-use Rattle.tree.proofs.Stack.{Pushing, push_start, push_more, push_end, push_stop}
+use Rattle.tree.proofs.Stack.{push_start, push_more, push_end, push_stop}
 use Rattle.tree.proofs.Tests.{named_is}
-use borrow.Author.Rules.{rules}
 use Rattle.tree.proofs.push_named.Goals as goal
 
 pub loop-j-init : goal.loop-j-init

@@ -1,14 +1,9 @@
 -- `tree::push_named` meets its contract.
-use mathlib.Core.Path.{sym, ◌∙◌}
 use mathlib.Core.List.{[]}
 use Prim.Native.Nat.{◌-◌}
-use native.Mathlib.Omega.{arith}
-use Rattle.words.proofs.Words.{length-words}
 use Rattle.tree.specs.Tree.{named_rule}
 use Rattle.tree.specs.Parts.{parts_of, named_node}
-use Rattle.tree.proofs.Stack.{Pushing, push_start, push_more, push_end, push_stop}
-use Rattle.tree.proofs.Tests.{named_is}
-use borrow.Author.Rules.{rules}
+use Rattle.tree.proofs.Stack.{Pushing}
 use Rattle.tree.proofs.push_named.Given as goal
 
 abbrev pub invariant-loop-j : goal.invariant-loop-j

@@ -7,7 +7,6 @@ use Rattle.image.specs.Sections.{node_word, inside}
 use Rattle.image.proofs.Widths.{words-some}
 use Rattle.tree.specs.Parts.{parts_of}
 use Rattle.tree.proofs.Tests.{inside_is, inside-below, outside-child, astray_child, place-child}
-use borrow.Author.Rules.{rules}
 use Rattle.tree.proofs.right_child.Goals as goal
 
 pub returns-then-not-is_inside : goal.returns-then-not-is_inside

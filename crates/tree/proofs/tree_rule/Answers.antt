@@ -1,13 +1,12 @@
 -- `tree::tree_rule` meets its contract.
 use mathlib.Core.Path.{◌≡◌, sym, ◌∙◌, ap}
-use Prim.Native.Nat.{ℕ, ◌/◌}
+use Prim.Native.Nat.{ℕ}
 use native.Mathlib.Omega.{arith}
-use lib.ListN.{length, get_or}
+use lib.ListN.{get_or}
 use mathlib.Core.List.{List}
 use Rattle.image.specs.Sections.{Sections, node_count}
 use Rattle.tree.specs.Parts.{parts_of}
 use Rattle.tree.proofs.LoadWalk.{tree-refused, tree-passes, tree-unreached, cleared-zero, kept-words}
-use borrow.Author.Rules.{rules}
 use Rattle.tree.proofs.tree_rule.Goals as goal
 
 pub clear-requires : goal.clear-requires

@@ -3,9 +3,7 @@ use mathlib.Core.Path.{refl, ◌∙◌}
 use Prim.Native.Nat.{ℕ, ◌+◌, ◌-◌, ◌<◌}
 use native.Mathlib.Omega.{arith}
 use lib.ListN.{get_or, length-set}
-use Rattle.tree.specs.Parts.{parts_of}
-use Rattle.tree.proofs.LoadWalk.{LoadWalking, load_turns, load-start, load_end, load_below, load-skip, load-room, load-less, load-entered, load-refused}
-use borrow.Author.Rules.{rules}
+use Rattle.tree.proofs.LoadWalk.{load-start, load_end, load_below, load-skip, load-room, load-less, load-entered, load-refused}
 use Rattle.tree.proofs.walk.Goals as goal
 
 pub loop-depth-init : goal.loop-depth-init

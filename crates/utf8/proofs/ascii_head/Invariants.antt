@@ -1,12 +1,7 @@
 -- `utf8::ascii_head` meets its contract. The invariant: the bytes so far are ASCII.
 use Prim.Native.Nat.{◌-◌}
-use mathlib.Core.Path.{sym, ◌∙◌}
-use native.Mathlib.Omega.{arith}
-use borrow.Author.Rules.{rules}
-use borrow.Author.Tests.{not-false}
 use lib.ListN.{length}
 use Rattle.utf8.specs.Places.{AsciiTo}
-use Rattle.utf8.proofs.Blocks.{ascii-none, ascii-next, ascii-over}
 use Rattle.utf8.proofs.ascii_head.Given as goal
 
 abbrev pub invariant-loop-i : goal.invariant-loop-i

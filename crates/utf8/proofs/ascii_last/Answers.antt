@@ -1,5 +1,4 @@
 -- Blocks that may lie over bytes that are ASCII already.
-use borrow.Author.Rules.{rules}
 use Prim.Native.Nat.{◌-◌}
 use mathlib.Core.Path.{sym, ◌∙◌}
 use native.Mathlib.Omega.{arith}

@@ -1,5 +1,4 @@
 -- Two fours cover all bytes.
-use borrow.Author.Rules.{rules}
 use native.Mathlib.Omega.{arith}
 use Rattle.utf8.proofs.Blocks.{ascii_seven}
 use Rattle.utf8.proofs.ascii_seven.Goals as goal

@@ -1,5 +1,4 @@
 -- The three places are all there are.
-use borrow.Author.Rules.{rules}
 use native.Mathlib.Omega.{arith}
 use Rattle.utf8.proofs.Blocks.{ascii-three}
 use Rattle.utf8.proofs.ascii_three.Goals as goal

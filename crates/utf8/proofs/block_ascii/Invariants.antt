@@ -1,10 +1,9 @@
 -- The invariant: the bits so far are a byte below 128 where all bytes so far are.
 use Prim.Native.Nat.{◌≤◌, ◌-◌}
-use mathlib.Core.Path.{◌≡◌, refl}
+use mathlib.Core.Path.{◌≡◌}
 use lib.Dec.{ltb}
-use borrow.Author.Rules.{rules}
 use Rattle.laws.specs.Counted.{all_of}
-use Rattle.utf8.proofs.Ascii.{ascii_at, bits-next, bits_all}
+use Rattle.utf8.proofs.Ascii.{ascii_at}
 use Rattle.utf8.proofs.block_ascii.Given as goal
 
 abbrev pub invariant-loop-j : goal.invariant-loop-j

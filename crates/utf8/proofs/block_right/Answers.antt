@@ -1,6 +1,6 @@
 -- `utf8::block_right` meets its contract. The invariant: the faults so far are 0 where all bytes so far are right.
-use Prim.Native.Nat.{◌≤◌, ◌-◌, ◌+◌}
-use mathlib.Core.Path.{◌≡◌, refl}
+use Prim.Native.Nat.{◌+◌}
+use mathlib.Core.Path.{refl}
 use borrow.Author.Rules.{rules}
 use lib.Dec.{eqb}
 use Rattle.laws.specs.Counted.{all_of}

@@ -1,10 +1,6 @@
 -- `utf8::blocks_short` meets its contract. The invariant: where the faults so far are 0, all bytes so far are below 0xe0 and right.
-use Prim.Native.Nat.{◌≤◌, ◌-◌}
-use mathlib.Core.Path.{◌≡◌}
-use mathlib.Core.Bool.{true}
 use borrow.Author.Rules.{rules}
-use lib.Dec.{eqb}
-use Rattle.utf8.proofs.ShortBlocks.{Short, short-start, short-next, short_all}
+use Rattle.utf8.proofs.ShortBlocks.{short-start, short-next, short_all}
 use Rattle.utf8.proofs.blocks_short.Goals as goal
 
 pub loop-j-init : goal.loop-j-init

@@ -2,9 +2,8 @@
 use Prim.Native.Nat.{◌≤◌, ◌-◌}
 use mathlib.Core.Path.{◌≡◌}
 use mathlib.Core.Bool.{true}
-use borrow.Author.Rules.{rules}
 use lib.Dec.{eqb}
-use Rattle.utf8.proofs.ShortBlocks.{Short, short-start, short-next, short_all}
+use Rattle.utf8.proofs.ShortBlocks.{Short}
 use Rattle.utf8.proofs.blocks_short.Given as goal
 
 abbrev pub invariant-loop-j : goal.invariant-loop-j

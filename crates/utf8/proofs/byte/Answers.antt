@@ -1,6 +1,5 @@
 -- `utf8::byte` meets its contract.
 use mathlib.Core.Path.{sym}
-use borrow.Author.Rules.{rules}
 use lib.ListN.{get_or-eq_default}
 use Rattle.utf8.proofs.byte.Goals as goal
 

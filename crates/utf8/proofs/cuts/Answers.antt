@@ -1,7 +1,6 @@
 -- `utf8::cuts` meets its contract.
 use Prim.Native.Nat.{ℕ, ◌/◌}
 use mathlib.Core.Path.{ap}
-use borrow.Author.Rules.{rules}
 use lib.Dec.{eqb}
 use Rattle.utf8.specs.Places.{continues}
 use Rattle.utf8.proofs.cuts.Goals as goal

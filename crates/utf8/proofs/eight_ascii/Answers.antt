@@ -1,10 +1,8 @@
 -- `utf8::eight_ascii` meets its contract. The invariant: the bits so far are a byte below 128 where all bytes so far are.
-use Prim.Native.Nat.{◌≤◌, ◌-◌}
-use mathlib.Core.Path.{◌≡◌, refl}
-use lib.Dec.{ltb}
+use mathlib.Core.Path.{refl}
 use borrow.Author.Rules.{rules}
 use Rattle.laws.specs.Counted.{all_of}
-use Rattle.utf8.proofs.Ascii.{ascii_at, bits-next, bits_all}
+use Rattle.utf8.proofs.Ascii.{bits-next, bits_all}
 use Rattle.utf8.proofs.eight_ascii.Goals as goal
 
 pub loop-j-init : goal.loop-j-init

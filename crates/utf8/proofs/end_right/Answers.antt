@@ -1,6 +1,4 @@
 -- The last block, then the last sequence.
-use borrow.Author.Rules.{rules}
-use mathlib.Core.Path.{sym, ◌∙◌}
 use borrow.Author.Tests.{not-true, not-false}
 use Rattle.utf8.specs.Places.{ends}
 use Rattle.utf8.proofs.Blocks.{flag-zero}

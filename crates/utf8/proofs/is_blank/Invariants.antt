@@ -1,13 +1,8 @@
 -- `utf8::is_blank` meets its contract. The invariant: whole White_Space characters have passed.
 use Prim.Native.Nat.{◌-◌}
-use mathlib.Core.Path.{◌≡◌, refl}
-use native.Mathlib.Omega.{arith}
-use borrow.Author.Rules.{rules}
-use lib.ListN.{length, drop}
+use lib.ListN.{length}
 use Rattle.utf8.specs.Runs.{Passes}
-use Rattle.utf8.specs.White.{whites, front_of, blank}
-use Rattle.utf8.proofs.Runs.{passes_none, passes-next, piece_end, advances_not, run_all, run_not}
-use Rattle.utf8.proofs.WhiteSpace.{white_at, front_le}
+use Rattle.utf8.specs.White.{whites, front_of}
 use Rattle.utf8.proofs.is_blank.Given as goal
 
 abbrev pub invariant-loop-i : goal.invariant-loop-i

@@ -1,5 +1,4 @@
 -- `utf8::start_right` meets its contract.
-use borrow.Author.Rules.{rules}
 use Rattle.utf8.specs.Places.{starts}
 use Rattle.utf8.proofs.Blocks.{no_fault}
 use Rattle.utf8.proofs.start_right.Goals as goal

@@ -1,5 +1,4 @@
 -- `utf8::valid` meets its contract.
-use borrow.Author.Rules.{rules}
 use native.Mathlib.Omega.{arith}
 use Rattle.utf8.specs.Utf8.{utf8}
 use Rattle.utf8.proofs.Runs.{run_all}

@@ -1,12 +1,7 @@
 -- `utf8::valid_from` meets its contract. The invariant: the bytes so far are right.
 use Prim.Native.Nat.{◌-◌}
-use mathlib.Core.Path.{sym, ◌∙◌}
-use native.Mathlib.Omega.{arith}
-use borrow.Author.Rules.{rules}
-use borrow.Author.Tests.{not-true, not-false}
 use lib.ListN.{length}
 use Rattle.utf8.specs.Places.{Passed}
-use Rattle.utf8.proofs.Blocks.{passed_block, block_wrong}
 use Rattle.utf8.proofs.valid_from.Given as goal
 
 abbrev pub invariant-loop-i : goal.invariant-loop-i

@@ -1,10 +1,6 @@
 -- `utf8::valid_short` meets its contract. The invariant: whole sequences have passed.
-use Prim.Native.Nat.{◌-◌}
 use mathlib.Core.Path.{refl}
 use native.Mathlib.Omega.{arith}
-use borrow.Author.Rules.{rules}
-use lib.ListN.{length}
-use Rattle.utf8.specs.Runs.{Passes}
 use Rattle.utf8.specs.Utf8.{rows, size_in, utf8}
 use Rattle.utf8.proofs.Runs.{passes_none, passes-next, piece_end, run_all, run_not, advances_not}
 use Rattle.utf8.proofs.Table.{size_le}

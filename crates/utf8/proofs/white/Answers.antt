@@ -1,6 +1,5 @@
 -- `utf8::white` meets its contract.
 use native.Mathlib.Omega.{arith}
-use borrow.Author.Rules.{rules}
 use Rattle.laws.proofs.Cases.{cases, literal-cases}
 use Rattle.utf8.specs.White.{blanks}
 use Rattle.utf8.proofs.WhiteSpace.{by_first}

@@ -1,7 +1,6 @@
 -- `utf8::white_second` meets its contract.
 use mathlib.Core.Path.{sym}
 use native.Mathlib.Omega.{arith}
-use borrow.Author.Rules.{rules}
 use borrow.Author.Tests.{ne_eqb}
 use Rattle.utf8.specs.White.{blanks}
 use Rattle.utf8.proofs.WhiteSpace.{second}

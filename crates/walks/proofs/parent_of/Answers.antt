@@ -1,6 +1,5 @@
 -- `walks::parent_of` meets its contract.
 use Rattle.walks.proofs.Steps.{parent-missing, parent-none, parent-there}
-use borrow.Author.Rules.{rules}
 use Rattle.walks.proofs.parent_of.Goals as goal
 
 pub returns-in-NotFound : goal.returns-in-NotFound

@@ -1,7 +1,6 @@
 -- `walks::resolve_path` meets its contract.
 use mathlib.Core.Path.{refl}
 use Rattle.walks.proofs.Steps.{absolute, origin-missing, from-container, from-root, from-leaf}
-use borrow.Author.Rules.{rules}
 use Rattle.walks.proofs.resolve_path.Goals as goal
 
 pub returns-then-not-relative : goal.returns-then-not-relative

@@ -1,8 +1,5 @@
 -- `walks::walk` meets its contract. The loop's invariant: the walk from `at` along the words from k on is all that is left.
-use borrow.Author.Rules.{rules}
-use Prim.Native.Nat.{◌-◌}
-use Rattle.image.specs.Header.{sections_by}
-use Rattle.walks.proofs.Steps.{Along, along-start, along-broken, along-lost, along-next, along_end}
+use Rattle.walks.proofs.Steps.{along-start, along-broken, along-lost, along-next, along_end}
 use Rattle.walks.proofs.walk.Goals as goal
 
 pub loop-k-init : goal.loop-k-init

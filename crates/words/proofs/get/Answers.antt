@@ -2,7 +2,6 @@
 use native.Mathlib.Omega.{arith}
 use mathlib.Core.Path.{◌∙◌, sym}
 use Rattle.words.proofs.Words.{word_in_lem, word_out}
-use borrow.Author.Rules.{rules}
 use Rattle.words.proofs.get.Goals as goal
 
 pub returns-then-n-lt4 : goal.returns-then-n-lt4

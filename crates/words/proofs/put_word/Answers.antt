@@ -4,7 +4,6 @@ use lib.ListN.{length-set}
 use Rattle.words.specs.Words.{bytes4}
 use native.Mathlib.Numerals.{add-one, add-two, add-three}
 use lib.Seq.{sets-eq}
-use borrow.Author.Rules.{rules}
 use Rattle.words.proofs.put_word.Goals as goal
 
 pub bounds-out-at-2 : goal.bounds-out-at-2

@@ -3,7 +3,6 @@ use mathlib.Core.Path.{refl, sym}
 use native.Mathlib.Omega.{arith}
 use lib.Seq.{length-take-le}
 use Rattle.write_image.proofs.SectionRuns.{long-enough, body_end, sectioned, image_put}
-use borrow.Author.Rules.{rules}
 use Rattle.write_image.proofs.fill.Goals as goal
 
 pub put_header-requires : goal.put_header-requires

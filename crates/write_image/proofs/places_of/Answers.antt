@@ -1,6 +1,5 @@
 -- `write_image::places_of` meets its contract.
 use mathlib.Core.Path.{refl}
-use borrow.Author.Rules.{rules}
 use Rattle.write_image.proofs.places_of.Goals as goal
 
 pub returns : goal.returns

@@ -2,7 +2,6 @@
 use mathlib.Core.Path.{refl}
 use native.Mathlib.Omega.{arith}
 use Rattle.write_image.proofs.SectionRuns.{run_tree, run_lists, run_texts, tree-ready, lists-ready, texts-ready, runs_put}
-use borrow.Author.Rules.{rules}
 use Rattle.write_image.proofs.put_sections.Goals as goal
 
 pub put_tree-text-requires : goal.put_tree-text-requires

@@ -4,17 +4,16 @@ use mathlib.Core.List.{List}
 use native.Mathlib.Omega.{arith}
 use Rattle.write_text_keys.specs.Keys.{key_of}
 use Rattle.write_interning.proofs.Numbers.{Parts, parts, parts-ordered, parts_merged}
-use borrow.Author.Rules.{rules}
 use Rattle.write_interning.proofs.arrange.Goals as goal
 
 pub merge-requires : goal.merge-requires
 merge-requires c =
-    let by : List ℕ → ℕ → List ℕ = λ d. 
-      let to = c in
+    let by : List ℕ → ℕ → List ℕ = λ d.
+    let to = c in
     let l = to.args.layout in
     key_of to.args.source.version to.args.nodes.now to.args.strings.now l.texts l.paths l.lengths d in
     let two : let to = c in Parts by to.args.w.now c.number-2.new.w to.args.layout.texts to.args.n to.args.layout.at =
-      let to = c in
+    let to = c in
     let one = c.number in
     let s = c.ensure_sorted in
     parts by to.args.w.now c.number-2.new.w to.args.layout.texts to.args.n to.args.layout.at one.new.w s.new.w (omega arith) (omega arith)
@@ -28,12 +27,12 @@ merge-requires c =
 
 pub returns : goal.returns
 returns c =
-    let by : List ℕ → ℕ → List ℕ = λ d. 
-      let to = c in
+    let by : List ℕ → ℕ → List ℕ = λ d.
+    let to = c in
     let l = to.args.layout in
     key_of to.args.source.version to.args.nodes.now to.args.strings.now l.texts l.paths l.lengths d in
     let two : let to = c in Parts by to.args.w.now c.number-2.new.w to.args.layout.texts to.args.n to.args.layout.at =
-      let to = c in
+    let to = c in
     let one = c.number in
     let s = c.ensure_sorted in
     parts by to.args.w.now c.number-2.new.w to.args.layout.texts to.args.n to.args.layout.at one.new.w s.new.w (omega arith) (omega arith)

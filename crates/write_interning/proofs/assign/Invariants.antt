@@ -1,15 +1,8 @@
 -- `write_interning::assign` meets its contract. The invariant: whatever the version, the uses before `k` have their offsets.
-use Prim.Native.Nat.{ℕ, ◌+◌, ◌-◌, ◌≤◌}
-use mathlib.Core.Path.{◌≡◌, sym, ap, ◌∙◌}
-use mathlib.Core.Logic.{⊎_elim}
-use mathlib.Core.List.{List}
-use native.Mathlib.Omega.{arith}
-use lib.ListN.{get_or, drop, length}
-use Rattle.write_text_keys.specs.Keys.{key_of, key_in}
-use Rattle.laws.proofs.Lists.{drop_more}
+use Prim.Native.Nat.{ℕ, ◌-◌}
+use Rattle.write_text_keys.specs.Keys.{key_in}
 use Rattle.write_interning.specs.Uses.{Firsts}
-use Rattle.write_interning.proofs.OffsetLoop.{Assigning, Bounded, assign_all, assign_none, first-early, assign_next, assign_old, assign_long, assigned_long, assigned_whole}
-use borrow.Author.Rules.{rules}
+use Rattle.write_interning.proofs.OffsetLoop.{Assigning, Bounded}
 use Rattle.write_interning.proofs.assign.Given as goal
 
 abbrev pub invariant-loop-k : goal.invariant-loop-k

@@ -1,7 +1,6 @@
 use mathlib.Core.Path.{refl, sym, ◌∙◌}
 use borrow.Author.Tests.{eq-eqb, ne_eqb}
 use Rattle.write_interning.specs.Uses.{head_of}
-use borrow.Author.Rules.{rules}
 use Rattle.write_interning.proofs.head_of.Goals as goal
 
 pub returns-then-i-eq0 : goal.returns-then-i-eq0

@@ -8,13 +8,12 @@ use Rattle.texts.specs.Text.{by_key}
 use Rattle.write_text_keys.specs.Keys.{key_of}
 use Rattle.write_sorting.specs.Sorted.{up_from}
 use Rattle.write_interning.specs.Uses.{stored_of, texts_joined, stored_answer, Offsets, Firsts}
-use borrow.Author.Rules.{rules}
 use Rattle.write_interning.proofs.intern.Goals as goal
 
 pub mark-requires : goal.mark-requires
 mark-requires c =
-    let by : List ℕ → ℕ → List ℕ = λ d. 
-      let to = c in
+    let by : List ℕ → ℕ → List ℕ = λ d.
+    let to = c in
     let l = to.args.layout in
     key_of to.args.source.version to.args.nodes.now to.args.strings.now l.texts l.paths l.lengths d in
     let first = c in
@@ -26,8 +25,8 @@ mark-requires c =
 
 pub assign-requires : goal.assign-requires
 assign-requires c =
-    let by : List ℕ → ℕ → List ℕ = λ d. 
-      let to = c in
+    let by : List ℕ → ℕ → List ℕ = λ d.
+    let to = c in
     let l = to.args.layout in
     key_of to.args.source.version to.args.nodes.now to.args.strings.now l.texts l.paths l.lengths d in
     let first = c in
@@ -40,8 +39,8 @@ assign-requires c =
 
 pub returns : goal.returns
 returns c =
-    let by : List ℕ → ℕ → List ℕ = λ d. 
-      let to = c in
+    let by : List ℕ → ℕ → List ℕ = λ d.
+    let to = c in
     let l = to.args.layout in
     key_of to.args.source.version to.args.nodes.now to.args.strings.now l.texts l.paths l.lengths d in
     let first = c in

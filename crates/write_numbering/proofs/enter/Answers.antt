@@ -6,7 +6,6 @@ use Rattle.image.specs.Sections.{Sections}
 use Rattle.image.proofs.Entries.{IsNode, read-node}
 use Rattle.write_numbering.specs.Work.{tree_of}
 use Rattle.write_numbering.proofs.Pushes.{enter-leaf, enter-pushed, Room, room}
-use borrow.Author.Rules.{rules}
 use Rattle.write_numbering.proofs.enter.Goals as goal
 
 pub node_at-node-requires : goal.node_at-node-requires

@@ -1,6 +1,6 @@
 -- `write_numbering::number` meets its contract.
 use Prim.Native.Nat.{ℕ, ◌+◌, ◌*◌}
-use mathlib.Core.Path.{◌≡◌, refl, sym, ap, ◌∙◌}
+use mathlib.Core.Path.{◌≡◌, sym, ap, ◌∙◌}
 use mathlib.Core.List.{List}
 use mathlib.Core.Bool.{false≢true}
 use native.Mathlib.Omega.{arith}
@@ -13,7 +13,6 @@ use Rattle.write_numbering.specs.Work.{tree_of}
 use Rattle.write_numbering.proofs.WalkMarks.{InWords}
 use Rattle.write_numbering.proofs.WorkWords.{read_all}
 use Rattle.write_numbering.proofs.NumberLoop.{rest-kept, marks-right, numbers-right, numbers-rest}
-use borrow.Author.Rules.{rules}
 use Rattle.write_numbering.proofs.number.Goals as goal
 
 pub clear-requires : goal.clear-requires
@@ -46,7 +45,7 @@ returns-then-not-all_marked c =
     let Begun = c in
     let Counted = c in
     let answer : c.all_marked.result ≡ all_seen Tree (read_walk Tree).seen =
-      let walked = c in
+    let walked = c in
     c.all_marked.ensures ∙ read_all _ _ _ walked.walk.ensures _ c.node_count-count.ensures in
     let walked = c in
     let counted = c in
@@ -63,13 +62,13 @@ set_numbers-requires c =
     let Begun = c in
     let Counted = c in
     let in_words : InWords Tree =
-      let slices = c in
+    let slices = c in
     record {
       child = λ j. omega (arith, slices.shared_slice_known-2-1.given j);
       named = λ j. omega (arith, slices.shared_slice_known-3-1.given (j * text_entry_words + 2));
     } in
     let answer : c.all_marked.result ≡ all_seen Tree (read_walk Tree).seen =
-      let walked = c in
+    let walked = c in
     c.all_marked.ensures ∙ read_all _ _ _ walked.walk.ensures _ c.node_count-count.ensures in
     let walked = c in
     let counted = c in
@@ -90,13 +89,13 @@ returns c =
     let Begun = c in
     let Counted = c in
     let in_words : InWords Tree =
-      let slices = c in
+    let slices = c in
     record {
       child = λ j. omega (arith, slices.shared_slice_known-2-1.given j);
       named = λ j. omega (arith, slices.shared_slice_known-3-1.given (j * text_entry_words + 2));
     } in
     let answer : c.all_marked.result ≡ all_seen Tree (read_walk Tree).seen =
-      let walked = c in
+    let walked = c in
     c.all_marked.ensures ∙ read_all _ _ _ walked.walk.ensures _ c.node_count-count.ensures in
     let walked = c in
     let counted = c in

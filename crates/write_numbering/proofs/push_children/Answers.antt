@@ -1,10 +1,7 @@
 -- `write_numbering::push_children` meets its contract.
-use Prim.Native.Nat.{◌-◌}
 use mathlib.Core.Path.{refl}
 use native.Mathlib.Omega.{arith}
-use Rattle.tree.proofs.Stack.{Pushing, push_start, push_more, push_end}
-use Rattle.write_numbering.specs.Work.{free, child_down}
-use borrow.Author.Rules.{rules}
+use Rattle.tree.proofs.Stack.{push_start, push_more, push_end}
 use Rattle.write_numbering.proofs.push_children.Goals as goal
 
 pub loop-j-init : goal.loop-j-init

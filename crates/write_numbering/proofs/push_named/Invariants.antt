@@ -1,10 +1,7 @@
 -- `write_numbering::push_named` meets its contract.
 use Prim.Native.Nat.{◌-◌}
-use mathlib.Core.Path.{refl}
-use native.Mathlib.Omega.{arith}
-use Rattle.tree.proofs.Stack.{Pushing, push_start, push_more, push_end}
+use Rattle.tree.proofs.Stack.{Pushing}
 use Rattle.write_numbering.specs.Work.{free, named_down}
-use borrow.Author.Rules.{rules}
 use Rattle.write_numbering.proofs.push_named.Given as goal
 
 abbrev pub invariant-loop-j : goal.invariant-loop-j

@@ -1,11 +1,10 @@
 -- `write_numbering::set_numbers` meets its contract.
-use Prim.Native.Nat.{◌-◌, ◌≤◌, ◌<◌}
+use Prim.Native.Nat.{◌≤◌, ◌<◌}
 use mathlib.Core.Path.{refl}
 use native.Mathlib.Omega.{arith}
 use lib.ListN.{get_or, length-set}
 use Rattle.words.specs.Words.{NONE}
-use Rattle.write_numbering.proofs.NumberLoop.{Ordering, order-start, order-more, order_end, mark-some, mark-within}
-use borrow.Author.Rules.{rules}
+use Rattle.write_numbering.proofs.NumberLoop.{order-start, order-more, order_end, mark-some, mark-within}
 use Rattle.write_numbering.proofs.set_numbers.Goals as goal
 
 pub loop-i-init : goal.loop-i-init

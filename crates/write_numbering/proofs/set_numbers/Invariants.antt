@@ -1,11 +1,6 @@
 -- `write_numbering::set_numbers` meets its contract.
-use Prim.Native.Nat.{◌-◌, ◌≤◌, ◌<◌}
-use mathlib.Core.Path.{refl}
-use native.Mathlib.Omega.{arith}
-use lib.ListN.{get_or, length-set}
-use Rattle.words.specs.Words.{NONE}
-use Rattle.write_numbering.proofs.NumberLoop.{Ordering, order-start, order-more, order_end, mark-some, mark-within}
-use borrow.Author.Rules.{rules}
+use Prim.Native.Nat.{◌-◌}
+use Rattle.write_numbering.proofs.NumberLoop.{Ordering}
 use Rattle.write_numbering.proofs.set_numbers.Given as goal
 
 abbrev pub invariant-loop-i : goal.invariant-loop-i

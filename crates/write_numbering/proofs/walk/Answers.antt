@@ -6,8 +6,7 @@ use lib.ListN.{get_or, length-set}
 use Rattle.image.specs.Sections.{Sections, text_entry_words, child_word, named_word}
 use Rattle.write_numbering.specs.Work.{tree_of}
 use Rattle.write_numbering.proofs.WalkMarks.{InWords}
-use Rattle.write_numbering.proofs.WorkWords.{ReadWalking, read_turns, read-start, read_end, read_below, read-skip, read_few, read-room, read-less, read-entered}
-use borrow.Author.Rules.{rules}
+use Rattle.write_numbering.proofs.WorkWords.{read-start, read_end, read_below, read-skip, read_few, read-room, read-less, read-entered}
 use Rattle.write_numbering.proofs.walk.Goals as goal
 
 pub loop-depth-init : goal.loop-depth-init
@@ -22,7 +21,7 @@ pub offset_bounds-work-id : goal.offset_bounds-work-id
 offset_bounds-work-id c =
     let top : ℕ = get_or c.loop-depth.work (c.args.count + (c.loop-depth.depth - 1)) 0 in
     let top_below : top < c.args.count =
-      let loop = c in
+    let loop = c in
     let to = c in
     read_below _ _ to.requires.fact.2 to.requires.fact.0 to.requires.fact.1 to.args.work.now _ _ _ loop.loop-depth.invariant _ c.loop-depth-test.true refl in
     omega (arith, top_below)
@@ -31,7 +30,7 @@ pub bounds-work-id : goal.bounds-work-id
 bounds-work-id c =
     let top : ℕ = get_or c.loop-depth.work (c.args.count + (c.loop-depth.depth - 1)) 0 in
     let top_below : top < c.args.count =
-      let loop = c in
+    let loop = c in
     let to = c in
     read_below _ _ to.requires.fact.2 to.requires.fact.0 to.requires.fact.1 to.args.work.now _ _ _ loop.loop-depth.invariant _ c.loop-depth-test.true refl in
     omega (arith, top_below)
@@ -53,7 +52,7 @@ pub offset_bounds-work-id-then-work-id-eq0 : goal.offset_bounds-work-id-then-wor
 offset_bounds-work-id-then-work-id-eq0 c =
     let top : ℕ = get_or c.loop-depth.work (c.args.count + (c.loop-depth.depth - 1)) 0 in
     let top_below : top < c.args.count =
-      let loop = c in
+    let loop = c in
     let to = c in
     read_below _ _ to.requires.fact.2 to.requires.fact.0 to.requires.fact.1 to.args.work.now _ _ _ loop.loop-depth.invariant _ c.loop-depth-test.true refl in
     omega (arith, top_below)
@@ -62,7 +61,7 @@ pub bounds-work-id-then-work-id-eq0 : goal.bounds-work-id-then-work-id-eq0
 bounds-work-id-then-work-id-eq0 c =
     let top : ℕ = get_or c.loop-depth.work (c.args.count + (c.loop-depth.depth - 1)) 0 in
     let top_below : top < c.args.count =
-      let loop = c in
+    let loop = c in
     let to = c in
     read_below _ _ to.requires.fact.2 to.requires.fact.0 to.requires.fact.1 to.args.work.now _ _ _ loop.loop-depth.invariant _ c.loop-depth-test.true refl in
     omega (arith, top_below)
@@ -71,7 +70,7 @@ pub enter-depth-requires : goal.enter-depth-requires
 enter-depth-requires c =
     let top : ℕ = get_or c.loop-depth.work (c.args.count + (c.loop-depth.depth - 1)) 0 in
     let top_below : top < c.args.count =
-      let loop = c in
+    let loop = c in
     let to = c in
     read_below _ _ to.requires.fact.2 to.requires.fact.0 to.requires.fact.1 to.args.work.now _ _ _ loop.loop-depth.invariant _ c.loop-depth-test.true refl in
     let loop = c in

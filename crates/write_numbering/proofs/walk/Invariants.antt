@@ -1,13 +1,6 @@
 -- `write_numbering::walk` meets its contract.
-use mathlib.Core.Path.{refl, ◌∙◌}
-use Prim.Native.Nat.{ℕ, ◌+◌, ◌*◌, ◌-◌, ◌<◌}
-use native.Mathlib.Omega.{arith}
-use lib.ListN.{get_or, length-set}
-use Rattle.image.specs.Sections.{Sections, text_entry_words, child_word, named_word}
 use Rattle.write_numbering.specs.Work.{tree_of}
-use Rattle.write_numbering.proofs.WalkMarks.{InWords}
-use Rattle.write_numbering.proofs.WorkWords.{ReadWalking, read_turns, read-start, read_end, read_below, read-skip, read_few, read-room, read-less, read-entered}
-use borrow.Author.Rules.{rules}
+use Rattle.write_numbering.proofs.WorkWords.{ReadWalking, read_turns}
 use Rattle.write_numbering.proofs.walk.Given as goal
 
 abbrev pub invariant-loop-depth : goal.invariant-loop-depth

@@ -1,7 +1,5 @@
 -- `write_paths::gather` meets its contract.
-use Prim.Native.Nat.{◌+◌, ◌-◌}
-use lib.ListN.{get_or}
-use Rattle.write_paths.proofs.WordLoop.{Filled, fill_start, fill_end, gather_next}
+use Rattle.write_paths.proofs.WordLoop.{fill_start, fill_end, gather_next}
 use borrow.Author.Rules.{rules}
 use Rattle.write_paths.proofs.gather.Goals as goal
 

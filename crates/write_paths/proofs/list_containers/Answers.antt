@@ -1,9 +1,5 @@
 -- `write_paths::list_containers` meets its contract.
-use Prim.Native.Nat.{◌-◌}
-use mathlib.Core.Path.{◌≡◌, refl, sym, ◌∙◌}
-use mathlib.Core.Logic.{⊎_elim}
-use native.Mathlib.Omega.{arith}
-use Rattle.write_paths.proofs.ContainerLoops.{Listing, list-start, list-take, list-skip, list_end}
+use Rattle.write_paths.proofs.ContainerLoops.{list-start, list-take, list-skip, list_end}
 use borrow.Author.Rules.{rules}
 use Rattle.write_paths.proofs.list_containers.Goals as goal
 

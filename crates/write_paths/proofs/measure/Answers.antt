@@ -1,11 +1,8 @@
 -- `write_paths::measure` meets its contract.
-use Prim.Native.Nat.{◌-◌}
 use mathlib.Core.Path.{refl, ◌∙◌}
 use native.Mathlib.Omega.{arith}
-use Rattle.write_text_keys.specs.Keys.{length_from}
-use Rattle.write_paths.specs.Arranged.{Measured}
 use Rattle.write_paths.proofs.LengthLoop.{measure_start, measure_node, measure_room, measure_next, measure_end}
-use Rattle.write_paths.proofs.Parents.{Short, sum_fits, size-next}
+use Rattle.write_paths.proofs.Parents.{sum_fits, size-next}
 use borrow.Author.Rules.{rules}
 use Rattle.write_paths.proofs.measure.Goals as goal
 

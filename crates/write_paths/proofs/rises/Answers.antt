@@ -1,14 +1,9 @@
 -- `write_paths::rises` meets its contract.
-use Prim.Native.Nat.{◌-◌, ◌≤◌}
-use mathlib.Core.Path.{◌≡◌, refl, sym, ◌∙◌}
-use mathlib.Core.Bool.{true}
-use native.Mathlib.Omega.{arith}
-use lib.ListN.{get_or}
+use mathlib.Core.Path.{refl, sym, ◌∙◌}
 use borrow.Author.Tests.{not-true, not-false}
 use Rattle.write_paths.proofs.NodeList.{all_less, rises_at_lem}
 use Rattle.laws.specs.Counted.{all_of}
 use Rattle.laws.proofs.Flags.{all_next, all_fails}
-use Rattle.texts.specs.Text.{rising}
 use Rattle.write_text_keys.specs.Keys.{key_in}
 use borrow.Author.Rules.{rules}
 use Rattle.write_paths.proofs.rises.Goals as goal

@@ -1,8 +1,7 @@
 -- `write_paths::settle` meets its contract.
 use Prim.Native.Nat.{◌+◌, ◌-◌}
 use lib.ListN.{get_or}
-use Rattle.write_paths.proofs.WordLoop.{Filled, fill_start, fill_end, settle_next}
-use borrow.Author.Rules.{rules}
+use Rattle.write_paths.proofs.WordLoop.{Filled}
 use Rattle.write_paths.proofs.settle.Given as goal
 
 abbrev pub invariant-loop-i : goal.invariant-loop-i

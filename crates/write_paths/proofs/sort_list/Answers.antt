@@ -2,7 +2,6 @@
 use mathlib.Core.Path.{◌∙◌}
 use borrow.Author.Tests.{not-true, not-false}
 use Rattle.write_paths.proofs.NodeList.{arranged, arranged-not}
-use borrow.Author.Rules.{rules}
 use Rattle.write_paths.proofs.sort_list.Goals as goal
 
 pub returns-then-not-rises : goal.returns-then-not-rises

@@ -32,14 +32,14 @@ store-requires c =
     let collect = c.collect-texts in
     record {
       paths_bound = (store_asks to.source.version to.nodes.now asked.children to.named.now to.definitions.now to.items.now to.payload.now to.strings.now to.w.now to.layout to.counts asked.known
-    sort-paths.new.w _ (search rules) (rw c.node_count-count.ensures at sort-paths.ensures) _ c.in-Paths.is collect.new.w _ (search rules)
-    collect.ensures).0;
+          sort-paths.new.w _ (search rules) (rw c.node_count-count.ensures at sort-paths.ensures) _ c.in-Paths.is collect.new.w _ (search rules)
+          collect.ensures).0;
       texts_bound = (store_asks to.source.version to.nodes.now asked.children to.named.now to.definitions.now to.items.now to.payload.now to.strings.now to.w.now to.layout to.counts asked.known
-    sort-paths.new.w _ (search rules) (rw c.node_count-count.ensures at sort-paths.ensures) _ c.in-Paths.is collect.new.w _ (search rules)
-    collect.ensures).1.0;
+          sort-paths.new.w _ (search rules) (rw c.node_count-count.ensures at sort-paths.ensures) _ c.in-Paths.is collect.new.w _ (search rules)
+          collect.ensures).1.0;
       rises_from = (store_asks to.source.version to.nodes.now asked.children to.named.now to.definitions.now to.items.now to.payload.now to.strings.now to.w.now to.layout to.counts asked.known
-    sort-paths.new.w _ (search rules) (rw c.node_count-count.ensures at sort-paths.ensures) _ c.in-Paths.is collect.new.w _ (search rules)
-    collect.ensures).1.1;
+          sort-paths.new.w _ (search rules) (rw c.node_count-count.ensures at sort-paths.ensures) _ c.in-Paths.is collect.new.w _ (search rules)
+          collect.ensures).1.1;
     }
 
 pub returns-in-Refused : goal.returns-in-Refused

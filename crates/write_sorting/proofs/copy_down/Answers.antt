@@ -1,4 +1,4 @@
-use Prim.Native.Nat.{ℕ, ◌≤◌, ◌-◌, ◌+◌}
+use Prim.Native.Nat.{ℕ, ◌+◌}
 use mathlib.Core.Path.{◌≡◌, ap, ◌∙◌}
 use mathlib.Core.List.{List}
 use native.Mathlib.Omega.{arith}
@@ -6,7 +6,6 @@ use native.Mathlib.Numerals.{add-one}
 use lib.ListN.{length, drop, get_or, length-drop}
 use lib.Seq.{paste, paste-zero, length-paste}
 use Rattle.write_sorting.proofs.MergeInPlace.{paste-above, paste-down}
-use borrow.Author.Rules.{rules}
 use Rattle.write_sorting.proofs.copy_down.Goals as goal
 
 pub loop-i-init : goal.loop-i-init
@@ -15,7 +14,7 @@ loop-i-init c = (omega arith, paste-zero c.args.w.now 0 (drop c.args.n c.args.w.
 pub bounds-w-n : goal.bounds-w-n
 bounds-w-n c =
     let room : length c.loop-i.w ≡ length c.args.w.now =
-      let w = c.args.w.now in
+    let w = c.args.w.now in
     let n = c.args.n in
     ap length c.loop-i.invariant.1 ∙ length-paste w 0 (drop n w) c.loop-i.i (omega arith) (omega (arith, length-drop n w)) in
     let e = room in omega arith
@@ -23,7 +22,7 @@ bounds-w-n c =
 pub bounds-w-i : goal.bounds-w-i
 bounds-w-i c =
     let room : length c.loop-i.w ≡ length c.args.w.now =
-      let w = c.args.w.now in
+    let w = c.args.w.now in
     let n = c.args.n in
     ap length c.loop-i.invariant.1 ∙ length-paste w 0 (drop n w) c.loop-i.i (omega arith) (omega (arith, length-drop n w)) in
     let e = room in omega arith
@@ -41,7 +40,7 @@ loop-i-preserved c =
 pub shape_of-w : goal.shape_of-w
 shape_of-w c =
     let room : length c.loop-i.w ≡ length c.args.w.now =
-      let w = c.args.w.now in
+    let w = c.args.w.now in
     let n = c.args.n in
     ap length c.loop-i.invariant.1 ∙ length-paste w 0 (drop n w) c.loop-i.i (omega arith) (omega (arith, length-drop n w)) in
     room

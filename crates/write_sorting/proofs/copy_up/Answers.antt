@@ -1,4 +1,4 @@
-use Prim.Native.Nat.{ℕ, ◌≤◌, ◌-◌}
+use Prim.Native.Nat.{ℕ}
 use mathlib.Core.Path.{◌≡◌, ap, ◌∙◌}
 use mathlib.Core.List.{List}
 use native.Mathlib.Omega.{arith}
@@ -6,7 +6,6 @@ use native.Mathlib.Numerals.{add-one}
 use lib.ListN.{length, get_or}
 use lib.Seq.{paste, paste-zero, paste-suc, length-paste}
 use Rattle.write_sorting.proofs.MergeInPlace.{paste_low}
-use borrow.Author.Rules.{rules}
 use Rattle.write_sorting.proofs.copy_up.Goals as goal
 
 pub loop-i-init : goal.loop-i-init

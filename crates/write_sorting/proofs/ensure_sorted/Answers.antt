@@ -1,7 +1,6 @@
 -- Words in order are their own sort.
 use mathlib.Core.Path.{refl, sym}
 use lib.ListN.{take}
-use borrow.Author.Rules.{rules}
 use Rattle.texts.specs.Text.{by_key}
 use Rattle.write_text_keys.specs.Keys.{key_in}
 use Rattle.write_sorting.proofs.Laws.{key_strict}

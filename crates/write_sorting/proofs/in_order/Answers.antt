@@ -1,12 +1,10 @@
 -- The invariant: none of the words so far is above the next.
-use Prim.Native.Nat.{◌≤◌, ◌-◌}
 use mathlib.Core.Path.{sym, ◌∙◌}
 use native.Mathlib.Omega.{arith}
-use borrow.Author.Rules.{rules}
 use Rattle.texts.specs.Text.{by_key}
 use Rattle.write_text_keys.specs.Keys.{key_in}
 use Rattle.write_sorting.proofs.Laws.{key_strict, differ}
-use Rattle.write_sorting.proofs.OrderedLists.{Level, level_one, level_next, level_ordered}
+use Rattle.write_sorting.proofs.OrderedLists.{level_one, level_next, level_ordered}
 use Rattle.write_sorting.proofs.in_order.Goals as goal
 
 pub loop-i-init : goal.loop-i-init

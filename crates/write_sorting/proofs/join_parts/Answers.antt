@@ -5,7 +5,6 @@ use Rattle.texts.specs.Text.{by_key}
 use Rattle.write_text_keys.specs.Keys.{key_in}
 use Rattle.write_sorting.proofs.Laws.{key_strict}
 use Rattle.write_sorting.proofs.MergeInPlace.{down-joined, paste-behind}
-use borrow.Author.Rules.{rules}
 use Rattle.write_sorting.proofs.join_parts.Goals as goal
 
 pub returns-else-below : goal.returns-else-below

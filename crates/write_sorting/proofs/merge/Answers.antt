@@ -6,7 +6,6 @@ use native.Mathlib.Omega.{arith}
 use Rattle.texts.specs.Text.{by_key}
 use Rattle.write_text_keys.specs.Keys.{key_of, key_in}
 use Rattle.write_sorting.proofs.MergeInPlace.{Copied, copied, copied-ordered, copied_merged, merged_none, merged_all}
-use borrow.Author.Rules.{rules}
 use Rattle.write_sorting.proofs.merge.Goals as goal
 
 pub returns-then-m-eq0 : goal.returns-then-m-eq0
@@ -29,13 +28,13 @@ returns-then-m-n c =
 
 pub join_parts-requires : goal.join_parts-requires
 join_parts-requires c =
-    let by : List ℕ → ℕ → ℕ → Bool = λ d. 
-      let to = c in
+    let by : List ℕ → ℕ → ℕ → Bool = λ d.
+    let to = c in
     let l = to.args.layout in
     by_key (key_of to.args.source.version to.args.nodes.now to.args.strings.now l.texts l.paths l.lengths d) in
     let up : let to = c in
     Copied to.args.w.now to.args.m to.args.n to.args.layout.at c.copy_up.new.w =
-      let to = c in
+    let to = c in
     copied to.args.w.now c.copy_up.new.w to.args.m to.args.n to.args.layout.at (omega arith) (omega arith) (omega arith) c.copy_up.ensures in
     let to = c in
     let C = up in
@@ -46,13 +45,13 @@ join_parts-requires c =
 
 pub returns : goal.returns
 returns c =
-    let by : List ℕ → ℕ → ℕ → Bool = λ d. 
-      let to = c in
+    let by : List ℕ → ℕ → ℕ → Bool = λ d.
+    let to = c in
     let l = to.args.layout in
     by_key (key_of to.args.source.version to.args.nodes.now to.args.strings.now l.texts l.paths l.lengths d) in
     let up : let to = c in
     Copied to.args.w.now to.args.m to.args.n to.args.layout.at c.copy_up.new.w =
-      let to = c in
+    let to = c in
     copied to.args.w.now c.copy_up.new.w to.args.m to.args.n to.args.layout.at (omega arith) (omega arith) (omega arith) c.copy_up.ensures in
     let u = c in
     let to = u in

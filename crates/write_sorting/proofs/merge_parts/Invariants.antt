@@ -1,15 +1,7 @@
-use Prim.Native.Nat.{ℕ, ◌+◌, ◌-◌}
-use mathlib.Core.Path.{◌≡◌, sym, ap, ◌∙◌}
-use mathlib.Core.Logic.{⊎_elim}
-use mathlib.Core.List.{List}
-use mathlib.Core.Bool.{Bool}
-use native.Mathlib.Omega.{arith}
-use lib.ListN.{drop}
+use Prim.Native.Nat.{◌+◌, ◌-◌}
 use Rattle.texts.specs.Text.{by_key}
-use Rattle.write_text_keys.specs.Keys.{key_of, key_in}
-use Rattle.write_sorting.specs.Sorted.{takes_right}
-use Rattle.write_sorting.proofs.MergeInPlace.{Placing, placing_none, placing_left, placing_right, placing_done, placing_behind}
-use borrow.Author.Rules.{rules}
+use Rattle.write_text_keys.specs.Keys.{key_in}
+use Rattle.write_sorting.proofs.MergeInPlace.{Placing}
 use Rattle.write_sorting.proofs.merge_parts.Given as goal
 
 abbrev pub invariant-loop-i : goal.invariant-loop-i

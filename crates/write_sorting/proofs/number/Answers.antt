@@ -1,7 +1,5 @@
 -- `write_sorting::number` meets its contract.
-use Prim.Native.Nat.{◌-◌}
-use Rattle.write_sorting.proofs.NumberedWords.{Numbering, number-none, number_step, number-done}
-use borrow.Author.Rules.{rules}
+use Rattle.write_sorting.proofs.NumberedWords.{number-none, number_step, number-done}
 use Rattle.write_sorting.proofs.number.Goals as goal
 
 pub loop-i-init : goal.loop-i-init

@@ -1,7 +1,6 @@
 -- `write_sorting::number` meets its contract.
 use Prim.Native.Nat.{◌-◌}
-use Rattle.write_sorting.proofs.NumberedWords.{Numbering, number-none, number_step, number-done}
-use borrow.Author.Rules.{rules}
+use Rattle.write_sorting.proofs.NumberedWords.{Numbering}
 use Rattle.write_sorting.proofs.number.Given as goal
 
 abbrev pub invariant-loop-i : goal.invariant-loop-i

@@ -1,6 +1,5 @@
 use borrow.Author.Tests.{lt-ltb, le-ltb}
 use Rattle.write_sorting.specs.Sorted.{takes_right}
-use borrow.Author.Rules.{rules}
 use Rattle.write_sorting.proofs.takes_right.Goals as goal
 
 pub returns-then-j-n : goal.returns-then-j-n

@@ -1,5 +1,4 @@
 -- `write_text_keys::at_end` meets its contract.
-use borrow.Author.Rules.{rules}
 use Rattle.write_text_keys.proofs.Pieces.{end_unnamed, end_named}
 use Rattle.write_text_keys.proofs.at_end.Goals as goal
 

@@ -3,7 +3,6 @@ use mathlib.Core.Path.{◌∙◌}
 use lib.ListN.{drop}
 use Rattle.laws.proofs.Lists.{to_end}
 use Rattle.write_text_keys.proofs.Uses.{text_key}
-use borrow.Author.Rules.{rules}
 use Rattle.write_text_keys.proofs.below.Goals as goal
 
 pub returns-then-b-layout : goal.returns-then-b-layout

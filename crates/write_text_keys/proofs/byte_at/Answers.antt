@@ -2,7 +2,6 @@
 use mathlib.Core.Path.{sym}
 use lib.ListN.{get_or-eq_default}
 use native.Mathlib.Omega.{arith}
-use borrow.Author.Rules.{rules}
 use Rattle.write_text_keys.proofs.byte_at.Goals as goal
 
 pub returns-else-i-strings : goal.returns-else-i-strings

@@ -1,11 +1,8 @@
 -- `write_text_keys::digit_at` meets its contract. The invariant: digit i of what is left, which has `size` digits, is digit i of n.
-use borrow.Author.Rules.{rules}
-use native.Mathlib.Omega.{arith}
 use Prim.Native.Nat.{◌<◌}
-use mathlib.Core.Path.{◌≡◌, refl, sym, ◌∙◌}
-use lib.ListN.{length, get_or, get_or-eq_default}
+use mathlib.Core.Path.{◌≡◌}
+use lib.ListN.{length, get_or}
 use Rattle.texts.specs.Decimal.{decimal}
-use Rattle.write_text_keys.proofs.Digits.{digit-before, digit-last}
 use Rattle.write_text_keys.proofs.digit_at.Given as goal
 
 abbrev pub invariant-loop-size : goal.invariant-loop-size

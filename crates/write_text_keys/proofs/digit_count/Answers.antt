@@ -1,7 +1,6 @@
 -- `write_text_keys::digit_count` meets its contract.
 use native.Mathlib.Omega.{arith}
 use Rattle.texts.proofs.Decimal.{word-length}
-use borrow.Author.Rules.{rules}
 use Rattle.write_text_keys.proofs.digit_count.Goals as goal
 
 pub overflow_cast-result : goal.overflow_cast-result

@@ -1,5 +1,4 @@
 -- `write_text_keys::end_of` meets its contract.
-use borrow.Author.Rules.{rules}
 use Rattle.write_text_keys.proofs.Pieces.{end_text, end_path}
 use Rattle.write_text_keys.proofs.end_of.Goals as goal
 

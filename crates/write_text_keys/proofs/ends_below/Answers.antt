@@ -2,7 +2,6 @@
 use native.Mathlib.Omega.{arith}
 use mathlib.Core.Path.{◌∙◌}
 use Rattle.write_text_keys.proofs.Uses.{below-shorter, below-longer}
-use borrow.Author.Rules.{rules}
 use Rattle.write_text_keys.proofs.ends_below.Goals as goal
 
 pub returns-then-m-n : goal.returns-then-m-n

@@ -3,7 +3,6 @@ use mathlib.Core.Path.{sym, ◌∙◌}
 use lib.ListN.{drop}
 use Rattle.laws.proofs.Lists.{to_end}
 use Rattle.write_text_keys.proofs.Uses.{key_length_lem}
-use borrow.Author.Rules.{rules}
 use Rattle.write_text_keys.proofs.key_length.Goals as goal
 
 pub returns : goal.returns

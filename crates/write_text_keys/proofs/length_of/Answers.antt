@@ -1,6 +1,5 @@
 -- `write_text_keys::length_of` meets its contract.
 use Rattle.write_text_keys.proofs.Pieces.{length-text, length-path}
-use borrow.Author.Rules.{rules}
 use Rattle.write_text_keys.proofs.length_of.Goals as goal
 
 pub returns-then-a-layout : goal.returns-then-a-layout

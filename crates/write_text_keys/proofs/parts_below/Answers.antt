@@ -1,5 +1,4 @@
 -- `write_text_keys::parts_below` meets its contract.
-use borrow.Author.Rules.{rules}
 use mathlib.Core.Path.{◌∙◌}
 use Rattle.write_text_keys.proofs.Uses.{part-self}
 use Rattle.write_text_keys.proofs.parts_below.Goals as goal

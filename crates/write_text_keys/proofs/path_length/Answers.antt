@@ -1,5 +1,4 @@
 -- `write_text_keys::path_length` meets its contract.
-use borrow.Author.Rules.{rules}
 use native.Mathlib.Omega.{arith}
 use mathlib.Core.Path.{◌≡◌, sym, ap, ◌∙◌}
 use Prim.Native.Nat.{◌+◌, ◌^◌, ◌<◌}
@@ -27,7 +26,7 @@ pub overflow_add-result : goal.overflow_add-result
 overflow_add-result c =
     let above : let to = c.args in
     c.long_of.result ≡ long_of to.lengths to.tab.now (word_of to.source.version to.nodes.now to.x 0) =
-      let to = c.args in
+    let to = c.args in
     c.long_of.ensures ∙ ap (long_of to.lengths to.tab.now) c.word_of-above.ensures in
     let room : c.long_of.result + 2 ^ 32 < 2 ^ 64 = rw above (c.requires.x_bound c.if-x-eq0.false) in
     omega (arith, room)
@@ -36,7 +35,7 @@ pub overflow_add-result-2 : goal.overflow_add-result-2
 overflow_add-result-2 c =
     let above : let to = c.args in
     c.long_of.result ≡ long_of to.lengths to.tab.now (word_of to.source.version to.nodes.now to.x 0) =
-      let to = c.args in
+    let to = c.args in
     c.long_of.ensures ∙ ap (long_of to.lengths to.tab.now) c.word_of-above.ensures in
     let room : c.long_of.result + 2 ^ 32 < 2 ^ 64 = rw above (c.requires.x_bound c.if-x-eq0.false) in
     omega (arith, room)
@@ -45,7 +44,7 @@ pub returns : goal.returns
 returns c =
     let above : let to = c.args in
     c.long_of.result ≡ long_of to.lengths to.tab.now (word_of to.source.version to.nodes.now to.x 0) =
-      let to = c.args in
+    let to = c.args in
     c.long_of.ensures ∙ ap (long_of to.lengths to.tab.now) c.word_of-above.ensures in
     let to = c.args in
     let dot = below_dot to.source.version to.nodes.now c.long_of.result to.x c.if-x-eq0.false (λ z. c.if-above-eq0.false (c.word_of-above.ensures ∙ z)) in

@@ -1,6 +1,5 @@
 -- `write_text_keys::piece_length` meets its contract.
 use Rattle.write_text_keys.proofs.Pieces.{piece-unnamed, piece-named}
-use borrow.Author.Rules.{rules}
 use Rattle.write_text_keys.proofs.piece_length.Goals as goal
 
 pub returns-then-no_name : goal.returns-then-no_name

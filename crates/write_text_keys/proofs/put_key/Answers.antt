@@ -3,7 +3,6 @@ use mathlib.Core.Path.{ap, ◌∙◌}
 use native.Mathlib.Omega.{arith}
 use lib.ListN.{length}
 use Rattle.write_text_keys.proofs.Uses.{text-written, path-written}
-use borrow.Author.Rules.{rules}
 use Rattle.write_text_keys.proofs.put_key.Goals as goal
 
 pub put_bytes-requires : goal.put_bytes-requires

@@ -1,11 +1,8 @@
 -- `write_text_keys::put_read` meets its contract. The invariant: the bytes from `left` on are written, and those before x are left.
-use borrow.Author.Rules.{rules}
 use native.Mathlib.Omega.{arith}
 use mathlib.Core.Path.{◌≡◌, refl, sym, ◌∙◌}
-use Prim.Native.Nat.{◌≤◌, ◌-◌}
-use mathlib.Core.List.{◌++◌}
-use lib.ListN.{length, drop, length-set}
-use Rattle.write_text_keys.specs.Keys.{read_back}
+use Prim.Native.Nat.{◌-◌}
+use lib.ListN.{length-set}
 use Rattle.write_text_keys.proofs.BackwardReads.{read_put, read_none}
 use Rattle.write_text_keys.proofs.put_read.Goals as goal
 

@@ -1,12 +1,9 @@
 -- `write_text_keys::put_read` meets its contract. The invariant: the bytes from `left` on are written, and those before x are left.
-use borrow.Author.Rules.{rules}
-use native.Mathlib.Omega.{arith}
-use mathlib.Core.Path.{◌≡◌, refl, sym, ◌∙◌}
-use Prim.Native.Nat.{◌≤◌, ◌-◌}
+use mathlib.Core.Path.{◌≡◌}
+use Prim.Native.Nat.{◌≤◌}
 use mathlib.Core.List.{◌++◌}
-use lib.ListN.{length, drop, length-set}
+use lib.ListN.{length, drop}
 use Rattle.write_text_keys.specs.Keys.{read_back}
-use Rattle.write_text_keys.proofs.BackwardReads.{read_put, read_none}
 use Rattle.write_text_keys.proofs.put_read.Given as goal
 
 abbrev pub invariant-loop-left : goal.invariant-loop-left

@@ -1,9 +1,7 @@
 -- `write_text_keys::read_below` meets its contract. The invariant: what is left before x and y is ordered as the whole, with `less` for what is behind.
-use borrow.Author.Rules.{rules}
 use native.Mathlib.Omega.{arith}
 use Prim.Native.Nat.{◌-◌}
 use mathlib.Core.Path.{◌≡◌, refl, sym, ◌∙◌}
-use Rattle.write_text_keys.specs.Keys.{read_back, decided}
 use Rattle.write_text_keys.proofs.Uses.{none-decided, rest-decided, byte-decided}
 use Rattle.write_text_keys.proofs.NameRuns.{InName, in_name, run_decided}
 use Rattle.write_text_keys.proofs.read_below.Goals as goal

@@ -1,5 +1,4 @@
 -- `write_text_keys::run_below` meets its contract.
-use borrow.Author.Rules.{rules}
 use Prim.Native.Nat.{ℕ}
 use mathlib.Core.Path.{◌≡◌, sym, ◌∙◌}
 use mathlib.Core.List.{List}
@@ -19,8 +18,8 @@ returns-then-c-d c =
 pub returns-in-Less : goal.returns-in-Less
 returns-in-Less c =
     let ordered : (o : Order) → c.compare-order.result ≡ o → let to = c.args in
-    (v : ℕ) (nodes : List ℕ) → by_order o to.later ≡ decided (read_back to.run v nodes to.strings.now to.c) (read_back to.run v nodes to.strings.now to.d) to.later = λ o e v nodes. 
-      let at = c in
+    (v : ℕ) (nodes : List ℕ) → by_order o to.later ≡ decided (read_back to.run v nodes to.strings.now to.c) (read_back to.run v nodes to.strings.now to.d) to.later = λ o e v nodes.
+    let at = c in
     let to = at.args in
     run_order v nodes to.strings.now to.c to.d to.run at.requires.0 at.requires.1 at.requires.2 to.later _ _ o (c.run_of.ensures v nodes) (c.run_of-2.ensures v nodes) (sym e ∙ c.compare-order.ensures) in
     ordered Less c.in-Less.is
@@ -28,8 +27,8 @@ returns-in-Less c =
 pub returns-in-Equal : goal.returns-in-Equal
 returns-in-Equal c =
     let ordered : (o : Order) → c.compare-order.result ≡ o → let to = c.args in
-    (v : ℕ) (nodes : List ℕ) → by_order o to.later ≡ decided (read_back to.run v nodes to.strings.now to.c) (read_back to.run v nodes to.strings.now to.d) to.later = λ o e v nodes. 
-      let at = c in
+    (v : ℕ) (nodes : List ℕ) → by_order o to.later ≡ decided (read_back to.run v nodes to.strings.now to.c) (read_back to.run v nodes to.strings.now to.d) to.later = λ o e v nodes.
+    let at = c in
     let to = at.args in
     run_order v nodes to.strings.now to.c to.d to.run at.requires.0 at.requires.1 at.requires.2 to.later _ _ o (c.run_of.ensures v nodes) (c.run_of-2.ensures v nodes) (sym e ∙ c.compare-order.ensures) in
     ordered Equal c.in-Equal.is
@@ -37,8 +36,8 @@ returns-in-Equal c =
 pub returns-in-Greater : goal.returns-in-Greater
 returns-in-Greater c =
     let ordered : (o : Order) → c.compare-order.result ≡ o → let to = c.args in
-    (v : ℕ) (nodes : List ℕ) → by_order o to.later ≡ decided (read_back to.run v nodes to.strings.now to.c) (read_back to.run v nodes to.strings.now to.d) to.later = λ o e v nodes. 
-      let at = c in
+    (v : ℕ) (nodes : List ℕ) → by_order o to.later ≡ decided (read_back to.run v nodes to.strings.now to.c) (read_back to.run v nodes to.strings.now to.d) to.later = λ o e v nodes.
+    let at = c in
     let to = at.args in
     run_order v nodes to.strings.now to.c to.d to.run at.requires.0 at.requires.1 at.requires.2 to.later _ _ o (c.run_of.ensures v nodes) (c.run_of-2.ensures v nodes) (sym e ∙ c.compare-order.ensures) in
     ordered Greater c.in-Greater.is

@@ -1,5 +1,4 @@
 -- `write_text_keys::run_length` meets its contract.
-use borrow.Author.Rules.{rules}
 use borrow.Author.Tests.{not-false}
 use mathlib.Core.Path.{◌≡◌}
 use Rattle.write_text_keys.specs.Keys.{name_left}

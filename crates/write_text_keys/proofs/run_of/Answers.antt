@@ -1,5 +1,4 @@
 -- `write_text_keys::run_of` meets its contract.
-use borrow.Author.Rules.{rules}
 use native.Mathlib.Omega.{arith}
 use mathlib.Core.Path.{refl}
 use Rattle.write_text_keys.proofs.NameRuns.{in_name, run_part}

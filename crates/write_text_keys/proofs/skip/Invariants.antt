@@ -1,10 +1,6 @@
 -- `write_text_keys::skip` meets its contract. The invariant: `rest` bytes back from x is where `count` bytes back from the start is.
-use borrow.Author.Rules.{rules}
-use native.Mathlib.Omega.{arith}
-use Prim.Native.Nat.{◌+◌, ◌-◌}
-use mathlib.Core.Path.{◌≡◌, refl, sym, ap, ◌∙◌}
+use mathlib.Core.Path.{◌≡◌}
 use Rattle.write_text_keys.specs.Keys.{back}
-use Rattle.write_text_keys.proofs.BackwardReads.{back_up}
 use Rattle.write_text_keys.proofs.skip.Given as goal
 
 abbrev pub invariant-loop-x : goal.invariant-loop-x

@@ -1,5 +1,4 @@
 -- `write_text_keys::text_of` meets its contract.
-use borrow.Author.Rules.{rules}
 use mathlib.Core.Path.{◌∙◌}
 use Rattle.write_text_keys.proofs.text_of.Goals as goal
 

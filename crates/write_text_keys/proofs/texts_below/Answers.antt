@@ -1,5 +1,4 @@
 -- `write_text_keys::texts_below` meets its contract.
-use borrow.Author.Rules.{rules}
 use mathlib.Core.Path.{◌∙◌}
 use Rattle.write_text_keys.proofs.texts_below.Goals as goal
 

@@ -1,6 +1,5 @@
 -- `write_text_uses::collect` meets its contract.
 use Rattle.write_text_uses.proofs.AllUses.{nodes-asked, named-asked, definitions-asked, begins, collected}
-use borrow.Author.Rules.{rules}
 use Rattle.write_text_uses.proofs.collect.Goals as goal
 
 pub put_nodes-behind_nodes-requires : goal.put_nodes-behind_nodes-requires

@@ -1,7 +1,6 @@
 -- `write_text_uses::put_container` meets its contract.
 use Rattle.write_text_uses.proofs.Puts.{put_none, put_same, room-same}
 use Rattle.write_text_uses.proofs.DraftReads.{container_is, no_container_lem}
-use borrow.Author.Rules.{rules}
 use Rattle.write_text_uses.proofs.put_container.Goals as goal
 
 pub returns-then-node-ne-CONTAINER : goal.returns-then-node-ne-CONTAINER

@@ -1,7 +1,6 @@
 -- `write_text_uses::put_definition` meets its contract.
 use Rattle.write_text_uses.proofs.Puts.{first-room, second-room, two_put}
 use Rattle.write_text_uses.proofs.DraftReads.{definition_is}
-use borrow.Author.Rules.{rules}
 use Rattle.write_text_uses.proofs.put_definition.Goals as goal
 
 pub put_use-behind-requires : goal.put_use-behind-requires

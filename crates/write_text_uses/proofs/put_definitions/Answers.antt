@@ -1,9 +1,7 @@
 -- `write_text_uses::put_definitions` meets its contract.
-use Prim.Native.Nat.{◌-◌, ◌/◌}
 use mathlib.Core.Path.{refl}
-use lib.ListN.{length}
-use Rattle.write_text_uses.specs.Uses.{definition_pairs, all_definition_pairs, definitions_only}
-use Rattle.write_text_uses.proofs.Puts.{RunsSoFar, going_start, going-room, going_next, going_end}
+use Rattle.write_text_uses.specs.Uses.{all_definition_pairs}
+use Rattle.write_text_uses.proofs.Puts.{going_start, going-room, going_next, going_end}
 use borrow.Author.Rules.{rules}
 use Rattle.write_text_uses.proofs.put_definitions.Goals as goal
 

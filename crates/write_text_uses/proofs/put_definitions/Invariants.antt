@@ -1,10 +1,8 @@
 -- `write_text_uses::put_definitions` meets its contract.
 use Prim.Native.Nat.{◌-◌, ◌/◌}
-use mathlib.Core.Path.{refl}
 use lib.ListN.{length}
-use Rattle.write_text_uses.specs.Uses.{definition_pairs, all_definition_pairs, definitions_only}
-use Rattle.write_text_uses.proofs.Puts.{RunsSoFar, going_start, going-room, going_next, going_end}
-use borrow.Author.Rules.{rules}
+use Rattle.write_text_uses.specs.Uses.{definition_pairs, definitions_only}
+use Rattle.write_text_uses.proofs.Puts.{RunsSoFar}
 use Rattle.write_text_uses.proofs.put_definitions.Given as goal
 
 abbrev pub invariant-loop-d : goal.invariant-loop-d

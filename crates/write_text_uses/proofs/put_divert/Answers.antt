@@ -1,6 +1,5 @@
 -- `write_text_uses::put_divert` meets its contract.
 use Rattle.write_text_uses.proofs.Puts.{first-room, second-room, two_put, both_are}
-use borrow.Author.Rules.{rules}
 use Rattle.write_text_uses.proofs.put_divert.Goals as goal
 
 pub put_optional-behind-requires : goal.put_optional-behind-requires

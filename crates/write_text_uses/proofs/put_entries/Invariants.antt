@@ -1,9 +1,7 @@
 -- `write_text_uses::put_entries` meets its contract.
 use Prim.Native.Nat.{◌-◌}
 use Rattle.write_text_uses.specs.Uses.{entry_pairs}
-use Rattle.write_text_uses.proofs.Puts.{RunsSoFar, going_start, going-words, going_next, going_end}
-use Rattle.write_text_uses.proofs.DraftReads.{entry_is}
-use borrow.Author.Rules.{rules}
+use Rattle.write_text_uses.proofs.Puts.{RunsSoFar}
 use Rattle.write_text_uses.proofs.put_entries.Given as goal
 
 abbrev pub invariant-loop-j : goal.invariant-loop-j

@@ -1,7 +1,6 @@
 -- `write_text_uses::put_list` meets its contract.
 use Rattle.write_text_uses.proofs.Puts.{first-room, second-room, two_put}
 use Rattle.write_text_uses.proofs.DraftReads.{list_is, list-items-inside, list-origins-inside}
-use borrow.Author.Rules.{rules}
 use Rattle.write_text_uses.proofs.put_list.Goals as goal
 
 pub put_list_items-behind-requires : goal.put_list_items-behind-requires

@@ -1,7 +1,6 @@
 -- `write_text_uses::put_list_item` meets its contract.
 use Rattle.write_text_uses.proofs.Puts.{first-room, second-room, two_put}
 use Rattle.write_text_uses.proofs.DraftReads.{item_is}
-use borrow.Author.Rules.{rules}
 use Rattle.write_text_uses.proofs.put_list_item.Goals as goal
 
 pub put_optional-behind-requires : goal.put_optional-behind-requires

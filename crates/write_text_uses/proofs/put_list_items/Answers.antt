@@ -1,8 +1,6 @@
 -- `write_text_uses::put_list_items` meets its contract.
-use Prim.Native.Nat.{◌-◌}
 use mathlib.Core.Path.{refl}
-use Rattle.write_text_uses.specs.Uses.{list_item_pairs, payload_only}
-use Rattle.write_text_uses.proofs.Puts.{RunsSoFar, going_start, going-room, going_next, going_end}
+use Rattle.write_text_uses.proofs.Puts.{going_start, going-room, going_next, going_end}
 use borrow.Author.Rules.{rules}
 use Rattle.write_text_uses.proofs.put_list_items.Goals as goal
 

@@ -1,9 +1,7 @@
 -- `write_text_uses::put_list_items` meets its contract.
 use Prim.Native.Nat.{◌-◌}
-use mathlib.Core.Path.{refl}
 use Rattle.write_text_uses.specs.Uses.{list_item_pairs, payload_only}
-use Rattle.write_text_uses.proofs.Puts.{RunsSoFar, going_start, going-room, going_next, going_end}
-use borrow.Author.Rules.{rules}
+use Rattle.write_text_uses.proofs.Puts.{RunsSoFar}
 use Rattle.write_text_uses.proofs.put_list_items.Given as goal
 
 abbrev pub invariant-loop-j : goal.invariant-loop-j

@@ -1,9 +1,6 @@
 -- `write_text_uses::put_list_origins` meets its contract.
-use Prim.Native.Nat.{◌-◌}
-use Rattle.write_text_uses.specs.Uses.{origin_pairs}
-use Rattle.write_text_uses.proofs.Puts.{RunsSoFar, going_start, going-words, going_next, going_end}
+use Rattle.write_text_uses.proofs.Puts.{going_start, going-words, going_next, going_end}
 use Rattle.write_text_uses.proofs.DraftReads.{origin_is}
-use borrow.Author.Rules.{rules}
 use Rattle.write_text_uses.proofs.put_list_origins.Goals as goal
 
 pub loop-j-init : goal.loop-j-init

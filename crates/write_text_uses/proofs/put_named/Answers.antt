@@ -1,12 +1,9 @@
 -- `write_text_uses::put_named` meets its contract.
-use Prim.Native.Nat.{◌+◌, ◌-◌, ◌/◌}
+use Prim.Native.Nat.{◌+◌}
 use native.Mathlib.Omega.{arith}
-use lib.ListN.{length}
-use Rattle.image.specs.Sections.{node_words}
-use Rattle.write_text_uses.specs.Uses.{named_pairs, all_named_pairs, named_only}
-use Rattle.write_text_uses.proofs.Puts.{RunsPut, ordered-start, ordered-room, ordered-next, old_read, going_end}
+use Rattle.write_text_uses.specs.Uses.{all_named_pairs}
+use Rattle.write_text_uses.proofs.Puts.{ordered-start, ordered-room, ordered-next, old_read, going_end}
 use Rattle.write_text_uses.proofs.Nodes.{container_needs}
-use borrow.Author.Rules.{rules}
 use Rattle.write_text_uses.proofs.put_named.Goals as goal
 
 pub loop-j-init : goal.loop-j-init
@@ -26,9 +23,9 @@ put_container-k-requires c =
     let below = rw node-count.ensures at test.true in
     record {
       i_in_bounds = (container_needs _ to.nodes.now _ asked.0 _ _ below (old_read _ _ _ _ _ _ _ _ loop.invariant below)
-    (ordered-room _ _ _ _ _ _ _ _ loop.invariant below)).0;
+          (ordered-room _ _ _ _ _ _ _ _ loop.invariant below)).0;
       room = (container_needs _ to.nodes.now _ asked.0 _ _ below (old_read _ _ _ _ _ _ _ _ loop.invariant below)
-    (ordered-room _ _ _ _ _ _ _ _ loop.invariant below)).1;
+          (ordered-room _ _ _ _ _ _ _ _ loop.invariant below)).1;
     }
 
 pub loop-j-preserved : goal.loop-j-preserved

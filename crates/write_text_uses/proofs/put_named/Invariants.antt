@@ -1,12 +1,9 @@
 -- `write_text_uses::put_named` meets its contract.
-use Prim.Native.Nat.{◌+◌, ◌-◌, ◌/◌}
-use native.Mathlib.Omega.{arith}
+use Prim.Native.Nat.{◌-◌, ◌/◌}
 use lib.ListN.{length}
 use Rattle.image.specs.Sections.{node_words}
-use Rattle.write_text_uses.specs.Uses.{named_pairs, all_named_pairs, named_only}
-use Rattle.write_text_uses.proofs.Puts.{RunsPut, ordered-start, ordered-room, ordered-next, old_read, going_end}
-use Rattle.write_text_uses.proofs.Nodes.{container_needs}
-use borrow.Author.Rules.{rules}
+use Rattle.write_text_uses.specs.Uses.{named_pairs, named_only}
+use Rattle.write_text_uses.proofs.Puts.{RunsPut}
 use Rattle.write_text_uses.proofs.put_named.Given as goal
 
 abbrev pub invariant-loop-j : goal.invariant-loop-j

@@ -1,7 +1,6 @@
 -- `write_text_uses::put_node` meets its contract.
 use Rattle.write_text_uses.proofs.Puts.{put_none, put_same, room-same}
 use Rattle.write_text_uses.proofs.Nodes.{at_container, at_choice, at_text, at_more-text, at_divert, at_list_lem, at_reference, at_rest, list_inside}
-use borrow.Author.Rules.{rules}
 use Rattle.write_text_uses.proofs.put_node.Goals as goal
 
 pub put_optional-requires : goal.put_optional-requires

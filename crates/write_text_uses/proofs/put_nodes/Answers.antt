@@ -1,13 +1,9 @@
 -- `write_text_uses::put_nodes` meets its contract.
-use Prim.Native.Nat.{◌+◌, ◌-◌, ◌/◌}
+use Prim.Native.Nat.{◌+◌}
 use native.Mathlib.Omega.{arith}
-use lib.ListN.{length}
-use Rattle.draft.specs.Source.{nodes_only}
-use Rattle.image.specs.Sections.{node_words}
-use Rattle.write_text_uses.specs.Uses.{node_pairs, all_node_pairs}
-use Rattle.write_text_uses.proofs.Puts.{RunsPut, ordered-start, ordered-room, ordered-next, old_read, going_end}
+use Rattle.write_text_uses.specs.Uses.{all_node_pairs}
+use Rattle.write_text_uses.proofs.Puts.{ordered-start, ordered-room, ordered-next, old_read, going_end}
 use Rattle.write_text_uses.proofs.Nodes.{node_needs}
-use borrow.Author.Rules.{rules}
 use Rattle.write_text_uses.proofs.put_nodes.Goals as goal
 
 pub loop-j-init : goal.loop-j-init
@@ -26,11 +22,11 @@ put_node-k-requires c =
     let below = rw node-count.ensures at test.true in
     record {
       i_in_bounds = (node_needs _ _ _ _ asked.0 _ _ below (old_read _ _ _ _ _ _ _ _ loop.invariant below)
-    (ordered-room _ _ _ _ _ _ _ _ loop.invariant below)).0;
+          (ordered-room _ _ _ _ _ _ _ _ loop.invariant below)).0;
       list_inside = (node_needs _ _ _ _ asked.0 _ _ below (old_read _ _ _ _ _ _ _ _ loop.invariant below)
-    (ordered-room _ _ _ _ _ _ _ _ loop.invariant below)).1.0;
+          (ordered-room _ _ _ _ _ _ _ _ loop.invariant below)).1.0;
       room = (node_needs _ _ _ _ asked.0 _ _ below (old_read _ _ _ _ _ _ _ _ loop.invariant below)
-    (ordered-room _ _ _ _ _ _ _ _ loop.invariant below)).1.1;
+          (ordered-room _ _ _ _ _ _ _ _ loop.invariant below)).1.1;
     }
 
 pub loop-j-preserved : goal.loop-j-preserved

@@ -1,13 +1,10 @@
 -- `write_text_uses::put_nodes` meets its contract.
-use Prim.Native.Nat.{◌+◌, ◌-◌, ◌/◌}
-use native.Mathlib.Omega.{arith}
+use Prim.Native.Nat.{◌-◌, ◌/◌}
 use lib.ListN.{length}
 use Rattle.draft.specs.Source.{nodes_only}
 use Rattle.image.specs.Sections.{node_words}
-use Rattle.write_text_uses.specs.Uses.{node_pairs, all_node_pairs}
-use Rattle.write_text_uses.proofs.Puts.{RunsPut, ordered-start, ordered-room, ordered-next, old_read, going_end}
-use Rattle.write_text_uses.proofs.Nodes.{node_needs}
-use borrow.Author.Rules.{rules}
+use Rattle.write_text_uses.specs.Uses.{node_pairs}
+use Rattle.write_text_uses.proofs.Puts.{RunsPut}
 use Rattle.write_text_uses.proofs.put_nodes.Given as goal
 
 abbrev pub invariant-loop-j : goal.invariant-loop-j

@@ -1,7 +1,6 @@
 -- `write_text_uses::put_optional` meets its contract.
 use mathlib.Core.List.{[]}
 use Rattle.write_text_uses.proofs.Puts.{put_none, put_same, room-same, if_none, if_some}
-use borrow.Author.Rules.{rules}
 use Rattle.write_text_uses.proofs.put_optional.Goals as goal
 
 pub returns-then-is_absent : goal.returns-then-is_absent

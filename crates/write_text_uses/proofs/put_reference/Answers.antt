@@ -1,6 +1,5 @@
 -- `write_text_uses::put_reference` meets its contract.
 use Rattle.write_text_uses.proofs.Puts.{first-room, second-room, two_put, both_are}
-use borrow.Author.Rules.{rules}
 use Rattle.write_text_uses.proofs.put_reference.Goals as goal
 
 pub put_use-behind-requires : goal.put_use-behind-requires

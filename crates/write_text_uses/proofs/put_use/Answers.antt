@@ -2,7 +2,6 @@
 use native.Mathlib.Omega.{arith}
 use lib.ListN.{length-set}
 use Rattle.write_text_uses.proofs.Puts.{put_two}
-use borrow.Author.Rules.{rules}
 use Rattle.write_text_uses.proofs.put_use.Goals as goal
 
 pub bounds-w-at-2 : goal.bounds-w-at-2

@@ -26,14 +26,14 @@ returns-then-broken-ne0 c =
     let s = draft_of version to.nodes.now to.children.now to.named.now to.definitions.now to.items.now to.payload.now to.strings.now in
     record {
       answer = (ended _ _ _ _ _ _ _
-    (encode-tables to.ink s to.out.now to.work.now (sym ink-right.ensures ∙ not-false _ c.if-not-ink_right.false-raw) _
-    c.tables_rule-broken.ensures (search rules))).0;
+          (encode-tables to.ink s to.out.now to.work.now (sym ink-right.ensures ∙ not-false _ c.if-not-ink_right.false-raw) _
+          c.tables_rule-broken.ensures (search rules))).0;
       output = (ended _ _ _ _ _ _ _
-    (encode-tables to.ink s to.out.now to.work.now (sym ink-right.ensures ∙ not-false _ c.if-not-ink_right.false-raw) _
-    c.tables_rule-broken.ensures (search rules))).1.0;
+          (encode-tables to.ink s to.out.now to.work.now (sym ink-right.ensures ∙ not-false _ c.if-not-ink_right.false-raw) _
+          c.tables_rule-broken.ensures (search rules))).1.0;
       words = (ended _ _ _ _ _ _ _
-    (encode-tables to.ink s to.out.now to.work.now (sym ink-right.ensures ∙ not-false _ c.if-not-ink_right.false-raw) _
-    c.tables_rule-broken.ensures (search rules))).1.1;
+          (encode-tables to.ink s to.out.now to.work.now (sym ink-right.ensures ∙ not-false _ c.if-not-ink_right.false-raw) _
+          c.tables_rule-broken.ensures (search rules))).1.1;
     }
 
 pub slice_bounds-write-end : goal.slice_bounds-write-end
@@ -81,14 +81,14 @@ returns-in-TooMany c =
     let s = draft_of version to.nodes.now to.children.now to.named.now to.definitions.now to.items.now to.payload.now to.strings.now in
     record {
       answer = (ended _ _ _ _ _ _ _
-    (encode-words to.ink s to.out.now to.work.now (sym ink-right.ensures ∙ not-false _ if1.false-raw)
-    (no_rule _ _ tables-rule.ensures (search rules)) (few_words _ _ _ (rw c.entry_counts-counts.ensures at c.work_words_fit.ensures) c.in-TooMany.is))).0;
+          (encode-words to.ink s to.out.now to.work.now (sym ink-right.ensures ∙ not-false _ if1.false-raw)
+          (no_rule _ _ tables-rule.ensures (search rules)) (few_words _ _ _ (rw c.entry_counts-counts.ensures at c.work_words_fit.ensures) c.in-TooMany.is))).0;
       output = (ended _ _ _ _ _ _ _
-    (encode-words to.ink s to.out.now to.work.now (sym ink-right.ensures ∙ not-false _ if1.false-raw)
-    (no_rule _ _ tables-rule.ensures (search rules)) (few_words _ _ _ (rw c.entry_counts-counts.ensures at c.work_words_fit.ensures) c.in-TooMany.is))).1.0;
+          (encode-words to.ink s to.out.now to.work.now (sym ink-right.ensures ∙ not-false _ if1.false-raw)
+          (no_rule _ _ tables-rule.ensures (search rules)) (few_words _ _ _ (rw c.entry_counts-counts.ensures at c.work_words_fit.ensures) c.in-TooMany.is))).1.0;
       words = (ended _ _ _ _ _ _ _
-    (encode-words to.ink s to.out.now to.work.now (sym ink-right.ensures ∙ not-false _ if1.false-raw)
-    (no_rule _ _ tables-rule.ensures (search rules)) (few_words _ _ _ (rw c.entry_counts-counts.ensures at c.work_words_fit.ensures) c.in-TooMany.is))).1.1;
+          (encode-words to.ink s to.out.now to.work.now (sym ink-right.ensures ∙ not-false _ if1.false-raw)
+          (no_rule _ _ tables-rule.ensures (search rules)) (few_words _ _ _ (rw c.entry_counts-counts.ensures at c.work_words_fit.ensures) c.in-TooMany.is))).1.1;
     }
 
 pub returns-in-Words : goal.returns-in-Words
@@ -108,15 +108,15 @@ returns-in-Words c =
     let s = draft_of version to.nodes.now to.children.now to.named.now to.definitions.now to.items.now to.payload.now to.strings.now in
     record {
       answer = (ended _ _ _ _ _ _ _
-    (encode-written to.ink s to.out.now to.work.now right ruled
-    (lent (write_words s) _ to.work.now _ (rw c.entry_counts-counts.ensures at work-words-fit.ensures) c.in-Words.is).1 write.new.out
-    write.result write.ensures _ back)).0;
+          (encode-written to.ink s to.out.now to.work.now right ruled
+          (lent (write_words s) _ to.work.now _ (rw c.entry_counts-counts.ensures at work-words-fit.ensures) c.in-Words.is).1 write.new.out
+          write.result write.ensures _ back)).0;
       output = (ended _ _ _ _ _ _ _
-    (encode-written to.ink s to.out.now to.work.now right ruled
-    (lent (write_words s) _ to.work.now _ (rw c.entry_counts-counts.ensures at work-words-fit.ensures) c.in-Words.is).1 write.new.out
-    write.result write.ensures _ back)).1.0;
+          (encode-written to.ink s to.out.now to.work.now right ruled
+          (lent (write_words s) _ to.work.now _ (rw c.entry_counts-counts.ensures at work-words-fit.ensures) c.in-Words.is).1 write.new.out
+          write.result write.ensures _ back)).1.0;
       words = (ended _ _ _ _ _ _ _
-    (encode-written to.ink s to.out.now to.work.now right ruled
-    (lent (write_words s) _ to.work.now _ (rw c.entry_counts-counts.ensures at work-words-fit.ensures) c.in-Words.is).1 write.new.out
-    write.result write.ensures _ back)).1.1;
+          (encode-written to.ink s to.out.now to.work.now right ruled
+          (lent (write_words s) _ to.work.now _ (rw c.entry_counts-counts.ensures at work-words-fit.ensures) c.in-Words.is).1 write.new.out
+          write.result write.ensures _ back)).1.1;
     }

@@ -1,7 +1,6 @@
 -- `writer::put_image` meets its contract.
 use Rattle.draft.specs.Source.{draft_of}
 use Rattle.writer.proofs.ImageOutput.{put_long, put_short, fill_asks, put_done}
-use borrow.Author.Rules.{rules}
 use Rattle.writer.proofs.put_image.Goals as goal
 
 pub returns-then-out-length : goal.returns-then-out-length
@@ -21,9 +20,9 @@ fill-requires c =
     let s = draft_of to.source.version to.nodes.now to.children.now to.named.now to.definitions.now to.items.now to.payload.now to.strings.now in
     record {
       fact = (fill_asks to.ink s to.work.now to.layout to.counts asked to.out.now _ image-length.ensures _ c.in-Bytes.is
-    c.if-out-length.false).0;
+          c.if-out-length.false).0;
       s_in_bounds = (fill_asks to.ink s to.work.now to.layout to.counts asked to.out.now _ image-length.ensures _ c.in-Bytes.is
-    c.if-out-length.false).1;
+          c.if-out-length.false).1;
     }
 
 pub returns-in-TooLong : goal.returns-in-TooLong

@@ -1,7 +1,6 @@
 -- `writer::tables_rule` meets its contract.
 use mathlib.Core.Path.{◌∙◌}
 use Rattle.draft.proofs.PathTables.{no_paths_lem}
-use borrow.Author.Rules.{rules}
 use Rattle.writer.proofs.tables_rule.Goals as goal
 
 pub returns : goal.returns

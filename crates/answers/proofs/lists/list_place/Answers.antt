@@ -5,7 +5,6 @@ use Rattle.image.proofs.Views.{payload_by, strings_by}
 use Rattle.views.proofs.Answers.{view-missing, view-found}
 use Rattle.answers.specs.NodeViewWords.{list_place}
 use Rattle.answers.proofs.ListPlaces.{record_place}
-use borrow.Author.Rules.{rules}
 use Rattle.answers.proofs.lists.list_place.Goals as goal
 
 pub returns-in-NotFound : goal.returns-in-NotFound

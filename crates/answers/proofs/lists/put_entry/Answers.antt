@@ -3,7 +3,6 @@ use mathlib.Core.Path.{sym, ap, ◌∙◌}
 use mathlib.Core.Option.{some}
 use Rattle.answers.specs.AnswerWords.{entry_answer}
 use Rattle.answers.proofs.AnswerSlices.{unanswered, answered_as}
-use borrow.Author.Rules.{rules}
 use Rattle.answers.proofs.lists.put_entry.Goals as goal
 
 pub returns-in-NotFound : goal.returns-in-NotFound

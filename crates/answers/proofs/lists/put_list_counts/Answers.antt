@@ -1,6 +1,5 @@
 -- `answers::lists::put_list_counts` meets its contract.
 use Rattle.answers.proofs.AnswerSlices.{unanswered, answered_as, no_counts, counts_some}
-use borrow.Author.Rules.{rules}
 use Rattle.answers.proofs.lists.put_list_counts.Goals as goal
 
 pub returns-then-payload-lt-HEAD_BYTES : goal.returns-then-payload-lt-HEAD_BYTES

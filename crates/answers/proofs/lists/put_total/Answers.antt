@@ -1,6 +1,5 @@
 -- `answers::lists::put_total` meets its contract.
 use Rattle.answers.proofs.AnswerSlices.{unanswered, answered_as, past-none, count-some}
-use borrow.Author.Rules.{rules}
 use Rattle.answers.proofs.lists.put_total.Goals as goal
 
 pub returns-then-count-gt-LARGEST_WORD : goal.returns-then-count-gt-LARGEST_WORD

@@ -1,7 +1,6 @@
 -- `answers::node::container` meets its contract.
 use native.Mathlib.Omega.{arith}
 use Rattle.answers.proofs.Records.{container-found}
-use borrow.Author.Rules.{rules}
 use Rattle.answers.proofs.node.container.Goals as goal
 
 pub returns : goal.returns

@@ -1,6 +1,5 @@
 -- `answers::node::divert` meets its contract.
 use Rattle.answers.proofs.Records.{divert-refused, divert-found}
-use borrow.Author.Rules.{rules}
 use Rattle.answers.proofs.node.divert.Goals as goal
 
 pub returns-then-node-gt2 : goal.returns-then-node-gt2

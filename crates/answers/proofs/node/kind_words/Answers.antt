@@ -1,6 +1,6 @@
 -- `answers::node::kind_words` meets its contract.
 use native.Mathlib.Omega.{arith}
-use mathlib.Core.Logic.{inl, inr, ⊎_elim}
+use mathlib.Core.Logic.{inl, inr}
 use mathlib.Core.Path.{refl, ap, ◌∙◌}
 use Rattle.answers.specs.RecordWords.{words_of_kind}
 use Rattle.views.proofs.Tags.{at_container, at_divert, at_list_lem, at_unknown}

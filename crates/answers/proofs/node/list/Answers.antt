@@ -1,6 +1,5 @@
 -- `answers::node::list` meets its contract.
 use Rattle.answers.proofs.Records.{list-found, list-refused}
-use borrow.Author.Rules.{rules}
 use Rattle.answers.proofs.node.list.Goals as goal
 
 pub returns-then-start-len : goal.returns-then-start-len

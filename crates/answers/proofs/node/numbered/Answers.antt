@@ -1,5 +1,4 @@
 -- `answers::node::numbered` meets its contract.
-use borrow.Author.Rules.{rules}
 use Rattle.answers.proofs.node.numbered.Goals as goal
 
 pub returns-in-Known : goal.returns-in-Known

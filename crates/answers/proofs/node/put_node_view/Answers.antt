@@ -5,7 +5,6 @@ use Rattle.image.proofs.Views.{payload_by, strings_by}
 use Rattle.views.proofs.Answers.{view-missing, view-found}
 use Rattle.answers.specs.NodeViewWords.{node_answer}
 use Rattle.answers.proofs.AnswerSlices.{unanswered, answered_as}
-use borrow.Author.Rules.{rules}
 use Rattle.answers.proofs.node.put_node_view.Goals as goal
 
 pub returns-in-NotFound : goal.returns-in-NotFound

@@ -4,7 +4,6 @@ use mathlib.Core.Path.{sym, ap, ◌∙◌}
 use Rattle.answers.specs.RecordWords.{words_found}
 use Rattle.answers.proofs.AnswerSlices.{unanswered, answered_as, fitting}
 use Rattle.answers.proofs.Records.{kind-missing, kind-viewed, view-short}
-use borrow.Author.Rules.{rules}
 use Rattle.answers.proofs.node.put_record_view.Goals as goal
 
 pub returns-then-answer-lt-NODE_VIEW_WORDS : goal.returns-then-answer-lt-NODE_VIEW_WORDS

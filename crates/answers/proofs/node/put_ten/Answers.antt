@@ -2,7 +2,6 @@
 use native.Mathlib.Omega.{arith}
 use lib.ListN.{length-set}
 use Rattle.answers.proofs.Records.{ten_put}
-use borrow.Author.Rules.{rules}
 use Rattle.answers.proofs.node.put_ten.Goals as goal
 
 pub bounds-out-1 : goal.bounds-out-1

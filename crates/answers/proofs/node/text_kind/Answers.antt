@@ -3,7 +3,6 @@ use mathlib.Core.Path.{refl, ap, ◌∙◌}
 use Rattle.answers.specs.RecordWords.{words_of_kind, fields_of}
 use Rattle.answers.proofs.Records.{name-fields}
 use Rattle.views.proofs.Tags.{text-absent, text-present}
-use borrow.Author.Rules.{rules}
 use Rattle.answers.proofs.node.text_kind.Goals as goal
 
 pub returns-in-Absent : goal.returns-in-Absent

@@ -1,5 +1,4 @@
 -- `answers::node::value_alone` meets its contract.
-use borrow.Author.Rules.{rules}
 use Rattle.answers.proofs.node.value_alone.Goals as goal
 
 pub returns : goal.returns

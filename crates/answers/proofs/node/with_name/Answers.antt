@@ -1,11 +1,10 @@
 -- `answers::node::with_name` meets its contract.
 use Rattle.names.specs.Names.{commands, operators, number_in}
 use native.Mathlib.Omega.{arith}
-use mathlib.Core.Path.{sym, ap, ◌∙◌}
+use mathlib.Core.Path.{ap, ◌∙◌}
 use Rattle.views.specs.Shown.{with_name}
 use Rattle.answers.specs.RecordWords.{words_found, fields_of}
 use Rattle.answers.proofs.Records.{command_found, operator_found, named_at_lem, text-named, pointer_named, assignment_named, reference-named}
-use borrow.Author.Rules.{rules}
 use Rattle.answers.proofs.node.with_name.Goals as goal
 
 pub returns-in-3 : goal.returns-in-3

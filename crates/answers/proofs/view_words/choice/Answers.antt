@@ -5,7 +5,6 @@ use Rattle.image.specs.Tags.{choice_tag}
 use Rattle.views.specs.declared.Span.{Span}
 use Rattle.answers.specs.AnswerWords.{unsigned}
 use Rattle.answers.specs.RecordWords.{text_alone}
-use borrow.Author.Rules.{rules}
 use Rattle.answers.proofs.view_words.choice.Goals as goal
 
 pub returns : goal.returns

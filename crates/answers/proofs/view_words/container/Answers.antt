@@ -2,7 +2,6 @@
 use mathlib.Core.Path.{◌≡◌, ap, ◌∙◌}
 use mir.Facts.{to_z-of_z}
 use Rattle.answers.specs.AnswerWords.{unsigned}
-use borrow.Author.Rules.{rules}
 use Rattle.answers.proofs.view_words.container.Goals as goal
 
 pub returns : goal.returns

@@ -1,5 +1,4 @@
 -- `answers::view_words::operator` meets its contract.
-use borrow.Author.Rules.{rules}
 use Rattle.answers.proofs.view_words.operator.Goals as goal
 
 pub returns : goal.returns

@@ -1,6 +1,5 @@
 -- `draft::path_list::entry_at` meets its contract.
 use mathlib.Core.Path.{refl}
-use borrow.Author.Rules.{rules}
 use Rattle.draft.proofs.PathLists.{entry-words}
 use Rattle.draft.proofs.path_list.entry_at.Goals as goal
 

@@ -1,5 +1,4 @@
 -- `draft::path_list::entry_right` meets its contract.
-use borrow.Author.Rules.{rules}
 use Rattle.draft.proofs.PathLists.{right-outside, right-flag, right-last}
 use Rattle.draft.proofs.path_list.entry_right.Goals as goal
 

@@ -1,11 +1,6 @@
 -- `draft::path_list::fill_window` meets its contract. The invariant: the nodes of the entries so far are marked, and `twice` tells whether each was new.
-use Prim.Native.Nat.{◌≤◌, ◌-◌}
-use mathlib.Core.Path.{◌≡◌}
-use lib.Dec.{eqb}
 use borrow.Author.Rules.{rules}
-use Rattle.laws.specs.Counted.{all_of}
-use Rattle.draft.specs.PathWindows.{new_within}
-use Rattle.draft.proofs.Windows.{Filled, filled-starts, filled_goes, filled-ends, once-starts, once_goes, once-ends}
+use Rattle.draft.proofs.Windows.{filled-starts, filled_goes, filled-ends, once-starts, once_goes, once-ends}
 use Rattle.draft.proofs.path_list.fill_window.Goals as goal
 
 pub loop-k-init : goal.loop-k-init

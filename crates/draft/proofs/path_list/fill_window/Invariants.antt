@@ -2,10 +2,9 @@
 use Prim.Native.Nat.{◌≤◌, ◌-◌}
 use mathlib.Core.Path.{◌≡◌}
 use lib.Dec.{eqb}
-use borrow.Author.Rules.{rules}
 use Rattle.laws.specs.Counted.{all_of}
 use Rattle.draft.specs.PathWindows.{new_within}
-use Rattle.draft.proofs.Windows.{Filled, filled-starts, filled_goes, filled-ends, once-starts, once_goes, once-ends}
+use Rattle.draft.proofs.Windows.{Filled}
 use Rattle.draft.proofs.path_list.fill_window.Given as goal
 
 abbrev pub invariant-loop-k : goal.invariant-loop-k

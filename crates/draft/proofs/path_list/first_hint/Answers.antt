@@ -1,5 +1,4 @@
 -- `draft::path_list::first_hint` meets its contract.
-use borrow.Author.Rules.{rules}
 use Rattle.draft.proofs.PathLists.{hint_starts}
 use Rattle.draft.proofs.path_list.first_hint.Goals as goal
 

@@ -1,6 +1,5 @@
 -- `draft::path_list::follows` meets its contract.
 use mathlib.Core.Path.{sym, ◌∙◌}
-use borrow.Author.Rules.{rules}
 use Rattle.draft.proofs.path_list.follows.Goals as goal
 
 pub returns-then-is_listed : goal.returns-then-is_listed

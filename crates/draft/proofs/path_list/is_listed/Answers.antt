@@ -1,6 +1,5 @@
 -- `draft::path_list::is_listed` meets its contract.
 use mathlib.Core.Path.{refl, ◌∙◌}
-use borrow.Author.Rules.{rules}
 use Rattle.draft.proofs.PathLists.{hinted_listed}
 use Rattle.draft.proofs.path_list.is_listed.Goals as goal
 

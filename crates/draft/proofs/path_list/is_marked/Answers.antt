@@ -1,6 +1,5 @@
 -- `draft::path_list::is_marked` meets its contract.
 use mathlib.Core.Path.{refl}
-use borrow.Author.Rules.{rules}
 use Rattle.draft.specs.PathWindows.{marked}
 use Rattle.draft.proofs.path_list.is_marked.Goals as goal
 

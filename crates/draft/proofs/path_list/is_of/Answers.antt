@@ -1,5 +1,4 @@
 -- `draft::path_list::is_of` meets its contract.
-use borrow.Author.Rules.{rules}
 use Rattle.draft.proofs.PathLists.{of_read, of_past}
 use Rattle.draft.proofs.path_list.is_of.Goals as goal
 

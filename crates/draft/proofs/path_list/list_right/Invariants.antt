@@ -1,12 +1,9 @@
 -- `draft::path_list::list_right_lem` meets its contract. The invariant: each entry so far is right by itself.
 use Prim.Native.Nat.{◌≤◌, ◌-◌}
-use mathlib.Core.Path.{◌≡◌, sym, ◌∙◌}
+use mathlib.Core.Path.{◌≡◌}
 use mathlib.Core.Bool.{true}
-use borrow.Author.Rules.{rules}
 use Rattle.laws.specs.Counted.{all_of}
 use Rattle.draft.specs.PathEntries.{entry_right}
-use Rattle.draft.proofs.Runs.{all_starts, all_stops, all_goes, all_ends}
-use Rattle.draft.proofs.PathLists.{list-broken, list-many, list-unfit, list-decides, list-rises, fits_read, all_inside}
 use Rattle.draft.proofs.path_list.list_right.Given as goal
 
 abbrev pub invariant-loop-k : goal.invariant-loop-k

@@ -1,5 +1,4 @@
 -- `draft::path_list::mark` meets its contract.
-use borrow.Author.Rules.{rules}
 use Rattle.draft.proofs.Windows.{mark-tells, mark-sets}
 use Rattle.draft.proofs.path_list.mark.Goals as goal
 

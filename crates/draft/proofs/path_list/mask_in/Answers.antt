@@ -1,5 +1,4 @@
 -- `draft::path_list::mask_in` meets its contract.
-use borrow.Author.Rules.{rules}
 use Rattle.draft.proofs.Windows.{mask_shifted, mask_zero}
 use Rattle.draft.proofs.path_list.mask_in.Goals as goal
 

@@ -1,5 +1,4 @@
 -- `draft::path_list::may_follow` meets its contract.
-use borrow.Author.Rules.{rules}
 use Rattle.draft.proofs.PathLists.{follow_sure, follow_divert, follow_never}
 use Rattle.draft.proofs.path_list.may_follow.Goals as goal
 

@@ -1,6 +1,5 @@
 -- `draft::path_list::next_hint` meets its contract.
 use native.Mathlib.Omega.{arith}
-use borrow.Author.Rules.{rules}
 use borrow.Author.Tests.{not-true, not-false}
 use Rattle.draft.proofs.PathLists.{hint_silent, hint_room, hint_steps, hint_stays}
 use Rattle.draft.proofs.path_list.next_hint.Goals as goal

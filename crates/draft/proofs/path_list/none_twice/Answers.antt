@@ -1,10 +1,6 @@
 -- `draft::path_list::none_twice` meets its contract. The invariant: no node of the windows so far has two entries.
-use Prim.Native.Nat.{◌≤◌, ◌-◌}
-use mathlib.Core.Path.{◌≡◌, refl}
-use mathlib.Core.Bool.{true}
+use mathlib.Core.Path.{refl}
 use borrow.Author.Rules.{rules}
-use Rattle.laws.specs.Counted.{all_of}
-use Rattle.draft.specs.PathWindows.{once_within}
 use Rattle.draft.proofs.Runs.{all_starts, all_goes}
 use Rattle.draft.proofs.Windows.{twice_found, none_found}
 use Rattle.draft.proofs.path_list.none_twice.Goals as goal

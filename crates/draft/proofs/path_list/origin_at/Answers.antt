@@ -1,5 +1,4 @@
 -- `draft::path_list::origin_at` meets its contract.
-use borrow.Author.Rules.{rules}
 use Rattle.draft.proofs.PathLists.{origin-word}
 use Rattle.draft.proofs.path_list.origin_at.Goals as goal
 

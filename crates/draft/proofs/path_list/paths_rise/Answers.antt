@@ -1,11 +1,7 @@
 -- `draft::path_list::paths_rise` meets its contract. The invariant: each of the first entries is followed by one of a later node.
-use Prim.Native.Nat.{◌≤◌, ◌-◌}
-use mathlib.Core.Path.{◌≡◌}
-use mathlib.Core.Bool.{true}
 use borrow.Author.Rules.{rules}
-use Rattle.laws.specs.Counted.{all_of}
 use Rattle.draft.proofs.Runs.{all_starts}
-use Rattle.draft.proofs.PathLists.{rises_at, rise-stops, rise_goes, rise-ends}
+use Rattle.draft.proofs.PathLists.{rise-stops, rise_goes, rise-ends}
 use Rattle.draft.proofs.path_list.paths_rise.Goals as goal
 
 pub loop-k-init : goal.loop-k-init

@@ -2,10 +2,8 @@
 use Prim.Native.Nat.{◌≤◌, ◌-◌}
 use mathlib.Core.Path.{◌≡◌}
 use mathlib.Core.Bool.{true}
-use borrow.Author.Rules.{rules}
 use Rattle.laws.specs.Counted.{all_of}
-use Rattle.draft.proofs.Runs.{all_starts}
-use Rattle.draft.proofs.PathLists.{rises_at, rise-stops, rise_goes, rise-ends}
+use Rattle.draft.proofs.PathLists.{rises_at}
 use Rattle.draft.proofs.path_list.paths_rise.Given as goal
 
 abbrev pub invariant-loop-k : goal.invariant-loop-k

@@ -1,7 +1,6 @@
 -- `draft::path_list::window_for` meets its contract.
 use mathlib.Core.Path.{sym, ◌∙◌}
 use mathlib.Core.Bool.{true≢false}
-use borrow.Author.Rules.{rules}
 use Rattle.draft.proofs.path_list.window_for.Goals as goal
 
 pub returns-then-rises : goal.returns-then-rises

@@ -1,6 +1,5 @@
 -- `draft::shape::definition_rises` meets its contract.
 use mathlib.Core.Path.{sym, ◌∙◌}
-use borrow.Author.Rules.{rules}
 use Rattle.image.proofs.RisingTexts.{rising-first, definition-rises}
 use Rattle.draft.proofs.shape.definition_rises.Goals as goal
 

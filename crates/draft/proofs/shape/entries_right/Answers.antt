@@ -1,12 +1,9 @@
 -- `draft::shape::entries_right` meets its contract. The invariant: the entries of the nodes before `i` are right.
-use Prim.Native.Nat.{◌≤◌, ◌-◌}
 use mathlib.Core.Path.{◌≡◌, refl, sym, ◌∙◌}
-use mathlib.Core.Logic.{⊎_elim}
 use mathlib.Core.List.{[]}
 use native.Mathlib.Omega.{arith}
 use borrow.Author.Rules.{rules}
 use borrow.Author.Tests.{not-false, eqb-true, eq-eqb}
-use Rattle.laws.specs.Refusal.{first_of}
 use Rattle.laws.proofs.Chains.{first_done}
 use Rattle.laws.proofs.RuleRuns.{run_starts, run_goes}
 use Rattle.image.proofs.Widths.{words-some}

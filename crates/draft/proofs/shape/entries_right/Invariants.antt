@@ -1,20 +1,10 @@
 -- `draft::shape::entries_right` meets its contract. The invariant: the entries of the nodes before `i` are right.
 use Prim.Native.Nat.{◌≤◌, ◌-◌}
-use mathlib.Core.Path.{◌≡◌, refl, sym, ◌∙◌}
-use mathlib.Core.Logic.{⊎_elim}
+use mathlib.Core.Path.{◌≡◌}
 use mathlib.Core.List.{[]}
-use native.Mathlib.Omega.{arith}
-use borrow.Author.Rules.{rules}
-use borrow.Author.Tests.{not-false, eqb-true, eq-eqb}
 use Rattle.laws.specs.Refusal.{first_of}
-use Rattle.laws.proofs.Chains.{first_done}
-use Rattle.laws.proofs.RuleRuns.{run_starts, run_goes}
-use Rattle.image.proofs.Widths.{words-some}
 use Rattle.tree.specs.Tree.{entries_rule}
 use Rattle.draft.specs.Source.{draft_of}
-use Rattle.draft.proofs.NodeCount.{below-count, upto-count, past-count}
-use Rattle.draft.proofs.Runs.{passes-stops}
-use Rattle.draft.proofs.Relations.{plain-entries}
 use Rattle.draft.proofs.shape.entries_right.Given as goal
 
 abbrev pub invariant-loop-i : goal.invariant-loop-i

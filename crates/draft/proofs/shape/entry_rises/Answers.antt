@@ -1,6 +1,5 @@
 -- `draft::shape::entry_rises` meets its contract.
 use mathlib.Core.Path.{sym, ◌∙◌}
-use borrow.Author.Rules.{rules}
 use Rattle.image.proofs.RisingTexts.{rising-first, entry-rises}
 use Rattle.draft.proofs.shape.entry_rises.Goals as goal
 

@@ -1,11 +1,5 @@
 -- `draft::shape::items_rise` meets its contract. The invariant: the tests so far pass.
-use Prim.Native.Nat.{◌≤◌, ◌-◌}
-use mathlib.Core.Path.{◌≡◌}
-use mathlib.Core.Bool.{true}
 use borrow.Author.Rules.{rules}
-use Rattle.laws.specs.Counted.{all_of}
-use Rattle.texts.specs.Text.{rising}
-use Rattle.image.specs.Entries.{entry_text_from}
 use Rattle.draft.proofs.Runs.{all_starts, all_stops, all_goes, all_ends}
 use Rattle.draft.proofs.shape.items_rise.Goals as goal
 

@@ -2,11 +2,9 @@
 use Prim.Native.Nat.{◌≤◌, ◌-◌}
 use mathlib.Core.Path.{◌≡◌}
 use mathlib.Core.Bool.{true}
-use borrow.Author.Rules.{rules}
 use Rattle.laws.specs.Counted.{all_of}
 use Rattle.texts.specs.Text.{rising}
 use Rattle.image.specs.Entries.{entry_text_from}
-use Rattle.draft.proofs.Runs.{all_starts, all_stops, all_goes, all_ends}
 use Rattle.draft.proofs.shape.items_rise.Given as goal
 
 abbrev pub invariant-loop-j : goal.invariant-loop-j

@@ -1,6 +1,5 @@
 -- `draft::shape::node_entries_right` meets its contract.
 use mathlib.Core.List.{[]}
-use borrow.Author.Rules.{rules}
 use Rattle.draft.proofs.NodeTable.{node_is}
 use Rattle.draft.proofs.Relations.{plain-node, children-range, named-range, wrong-children, by_named}
 use Rattle.draft.proofs.shape.node_entries_right.Goals as goal

@@ -1,5 +1,4 @@
 -- `draft::shape::order_rule` meets its contract.
-use borrow.Author.Rules.{rules}
 use Rattle.draft.proofs.Relations.{definition-falls, items-range, items-rise, items_fall}
 use Rattle.draft.proofs.shape.order_rule.Goals as goal
 

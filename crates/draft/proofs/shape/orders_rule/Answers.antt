@@ -1,13 +1,7 @@
 -- `draft::shape::orders_rule` meets its contract. The invariant: the definitions before `d` pass.
-use Prim.Native.Nat.{◌≤◌, ◌-◌}
-use mathlib.Core.Path.{◌≡◌}
-use mathlib.Core.List.{[]}
 use borrow.Author.Rules.{rules}
-use Rattle.laws.specs.Refusal.{first_of}
 use Rattle.laws.proofs.Chains.{first-broken, first_done}
 use Rattle.laws.proofs.RuleRuns.{run_starts, run_goes}
-use Rattle.draft.specs.Source.{draft_of}
-use Rattle.draft.specs.Draft.{order_rule}
 use Rattle.draft.proofs.shape.orders_rule.Goals as goal
 
 pub loop-d-init : goal.loop-d-init

@@ -1,7 +1,6 @@
 -- `draft::shape::relation_rule` meets its contract.
 use mathlib.Core.List.{[]}
 use mathlib.Core.Path.{◌∙◌}
-use borrow.Author.Rules.{rules}
 use Rattle.records.proofs.ByKind.{shown-parent}
 use Rattle.draft.proofs.NodeTable.{node_is}
 use Rattle.draft.proofs.Relations.{parent-told, wrong-parent, right-node, wrong-entries}

@@ -2,13 +2,9 @@
 use Prim.Native.Nat.{◌≤◌, ◌-◌}
 use mathlib.Core.Path.{◌≡◌}
 use mathlib.Core.List.{[]}
-use borrow.Author.Rules.{rules}
 use Rattle.laws.specs.Refusal.{first_of}
-use Rattle.laws.proofs.Chains.{first-broken, first_done}
-use Rattle.laws.proofs.RuleRuns.{run_starts, run_goes}
 use Rattle.draft.specs.Source.{draft_of}
 use Rattle.draft.specs.Draft.{relation_rule}
-use Rattle.draft.proofs.NodeCount.{below-count, upto-count, past-count}
 use Rattle.draft.proofs.shape.relations_rule.Given as goal
 
 abbrev pub invariant-loop-i : goal.invariant-loop-i

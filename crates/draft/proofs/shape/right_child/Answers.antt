@@ -1,6 +1,5 @@
 -- `draft::shape::right_child` meets its contract.
 use native.Mathlib.Omega.{arith}
-use borrow.Author.Rules.{rules}
 use borrow.Author.Tests.{not-false}
 use Rattle.image.proofs.Widths.{words-some}
 use Rattle.draft.proofs.NodeCount.{among-count, among_below}

@@ -1,10 +1,7 @@
 -- `draft::shape::right_children` meets its contract. The invariant: the tests so far pass.
-use Prim.Native.Nat.{ℕ, ◌≤◌, ◌-◌, ◌+◌}
-use mathlib.Core.Path.{◌≡◌, ap, ◌∙◌}
-use mathlib.Core.Bool.{true}
+use Prim.Native.Nat.{ℕ}
+use mathlib.Core.Path.{ap, ◌∙◌}
 use borrow.Author.Rules.{rules}
-use Rattle.laws.specs.Counted.{all_of}
-use lib.ListN.{get_or}
 use mathlib.Core.List.{[]}
 use Rattle.tree.specs.Tree.{right_child}
 use Rattle.draft.specs.Source.{draft_of}

@@ -1,14 +1,12 @@
 -- `draft::shape::right_children` meets its contract. The invariant: the tests so far pass.
-use Prim.Native.Nat.{ℕ, ◌≤◌, ◌-◌, ◌+◌}
-use mathlib.Core.Path.{◌≡◌, ap, ◌∙◌}
+use Prim.Native.Nat.{◌≤◌, ◌-◌, ◌+◌}
+use mathlib.Core.Path.{◌≡◌}
 use mathlib.Core.Bool.{true}
-use borrow.Author.Rules.{rules}
 use Rattle.laws.specs.Counted.{all_of}
 use lib.ListN.{get_or}
 use mathlib.Core.List.{[]}
 use Rattle.tree.specs.Tree.{right_child}
 use Rattle.draft.specs.Source.{draft_of}
-use Rattle.draft.proofs.Runs.{all_starts, all_stops, all_goes, all_ends}
 use Rattle.draft.proofs.shape.right_children.Given as goal
 
 abbrev pub invariant-loop-j : goal.invariant-loop-j

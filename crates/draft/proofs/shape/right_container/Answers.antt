@@ -1,6 +1,5 @@
 -- `draft::shape::right_container` meets its contract.
 use native.Mathlib.Omega.{arith}
-use borrow.Author.Rules.{rules}
 use Rattle.image.proofs.Widths.{words-some}
 use Rattle.draft.proofs.Relations.{no_container_lem, its_container, container-there}
 use Rattle.draft.proofs.shape.right_container.Goals as goal

@@ -1,10 +1,5 @@
 -- `draft::shape::right_entries` meets its contract. The invariant: the tests so far pass.
-use Prim.Native.Nat.{◌≤◌, ◌-◌}
-use mathlib.Core.Path.{◌≡◌}
-use mathlib.Core.Bool.{true}
 use borrow.Author.Rules.{rules}
-use Rattle.laws.specs.Counted.{all_of}
-use Rattle.draft.specs.Shown.{named_right}
 use Rattle.draft.proofs.Runs.{all_starts, all_stops, all_goes, all_ends}
 use Rattle.draft.proofs.shape.right_entries.Goals as goal
 

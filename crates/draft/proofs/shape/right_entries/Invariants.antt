@@ -2,10 +2,8 @@
 use Prim.Native.Nat.{◌≤◌, ◌-◌}
 use mathlib.Core.Path.{◌≡◌}
 use mathlib.Core.Bool.{true}
-use borrow.Author.Rules.{rules}
 use Rattle.laws.specs.Counted.{all_of}
 use Rattle.draft.specs.Shown.{named_right}
-use Rattle.draft.proofs.Runs.{all_starts, all_stops, all_goes, all_ends}
 use Rattle.draft.proofs.shape.right_entries.Given as goal
 
 abbrev pub invariant-loop-j : goal.invariant-loop-j

@@ -1,5 +1,4 @@
 -- `draft::shape::right_entry` meets its contract.
-use borrow.Author.Rules.{rules}
 use Rattle.draft.proofs.Relations.{entry-falls, entry-leads}
 use Rattle.draft.proofs.shape.right_entry.Goals as goal
 

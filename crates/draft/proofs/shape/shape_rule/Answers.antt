@@ -1,6 +1,5 @@
 -- `draft::shape::shape_rule` meets its contract.
 use mathlib.Core.Path.{◌∙◌}
-use borrow.Author.Rules.{rules}
 use Rattle.records.proofs.ByKind.{shown-root}
 use Rattle.draft.proofs.NodeTable.{node_is}
 use Rattle.draft.proofs.Row21.{tree-passed, lists-passed, wrong-root, wrong_relation, orders_decide}

@@ -1,6 +1,5 @@
 -- `draft::source::definition_at` meets its contract.
 use Rattle.image.specs.Entries.{definition_of}
-use borrow.Author.Rules.{rules}
 use Rattle.draft.proofs.source.definition_at.Goals as goal
 
 pub returns : goal.returns

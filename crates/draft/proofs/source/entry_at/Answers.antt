@@ -1,6 +1,5 @@
 -- `draft::source::entry_at` meets its contract.
 use Rattle.image.specs.Entries.{text_entry_of}
-use borrow.Author.Rules.{rules}
 use Rattle.draft.proofs.source.entry_at.Goals as goal
 
 pub returns : goal.returns

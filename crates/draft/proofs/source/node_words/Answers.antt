@@ -1,6 +1,5 @@
 -- `draft::source::node_words` meets its contract.
 use native.Mathlib.Omega.{arith}
-use borrow.Author.Rules.{rules}
 use Rattle.draft.proofs.source.node_words.Goals as goal
 
 pub returns : goal.returns

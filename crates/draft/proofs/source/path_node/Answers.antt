@@ -4,7 +4,6 @@ use mathlib.Core.Path.{◌≡◌}
 use mathlib.Core.List.{List}
 use native.Mathlib.Omega.{arith}
 use lib.ListN.{get_or}
-use borrow.Author.Rules.{rules}
 use Rattle.image.specs.Sections.{node_words}
 use Rattle.image.proofs.Widths.{number-words}
 use Rattle.draft.specs.declared.source.PathNode.{PathNode}

@@ -1,6 +1,5 @@
 -- `draft::source::record_at` meets its contract.
 use Rattle.image.specs.Entries.{record_of}
-use borrow.Author.Rules.{rules}
 use Rattle.draft.proofs.source.record_at.Goals as goal
 
 pub returns : goal.returns

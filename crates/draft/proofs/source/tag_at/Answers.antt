@@ -1,7 +1,6 @@
 -- `draft::source::tag_at` meets its contract.
 use mathlib.Core.Path.{refl}
 use native.Mathlib.Omega.{arith}
-use borrow.Author.Rules.{rules}
 use Rattle.laws.proofs.Cases.{flag_yes, flag_no}
 use Rattle.image.specs.Sections.{node_word}
 use Rattle.records.specs.Shown.{tag_in}

@@ -4,7 +4,6 @@ use mathlib.Core.Path.{ap, ◌∙◌}
 use native.Mathlib.Omega.{arith}
 use native.Mathlib.Nat.{mul-le-mul_left}
 use lib.ListN.{get_or}
-use borrow.Author.Rules.{rules}
 use Rattle.image.specs.Sections.{most_words, node_words}
 use Rattle.image.proofs.Widths.{width}
 use Rattle.draft.proofs.source.word_of.Goals as goal

@@ -1,16 +1,8 @@
 -- `draft::tables::children_rule` meets its contract. The invariant: the children before `j` pass.
-use Prim.Native.Nat.{ℕ, ◌/◌, ◌≤◌, ◌-◌}
-use mathlib.Core.Path.{◌≡◌}
-use mathlib.Core.List.{[]}
 use native.Mathlib.Omega.{arith}
-use lib.ListN.{length}
 use borrow.Author.Rules.{rules}
-use Rattle.laws.specs.Refusal.{first_of}
 use Rattle.laws.proofs.Chains.{first_done}
 use Rattle.laws.proofs.RuleRuns.{run_starts}
-use Rattle.image.specs.Sections.{node_words}
-use Rattle.draft.specs.Source.{draft_of}
-use Rattle.draft.specs.Draft.{draft_child_rule}
 use Rattle.draft.proofs.EntryTables.{child-told, test-stops, test_goes}
 use Rattle.draft.proofs.tables.children_rule.Goals as goal
 

@@ -1,6 +1,5 @@
 -- `draft::tables::definition_rule` meets its contract.
 use mathlib.Core.Path.{refl}
-use borrow.Author.Rules.{rules}
 use borrow.Author.Tests.{eq-eqb, ne_eqb}
 use Rattle.laws.proofs.Chains.{stop, go}
 use Rattle.records.proofs.Tests.{past_end, in_end}

@@ -1,14 +1,11 @@
 -- `draft::tables::definitions_rule` meets its contract. The invariant: the definitions before `d` pass, and `used` is how many items they
 use Prim.Native.Nat.{◌≤◌, ◌-◌}
-use mathlib.Core.Path.{◌≡◌, refl, sym, ◌∙◌}
+use mathlib.Core.Path.{◌≡◌}
 use mathlib.Core.List.{[]}
-use borrow.Author.Rules.{rules}
 use Rattle.laws.specs.Refusal.{first_of}
-use Rattle.laws.proofs.RuleRuns.{run_starts, sum_starts, run_goes}
 use Rattle.definitions.specs.Definitions.{items_before}
 use Rattle.draft.specs.Source.{draft_of}
 use Rattle.draft.specs.Draft.{draft_definition_rule}
-use Rattle.draft.proofs.EntryTables.{definition-told, used-next, definitions-stop, items-used, items_left}
 use Rattle.draft.proofs.tables.definitions_rule.Given as goal
 
 abbrev pub invariant-loop-d : goal.invariant-loop-d

@@ -1,6 +1,5 @@
 -- `draft::tables::entry_rule` meets its contract.
 use mathlib.Core.Path.{refl}
-use borrow.Author.Rules.{rules}
 use Rattle.laws.proofs.Chains.{stop, go}
 use Rattle.draft.proofs.EntryTables.{last_yes, last_no}
 use Rattle.draft.proofs.tables.entry_rule.Goals as goal

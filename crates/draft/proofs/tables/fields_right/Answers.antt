@@ -1,6 +1,5 @@
 -- `draft::tables::fields_right` meets its contract.
 use mathlib.Core.Path.{ap}
-use borrow.Author.Rules.{rules}
 use Rattle.laws.specs.Refusal.{passes}
 use Rattle.draft.proofs.tables.fields_right.Goals as goal
 

@@ -1,5 +1,4 @@
 -- `draft::tables::follower_right` meets its contract.
-use borrow.Author.Rules.{rules}
 use Rattle.draft.proofs.PathTables.{choice-right, divert-wrong, divert-right, reference-wrong, reference-right, target_right}
 use Rattle.draft.proofs.tables.follower_right.Goals as goal
 

@@ -2,14 +2,9 @@
 use Prim.Native.Nat.{◌≤◌, ◌-◌}
 use mathlib.Core.Path.{◌≡◌}
 use mathlib.Core.List.{[]}
-use native.Mathlib.Omega.{arith}
-use borrow.Author.Rules.{rules}
 use Rattle.laws.specs.Refusal.{first_of}
-use Rattle.laws.proofs.Chains.{first_done}
-use Rattle.laws.proofs.RuleRuns.{run_starts}
 use Rattle.draft.specs.Source.{draft_of}
 use Rattle.draft.specs.Draft.{draft_item_rule}
-use Rattle.draft.proofs.EntryTables.{item-told, test-stops, test_goes}
 use Rattle.draft.proofs.tables.items_rule.Given as goal
 
 abbrev pub invariant-loop-j : goal.invariant-loop-j

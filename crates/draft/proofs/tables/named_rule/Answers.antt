@@ -1,15 +1,7 @@
 -- `draft::tables::named_rule` meets its contract. The invariant: the entries before `j` pass.
-use Prim.Native.Nat.{ℕ, ◌/◌, ◌≤◌, ◌-◌}
-use mathlib.Core.Path.{◌≡◌}
-use mathlib.Core.List.{[]}
 use borrow.Author.Rules.{rules}
-use Rattle.laws.specs.Refusal.{first_of}
 use Rattle.laws.proofs.Chains.{first-broken, first_done}
 use Rattle.laws.proofs.RuleRuns.{run_starts, run_goes}
-use lib.ListN.{length}
-use Rattle.image.specs.Sections.{node_words}
-use Rattle.draft.specs.Source.{draft_of}
-use Rattle.draft.specs.Draft.{draft_named_rule}
 use Rattle.draft.proofs.EntryTables.{entry-told}
 use Rattle.draft.proofs.tables.named_rule.Goals as goal
 

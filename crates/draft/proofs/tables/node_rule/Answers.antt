@@ -1,6 +1,5 @@
 -- `draft::tables::node_rule` meets its contract.
 use mathlib.Core.Path.{refl}
-use borrow.Author.Rules.{rules}
 use Rattle.laws.proofs.Chains.{stop, go}
 use Rattle.draft.proofs.NodeTable.{parent-root, parent-inside, parent-outside}
 use Rattle.draft.proofs.tables.node_rule.Goals as goal

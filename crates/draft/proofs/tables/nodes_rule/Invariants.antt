@@ -1,16 +1,9 @@
 -- `draft::tables::nodes_rule` meets its contract. The invariant: the nodes before `i` pass, the sums are theirs, and the hint and the window are for `i`.
 use Prim.Native.Nat.{◌≤◌, ◌-◌}
-use mathlib.Core.Path.{sym, ◌∙◌}
-use native.Mathlib.Omega.{arith}
-use borrow.Author.Rules.{rules}
-use Rattle.records.proofs.ByKind.{shown-used}
-use Rattle.draft.specs.Source.{NodesFrom, draft_of}
+use Rattle.draft.specs.Source.{draft_of}
 use Rattle.draft.specs.PathEntries.{Hinted}
 use Rattle.draft.specs.PathWindows.{Ready}
-use Rattle.draft.proofs.PathTables.{follows_is, path-sums}
-use Rattle.draft.proofs.NodeTable.{Passing, passing-start, passing-next, given, count_is, node-rules, few, fields-pass, node_is, refused-here, all_summed, all_used, left_over}
-use Rattle.draft.proofs.Windows.{ready-starts, ready_goes}
-use Rattle.draft.proofs.NodeCount.{below-count, upto-count, past-count}
+use Rattle.draft.proofs.NodeTable.{Passing}
 use Rattle.draft.proofs.tables.nodes_rule.Given as goal
 
 abbrev pub invariant-loop-i : goal.invariant-loop-i

@@ -1,6 +1,5 @@
 -- `draft::tables::path_tables_rule` meets its contract.
 use mathlib.Core.Path.{sym, ◌∙◌}
-use borrow.Author.Rules.{rules}
 use Rattle.draft.proofs.Row19.{broken-entries, nodes-refused, children-refused, named-refused, definitions-refused, items_decide}
 use Rattle.draft.proofs.tables.tables_rule.Goals as goal
 

@@ -1,6 +1,5 @@
 -- `draft::tables::whole_entries` meets its contract.
 use native.Mathlib.Omega.{arith}
-use borrow.Author.Rules.{rules}
 use borrow.Author.Tests.{eq-eqb, ne_eqb}
 use Rattle.image.proofs.Widths.{words-some}
 use Rattle.draft.specs.Draft.{whole_entries}

@@ -1,5 +1,4 @@
 -- `draft_tree::listed::all_listed` meets its contract.
-use borrow.Author.Rules.{rules}
 use Rattle.draft_tree.proofs.Marks.{children-inside, named-inside, all_told}
 use Rattle.draft_tree.proofs.listed.all_listed.Goals as goal
 

@@ -1,9 +1,7 @@
 -- `draft_tree::listed::all_ones` meets its contract. The invariant: the words before `i` are marked.
-use Prim.Native.Nat.{ℕ, ◌<◌, ◌-◌}
 use native.Mathlib.Omega.{arith}
-use mathlib.Core.Path.{◌≡◌, refl, sym}
+use mathlib.Core.Path.{refl, sym}
 use mathlib.Core.Bool.{true≢false}
-use lib.ListN.{get_or}
 use Rattle.draft_tree.proofs.Marks.{ones-more, ones_all}
 use borrow.Author.Rules.{rules}
 use Rattle.draft_tree.proofs.listed.all_ones.Goals as goal

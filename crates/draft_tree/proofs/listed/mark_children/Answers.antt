@@ -1,5 +1,5 @@
 -- `draft_tree::listed::mark_children` meets its contract. The invariant: the first children are marked.
-use Prim.Native.Nat.{ℕ, ◌≤◌, ◌<◌, ◌-◌}
+use Prim.Native.Nat.{ℕ, ◌<◌}
 use native.Mathlib.Omega.{arith}
 use mathlib.Core.Path.{◌≡◌, refl, subst}
 use lib.ListN.{length, get_or}

@@ -1,11 +1,8 @@
 -- `draft_tree::listed::mark_children` meets its contract. The invariant: the first children are marked.
-use Prim.Native.Nat.{ℕ, ◌≤◌, ◌<◌, ◌-◌}
-use native.Mathlib.Omega.{arith}
-use mathlib.Core.Path.{◌≡◌, refl, subst}
+use Prim.Native.Nat.{◌≤◌, ◌-◌}
+use mathlib.Core.Path.{◌≡◌}
 use lib.ListN.{length, get_or}
 use Rattle.draft_tree.specs.Standing.{MarkedAmong}
-use Rattle.draft_tree.proofs.Marks.{none-marked, one_marked}
-use borrow.Author.Rules.{rules}
 use Rattle.draft_tree.proofs.listed.mark_children.Given as goal
 
 abbrev pub invariant-loop-j : goal.invariant-loop-j

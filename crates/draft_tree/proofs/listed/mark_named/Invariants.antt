@@ -1,12 +1,9 @@
 -- `draft_tree::listed::mark_named` meets its contract. The invariant: the nodes of the first entries are marked.
-use Prim.Native.Nat.{ℕ, ◌+◌, ◌*◌, ◌/◌, ◌≤◌, ◌<◌, ◌-◌}
-use native.Mathlib.Omega.{arith}
-use mathlib.Core.Path.{◌≡◌, refl, subst}
+use Prim.Native.Nat.{◌+◌, ◌*◌, ◌≤◌, ◌-◌}
+use mathlib.Core.Path.{◌≡◌}
 use lib.ListN.{length, get_or}
 use Rattle.image.specs.Sections.{text_entry_words}
 use Rattle.draft_tree.specs.Standing.{MarkedAmong}
-use Rattle.draft_tree.proofs.Marks.{none-marked, one_marked}
-use borrow.Author.Rules.{rules}
 use Rattle.draft_tree.proofs.listed.mark_named.Given as goal
 
 abbrev pub invariant-loop-j : goal.invariant-loop-j

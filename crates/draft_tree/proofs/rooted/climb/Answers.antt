@@ -1,12 +1,9 @@
 -- `draft_tree::rooted::climb` meets its contract. The measure: how many words are still 1.
 use mathlib.Core.Path.{refl}
-use mathlib.Core.List.{[]}
 use native.Mathlib.Omega.{arith}
-use borrow.Author.Rules.{rules}
 use Rattle.image.specs.Sections.{node_word}
 use Rattle.image.proofs.Widths.{words-some}
-use Rattle.draft.specs.Source.{draft_of}
-use Rattle.draft_tree.proofs.Climbs.{Climbing, ones, climb-start, climb-less, climb-answer, climb-next}
+use Rattle.draft_tree.proofs.Climbs.{climb-start, climb-less, climb-answer, climb-next}
 use Rattle.draft_tree.proofs.rooted.climb.Goals as goal
 
 pub loop-work-init : goal.loop-work-init

@@ -1,7 +1,6 @@
 -- `draft_tree::rooted::is_open` meets its contract.
 use mathlib.Core.Path.{refl}
 use native.Mathlib.Omega.{arith}
-use borrow.Author.Rules.{rules}
 use Rattle.image.proofs.Widths.{words-some}
 use Rattle.draft_tree.proofs.Climbs.{no_container_lem, container_open}
 use Rattle.draft_tree.proofs.rooted.is_open.Goals as goal

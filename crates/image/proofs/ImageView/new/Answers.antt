@@ -2,7 +2,6 @@
 use mathlib.Core.Path.{sym, ◌∙◌}
 use Rattle.image.proofs.Rows.{opened-refused, opened_view}
 use Rattle.image.proofs.OpenedHeader.{opens}
-use borrow.Author.Rules.{rules}
 use Rattle.image.proofs.ImageView.new.Goals as goal
 
 pub returns-then-refusal-ne0 : goal.returns-then-refusal-ne0

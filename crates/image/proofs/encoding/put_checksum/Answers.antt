@@ -1,6 +1,5 @@
 -- `image::encoding::put_checksum` meets its contract.
 use Rattle.image.proofs.HeaderBytes.{sum_put}
-use borrow.Author.Rules.{rules}
 use Rattle.image.proofs.encoding.put_checksum.Goals as goal
 
 pub returns : goal.returns

@@ -1,7 +1,6 @@
 -- `image::encoding::put_header` meets its contract.
 use Rattle.image.proofs.HeaderBytes.{counts_fit, starts_fit, header_put}
 use native.Mathlib.Omega.{arith}
-use borrow.Author.Rules.{rules}
 use Rattle.image.proofs.encoding.put_header.Goals as goal
 
 pub overflow_cast-words : goal.overflow_cast-words

@@ -1,10 +1,8 @@
 -- `image::encoding::put_magic` meets its contract.
-use Prim.Native.Nat.{◌-◌}
 use mathlib.Core.Path.{refl}
 use Rattle.texts.specs.Text.{ascii}
 use Rattle.image.specs.Header.{magic}
-use Rattle.image.proofs.HeaderBytes.{Copying, copy_start, copy_more, copy_end}
-use borrow.Author.Rules.{rules}
+use Rattle.image.proofs.HeaderBytes.{copy_start, copy_more, copy_end}
 use Rattle.image.proofs.encoding.put_magic.Goals as goal
 
 pub loop-i-init : goal.loop-i-init

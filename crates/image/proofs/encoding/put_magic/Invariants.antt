@@ -1,10 +1,6 @@
 -- `image::encoding::put_magic` meets its contract.
 use Prim.Native.Nat.{◌-◌}
-use mathlib.Core.Path.{refl}
-use Rattle.texts.specs.Text.{ascii}
-use Rattle.image.specs.Header.{magic}
-use Rattle.image.proofs.HeaderBytes.{Copying, copy_start, copy_more, copy_end}
-use borrow.Author.Rules.{rules}
+use Rattle.image.proofs.HeaderBytes.{Copying}
 use Rattle.image.proofs.encoding.put_magic.Given as goal
 
 abbrev pub invariant-loop-i : goal.invariant-loop-i

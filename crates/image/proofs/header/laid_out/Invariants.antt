@@ -1,11 +1,9 @@
 -- `image::header::laid_out_lem` meets its contract. The loop's invariant: the table is that of the definition, the sections before k are right, and the last of them ends at `end`.
 use Prim.Native.Nat.{◌-◌}
-use native.Mathlib.Omega.{arith}
-use borrow.Author.Rules.{rules}
-use Rattle.words.specs.Words.{NONE, word_at}
-use mathlib.Core.Path.{◌≡◌, ap, ◌∙◌}
+use Rattle.words.specs.Words.{word_at}
+use mathlib.Core.Path.{◌≡◌}
 use Rattle.image.specs.Header.{sizes, version_at}
-use Rattle.image.proofs.Rows.{Laid, laid-start, laid-elsewhere, laid_more, laid-empty, laid-right, table-size, table-bound, table-past, table-next}
+use Rattle.image.proofs.Rows.{Laid}
 use Rattle.image.proofs.header.laid_out.Given as goal
 
 abbrev pub invariant-loop-k : goal.invariant-loop-k

@@ -10,7 +10,6 @@ use Rattle.words.specs.Words.{word_at}
 use Rattle.texts.specs.Text.{ascii}
 use Rattle.image.specs.Header.{magic, version_right, headed, ink_right, laid_out, header_rule}
 use Rattle.image.proofs.Rows.{row_short, row_magic, row_version, row_ink, row_length, row_layout, headed_by}
-use borrow.Author.Rules.{rules}
 use Rattle.image.proofs.header.refusal_of.Goals as goal
 
 pub returns-then-bytes-lt-HEADER_LENGTH : goal.returns-then-bytes-lt-HEADER_LENGTH

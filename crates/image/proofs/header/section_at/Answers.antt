@@ -1,5 +1,4 @@
 -- `image::header::section_at` meets its contract.
-use borrow.Author.Rules.{rules}
 use Rattle.image.proofs.header.section_at.Goals as goal
 
 pub returns : goal.returns

@@ -1,6 +1,5 @@
 -- `image::header::view_at` meets its contract.
 use Rattle.image.specs.Header.{view_of}
-use borrow.Author.Rules.{rules}
 use Rattle.image.proofs.header.view_at.Goals as goal
 
 pub returns : goal.returns

@@ -2,7 +2,6 @@
 use mathlib.Core.Path.{◌∙◌}
 use Rattle.words.specs.Words.{words_of}
 use Rattle.image.proofs.RisingTexts.{definition-rises}
-use borrow.Author.Rules.{rules}
 use Rattle.image.proofs.order.definition_rises.Goals as goal
 
 pub returns : goal.returns

@@ -3,7 +3,6 @@ use mathlib.Core.Path.{◌∙◌, sym}
 use Rattle.words.specs.Words.{words_of}
 use Rattle.image.proofs.RisingTexts.{entry-rises}
 use Rattle.image.proofs.RisingTexts.{rising-first}
-use borrow.Author.Rules.{rules}
 use Rattle.image.proofs.order.entry_rises.Goals as goal
 
 pub returns-then-place-eq0 : goal.returns-then-place-eq0

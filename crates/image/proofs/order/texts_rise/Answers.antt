@@ -1,6 +1,5 @@
 -- `image::order::texts_rise` meets its contract.
 use mathlib.Core.Path.{◌∙◌}
-use borrow.Author.Rules.{rules}
 use Rattle.image.proofs.order.texts_rise.Goals as goal
 
 pub returns : goal.returns

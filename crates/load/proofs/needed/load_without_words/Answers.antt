@@ -1,6 +1,5 @@
 -- `load::needed::load_without_words` meets its contract.
 use Rattle.load.proofs.Numbered.{viewed, refused}
-use borrow.Author.Rules.{rules}
 use Rattle.load.proofs.needed.load_without_words.Goals as goal
 
 pub returns-in-View : goal.returns-in-View

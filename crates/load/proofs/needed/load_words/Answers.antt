@@ -1,6 +1,5 @@
 -- `load::needed::load_words` meets its contract.
 use Rattle.load.proofs.WorkWords.{none_to_load, some_to_load}
-use borrow.Author.Rules.{rules}
 use Rattle.load.proofs.needed.load_words.Goals as goal
 
 pub returns-in-Refused : goal.returns-in-Refused

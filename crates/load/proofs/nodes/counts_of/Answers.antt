@@ -1,5 +1,4 @@
 -- `load::nodes::counts_of` meets its contract.
-use borrow.Author.Rules.{rules}
 use Rattle.load.proofs.SectionReads.{counts-read}
 use Rattle.load.proofs.nodes.counts_of.Goals as goal
 

@@ -1,6 +1,5 @@
 -- `load::nodes::left_over` meets its contract.
 use mathlib.Core.Path.{ap, ◌∙◌}
-use borrow.Author.Rules.{rules}
 use Rattle.image.specs.declared.EntryCounts.{EntryCounts}
 use Rattle.records.proofs.ByKind.{shown-used}
 use Rattle.records.specs.declared.Sums.{Sums}

@@ -1,6 +1,5 @@
 -- `load::nodes::node_rule` meets its contract: the parent's rule, then the fields'.
 use Rattle.load.proofs.NodeLoop.{parent-broken, parent-kept}
-use borrow.Author.Rules.{rules}
 use Rattle.load.proofs.nodes.node_rule.Goals as goal
 
 pub returns-then-wrong-ne0 : goal.returns-then-wrong-ne0

@@ -1,14 +1,11 @@
 -- `load::nodes::nodes_rule` meets its contract. The invariant: of any sections that are read from the parts, the nodes before `i` pass,
-use Prim.Native.Nat.{◌≤◌, ◌-◌}
-use mathlib.Core.Path.{◌≡◌, refl, sym, ◌∙◌}
+use mathlib.Core.Path.{sym, ◌∙◌}
 use borrow.Author.Rules.{rules}
 use native.Mathlib.Omega.{arith}
-use Rattle.image.specs.Sections.{Sections}
 use Rattle.image.specs.Header.{sections_by}
-use Rattle.records.specs.Records.{node_rule}
 use Rattle.load.specs.Nodes.{ReadFrom}
 use Rattle.records.proofs.PassedRules.{shown-sums}
-use Rattle.load.proofs.NodeLoop.{shown-node, Passing, passing-start, passing-next, read-from, few, refused-here, all_passed, fields-pass, node-below, node-upto, node-past, node-there, node_is}
+use Rattle.load.proofs.NodeLoop.{shown-node, passing-start, passing-next, read-from, few, refused-here, all_passed, fields-pass, node-below, node-upto, node-past, node-there, node_is}
 use Rattle.load.proofs.nodes.nodes_rule.Goals as goal
 
 pub loop-i-init : goal.loop-i-init

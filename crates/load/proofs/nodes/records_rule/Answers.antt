@@ -9,7 +9,6 @@ use Rattle.records.specs.Records.{root_right}
 use Rattle.load.proofs.Rows.{root-wrong, short-root, nodes-refused, nodes-passed, passed-sums}
 use native.Mathlib.Omega.{arith}
 use Rattle.records.proofs.ByKind.{shown-root}
-use borrow.Author.Rules.{rules}
 use Rattle.load.proofs.nodes.records_rule.Goals as goal
 
 pub returns-then-node_count-eq0 : goal.returns-then-node_count-eq0
@@ -21,7 +20,7 @@ node_record-requires c = let some = c.node_count.ensures in omega arith
 pub returns-then-not-root_right : goal.returns-then-not-root_right
 returns-then-not-root_right c =
     let rooted : c.root_right.result ≡ root_right (sections_by c.args.bytes.now c.args.view) =
-      let at = c in
+    let at = c in
     let ns = c.nodes_part-nodes.ensures in
     c.root_right.ensures
     ∙ shown-root _ _ (c.node_record.ensures ∙ node_record _ _ _ 0 (version_by at.args.bytes.now at.args.view)
@@ -31,7 +30,7 @@ returns-then-not-root_right c =
 pub returns-in-Refused : goal.returns-in-Refused
 returns-in-Refused c =
     let rooted : c.root_right.result ≡ root_right (sections_by c.args.bytes.now c.args.view) =
-      let at = c in
+    let at = c in
     let ns = c.nodes_part-nodes.ensures in
     c.root_right.ensures
     ∙ shown-root _ _ (c.node_record.ensures ∙ node_record _ _ _ 0 (version_by at.args.bytes.now at.args.view)
@@ -43,7 +42,7 @@ returns-in-Refused c =
 pub returns-in-Passed : goal.returns-in-Passed
 returns-in-Passed c =
     let rooted : c.root_right.result ≡ root_right (sections_by c.args.bytes.now c.args.view) =
-      let at = c in
+    let at = c in
     let ns = c.nodes_part-nodes.ensures in
     c.root_right.ensures
     ∙ shown-root _ _ (c.node_record.ensures ∙ node_record _ _ _ 0 (version_by at.args.bytes.now at.args.view)

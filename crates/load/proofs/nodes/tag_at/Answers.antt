@@ -2,7 +2,6 @@
 use mathlib.Core.Path.{refl}
 use native.Mathlib.Omega.{arith}
 use Rattle.image.proofs.Widths.{words-some}
-use borrow.Author.Rules.{rules}
 use Rattle.load.proofs.SectionReads.{tag_outside, tag_inside, inside-below}
 use Rattle.load.proofs.nodes.tag_at.Goals as goal
 

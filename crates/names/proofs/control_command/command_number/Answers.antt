@@ -1,6 +1,5 @@
 -- `names::control_command::command_number` meets its contract.
 use mathlib.Core.Path.{sym, ◌∙◌}
-use borrow.Author.Rules.{rules}
 use Rattle.names.proofs.Commands.{number_yes, number_no}
 use Rattle.names.proofs.control_command.command_number.Goals as goal
 

@@ -1,7 +1,6 @@
 -- `names::control_command::command_of` meets its contract.
 use mathlib.Core.Path.{sym}
 use native.Mathlib.Omega.{arith}
-use borrow.Author.Rules.{rules}
 use Rattle.names.specs.ControlCommand.{command_types}
 use Rattle.names.proofs.Numbers.{at_element, past_element}
 use Rattle.names.proofs.control_command.command_of.Goals as goal

@@ -1,5 +1,4 @@
 -- `names::control_command::get_name` meets its contract.
-use borrow.Author.Rules.{rules}
 use Rattle.names.proofs.Commands.{below}
 use Rattle.names.proofs.control_command.get_name.Goals as goal
 

@@ -1,5 +1,4 @@
 -- `names::control_command::name_at` meets its contract: the part that it takes is the name.
-use borrow.Author.Rules.{rules}
 use Rattle.texts.specs.Text.{ascii}
 use Rattle.names.specs.Names.{commands}
 use Rattle.names.proofs.PackedNames.{part_asks, part_gives}

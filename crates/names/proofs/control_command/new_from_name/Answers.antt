@@ -1,5 +1,4 @@
 -- `names::control_command::new_from_name` meets its contract.
-use borrow.Author.Rules.{rules}
 use Rattle.names.specs.Names.{commands}
 use Rattle.names.specs.ControlCommand.{command_types}
 use Rattle.names.proofs.Numbers.{named_yes, named_no}

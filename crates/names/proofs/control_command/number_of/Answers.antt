@@ -1,6 +1,5 @@
 -- `names::control_command::number_of` meets its contract.
 use mathlib.Core.Path.{refl}
-use borrow.Author.Rules.{rules}
 use Rattle.names.proofs.control_command.number_of.Goals as goal
 
 pub returns-in-EvalStart : goal.returns-in-EvalStart

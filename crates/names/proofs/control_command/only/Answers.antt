@@ -2,7 +2,6 @@
 use Prim.Native.Nat.{◌%◌, ◌<◌}
 use mathlib.Core.Path.{ap}
 use native.Mathlib.Omega.{arith}
-use borrow.Author.Rules.{rules}
 use Rattle.names.proofs.Commands.{entry-below, entry-only}
 use Rattle.names.proofs.control_command.only.Goals as goal
 

@@ -1,5 +1,4 @@
 -- `names::native_function_call::get_name` meets its contract.
-use borrow.Author.Rules.{rules}
 use Rattle.names.proofs.Operators.{below}
 use Rattle.names.proofs.native_function_call.get_name.Goals as goal
 

@@ -1,5 +1,4 @@
 -- `names::native_function_call::is_name` meets its contract: the part that the text is compared with is the name.
-use borrow.Author.Rules.{rules}
 use Rattle.texts.specs.Text.{ascii}
 use Rattle.names.specs.Names.{operators}
 use Rattle.names.proofs.PackedNames.{part_asks, part_same}

@@ -1,5 +1,4 @@
 -- `names::native_function_call::name_at` meets its contract: the part that it takes is the name.
-use borrow.Author.Rules.{rules}
 use Rattle.texts.specs.Text.{ascii}
 use Rattle.names.specs.Names.{operators}
 use Rattle.names.proofs.PackedNames.{part_asks, part_gives}

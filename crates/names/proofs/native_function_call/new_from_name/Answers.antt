@@ -1,5 +1,4 @@
 -- `names::native_function_call::new_from_name` meets its contract.
-use borrow.Author.Rules.{rules}
 use Rattle.names.specs.Names.{operators}
 use Rattle.names.specs.NativeFunctionCall.{ops}
 use Rattle.names.proofs.Numbers.{named_yes, named_no}

@@ -1,6 +1,5 @@
 -- `names::native_function_call::number_of` meets its contract.
 use mathlib.Core.Path.{refl}
-use borrow.Author.Rules.{rules}
 use Rattle.names.proofs.native_function_call.number_of.Goals as goal
 
 pub returns-in-Add : goal.returns-in-Add

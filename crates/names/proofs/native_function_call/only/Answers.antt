@@ -2,7 +2,6 @@
 use Prim.Native.Nat.{◌%◌, ◌<◌}
 use mathlib.Core.Path.{ap}
 use native.Mathlib.Omega.{arith}
-use borrow.Author.Rules.{rules}
 use Rattle.names.proofs.Operators.{entry-below, entry-only}
 use Rattle.names.proofs.native_function_call.only.Goals as goal
 

@@ -1,6 +1,5 @@
 -- `names::native_function_call::operator_number` meets its contract.
 use mathlib.Core.Path.{sym, ◌∙◌}
-use borrow.Author.Rules.{rules}
 use Rattle.names.proofs.Operators.{number_yes, number_no}
 use Rattle.names.proofs.native_function_call.operator_number.Goals as goal
 

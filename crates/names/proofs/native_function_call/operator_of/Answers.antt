@@ -1,7 +1,6 @@
 -- `names::native_function_call::operator_of` meets its contract.
 use mathlib.Core.Path.{sym}
 use native.Mathlib.Omega.{arith}
-use borrow.Author.Rules.{rules}
 use Rattle.names.specs.NativeFunctionCall.{ops}
 use Rattle.names.proofs.Numbers.{at_element, past_element}
 use Rattle.names.proofs.native_function_call.operator_of.Goals as goal

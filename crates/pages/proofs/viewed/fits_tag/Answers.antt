@@ -1,7 +1,6 @@
 -- `pages::viewed::fits_tag` meets its contract.
 use borrow.Author.Tests.{eq-eqb, ne_eqb}
 use Rattle.pages.specs.Viewed.{fits_tag}
-use borrow.Author.Rules.{rules}
 use Rattle.pages.proofs.viewed.fits_tag.Goals as goal
 
 pub returns-in-3 : goal.returns-in-3

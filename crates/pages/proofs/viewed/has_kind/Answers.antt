@@ -1,6 +1,6 @@
 -- `pages::viewed::has_kind` meets its contract.
 use mathlib.Core.Path.{refl}
-use mathlib.Core.Logic.{inl, inr, ⊎_elim}
+use mathlib.Core.Logic.{inl, inr}
 use native.Mathlib.Omega.{arith}
 use Rattle.records.specs.Fields.{kinds}
 use Rattle.views.specs.View.{kind_view}

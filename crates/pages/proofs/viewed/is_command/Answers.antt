@@ -1,6 +1,5 @@
 -- `pages::viewed::is_command` meets its contract.
 use Rattle.views.specs.Shown.{command_view}
-use borrow.Author.Rules.{rules}
 use Rattle.pages.proofs.viewed.is_command.Goals as goal
 
 pub returns-in-Known : goal.returns-in-Known

@@ -1,6 +1,5 @@
 -- `pages::viewed::is_operator` meets its contract.
 use Rattle.views.specs.Shown.{operator_view}
-use borrow.Author.Rules.{rules}
 use Rattle.pages.proofs.viewed.is_operator.Goals as goal
 
 pub returns-in-Known : goal.returns-in-Known

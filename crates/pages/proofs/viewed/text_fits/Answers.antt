@@ -1,7 +1,5 @@
 -- `pages::viewed::text_fits` meets its contract.
-use mathlib.Core.Path.{sym, ap, ◌∙◌}
-use Rattle.pages.specs.Viewed.{fits_tag, text_fits}
-use borrow.Author.Rules.{rules}
+use Rattle.pages.specs.Viewed.{text_fits}
 use Rattle.pages.proofs.viewed.text_fits.Goals as goal
 
 pub returns-then-is_shown : goal.returns-then-is_shown

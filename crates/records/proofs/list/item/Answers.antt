@@ -1,6 +1,5 @@
 -- `records::list::item` meets its contract.
 use mathlib.Core.Path.{refl}
-use borrow.Author.Rules.{rules}
 use Rattle.image.proofs.GoodBytes.{none-known}
 use Rattle.records.proofs.Lists.{item-origin, item-name, item-right}
 use Rattle.records.proofs.list.item.Goals as goal

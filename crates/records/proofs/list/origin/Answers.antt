@@ -1,6 +1,5 @@
 -- `records::list::origin` meets its contract.
 use mathlib.Core.Path.{refl, ◌∙◌}
-use borrow.Author.Rules.{rules}
 use Rattle.laws.proofs.Chains.{stop-last, go_last}
 use Rattle.records.proofs.Lists.{origin-rule}
 use Rattle.records.proofs.list.origin.Goals as goal

@@ -1,11 +1,7 @@
 -- `records::list::origins_rule` meets its contract.
 use Prim.Native.Nat.{◌≤◌, ◌-◌}
-use mathlib.Core.Path.{◌≡◌, refl, sym, ◌∙◌}
-use native.Mathlib.Numerals.{add-one}
-use borrow.Author.Rules.{rules}
+use mathlib.Core.Path.{◌≡◌}
 use Rattle.laws.specs.Refusal.{first_of}
-use Rattle.laws.proofs.First.{first_next}
-use Rattle.laws.proofs.Chains.{first-broken, first_done}
 use Rattle.records.specs.Records.{list_origin_rule}
 use Rattle.records.specs.Shown.{bytes_only}
 use Rattle.records.proofs.list.origins_rule.Given as goal

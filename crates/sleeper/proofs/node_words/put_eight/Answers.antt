@@ -2,7 +2,6 @@
 use native.Mathlib.Omega.{arith}
 use lib.ListN.{length-set}
 use Rattle.sleeper.proofs.SeenWords.{words_put}
-use borrow.Author.Rules.{rules}
 use Rattle.sleeper.proofs.node_words.put_eight.Goals as goal
 
 pub bounds-out-1 : goal.bounds-out-1

@@ -4,7 +4,6 @@ use Rattle.image.proofs.Views.{counts}
 use Rattle.answers.proofs.AnswerSlices.{unanswered, answered_as}
 use Rattle.sleeper.proofs.SectionPlaces.{view-inside}
 use Rattle.sleeper.proofs.SeenWords.{words-missing, words-found}
-use borrow.Author.Rules.{rules}
 use Rattle.sleeper.proofs.node_words.put_node_view.Goals as goal
 
 pub node_of-requires : goal.node_of-requires

@@ -6,7 +6,6 @@ use Rattle.answers.proofs.AnswerSlices.{unanswered, answered_as, fitting}
 use Rattle.notes.specs.Notes.{hide_in}
 use Rattle.sleeper.specs.Seen.{view_seen}
 use Rattle.sleeper.proofs.SeenWords.{kind-seen, kind-missing, view-short}
-use borrow.Author.Rules.{rules}
 use Rattle.sleeper.proofs.node_words.put_record_view.Goals as goal
 
 pub returns-then-answer-lt-NODE_VIEW_WORDS : goal.returns-then-answer-lt-NODE_VIEW_WORDS

@@ -1,7 +1,6 @@
 -- `sleeper::sections::node_of` meets its contract.
 use Rattle.views.proofs.Reading.{node-none, node-read, node-below}
 use Rattle.sleeper.proofs.SectionPlaces.{nodes-there, nodes-counted}
-use borrow.Author.Rules.{rules}
 use Rattle.sleeper.proofs.sections.node_of.Goals as goal
 
 pub part-nodes-requires : goal.part-nodes-requires

@@ -3,7 +3,6 @@ use Prim.Native.Nat.{ℕ, ◌+◌, ◌*◌}
 use mathlib.Core.Path.{ap}
 use native.Mathlib.Omega.{arith}
 use Rattle.sleeper.proofs.SectionPlaces.{nodes-most}
-use borrow.Author.Rules.{rules}
 use Rattle.sleeper.proofs.sections.nodes_end.Goals as goal
 
 pub overflow_mul-result : goal.overflow_mul-result

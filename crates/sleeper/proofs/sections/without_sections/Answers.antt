@@ -1,5 +1,4 @@
 -- `sleeper::sections::without_sections` meets its contract.
-use borrow.Author.Rules.{rules}
 use Rattle.sleeper.proofs.sections.without_sections.Goals as goal
 
 pub returns : goal.returns

@@ -2,7 +2,6 @@
 use mathlib.Core.Path.{ap}
 use Rattle.answers.specs.AnswerWords.{count_answer}
 use Rattle.sleeper_image.proofs.Views.{no_view, asked}
-use borrow.Author.Rules.{rules}
 use Rattle.sleeper_image.proofs.children.story_image_sleeper_named_child_count.Goals as goal
 
 pub returns-then-view-lt-VIEW_WORDS : goal.returns-then-view-lt-VIEW_WORDS

@@ -2,7 +2,6 @@
 use mathlib.Core.Path.{ap}
 use Rattle.sleeper_image.specs.Queries.{item_answer}
 use Rattle.sleeper_image.proofs.Views.{no_view, asked}
-use borrow.Author.Rules.{rules}
 use Rattle.sleeper_image.proofs.lists.story_image_sleeper_definition_item.Goals as goal
 
 pub returns-then-view-lt-VIEW_WORDS : goal.returns-then-view-lt-VIEW_WORDS

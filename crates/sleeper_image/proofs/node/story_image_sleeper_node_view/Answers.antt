@@ -1,7 +1,6 @@
 -- `sleeper_image::node::story_image_sleeper_node_view` meets its contract.
 use mathlib.Core.Path.{refl}
 use Rattle.sleeper_image.proofs.Views.{no_view, asked}
-use borrow.Author.Rules.{rules}
 use Rattle.sleeper_image.proofs.node.story_image_sleeper_node_view.Goals as goal
 
 pub returns-then-view-lt-VIEW_WORDS : goal.returns-then-view-lt-VIEW_WORDS

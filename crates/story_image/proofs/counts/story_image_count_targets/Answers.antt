@@ -1,6 +1,5 @@
 -- `story_image::counts::story_image_count_targets` meets its contract.
 use Rattle.story_image.proofs.TargetCounts.{count-without, count_under}
-use borrow.Author.Rules.{rules}
 use Rattle.story_image.proofs.counts.story_image_count_targets.Goals as goal
 
 pub returns-then-view-lt-VIEW_WORDS : goal.returns-then-view-lt-VIEW_WORDS

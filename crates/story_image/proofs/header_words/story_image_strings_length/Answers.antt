@@ -2,7 +2,6 @@
 use mathlib.Core.Path.{ap}
 use Rattle.answers.specs.AnswerWords.{count_answer}
 use Rattle.answers.proofs.AnswerSlices.{answered_as}
-use borrow.Author.Rules.{rules}
 use Rattle.story_image.proofs.header_words.story_image_strings_length.Goals as goal
 
 pub returns : goal.returns

@@ -1,7 +1,6 @@
 -- `story_image::lists::put_first_item` meets its contract.
 use Rattle.story_image.proofs.ListValues.{first-missing, first-none, first_found}
 use Rattle.answers.proofs.AnswerSlices.{unanswered, answered_as}
-use borrow.Author.Rules.{rules}
 use Rattle.story_image.proofs.lists.put_first_item.Goals as goal
 
 pub returns-in-NotFound : goal.returns-in-NotFound

@@ -2,7 +2,6 @@
 use mathlib.Core.Path.{ap}
 use Rattle.answers.specs.AnswerWords.{item_answer}
 use Rattle.story_image.proofs.Views.{no_view, asked}
-use borrow.Author.Rules.{rules}
 use Rattle.story_image.proofs.lists.story_image_definition_item.Goals as goal
 
 pub returns-then-view-lt-VIEW_WORDS : goal.returns-then-view-lt-VIEW_WORDS

@@ -3,7 +3,6 @@ use mathlib.Core.Path.{ap}
 use Rattle.list_items.specs.declared.ItemSearch.{ItemSearch}
 use Rattle.answers.specs.AnswerWords.{list_item_answer}
 use Rattle.story_image.proofs.Views.{no_view, asked, searched-without, searched-under}
-use borrow.Author.Rules.{rules}
 use Rattle.story_image.proofs.lists.story_image_find_list_item.Goals as goal
 
 pub returns-then-view-lt-VIEW_WORDS : goal.returns-then-view-lt-VIEW_WORDS

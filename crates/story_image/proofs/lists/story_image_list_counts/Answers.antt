@@ -1,10 +1,9 @@
 -- `story_image::lists::story_image_list_counts` meets its contract.
-use mathlib.Core.Path.{refl, sym, ap, ◌∙◌}
+use mathlib.Core.Path.{refl, ap, ◌∙◌}
 use Rattle.story_image.proofs.Views.{no_view, asked}
 use Rattle.story_image.proofs.ListValues.{no_list, a_list}
 use Rattle.answers.proofs.AnswerSlices.{unanswered}
 use Rattle.answers.specs.AnswerWords.{list_count_words}
-use borrow.Author.Rules.{rules}
 use Rattle.story_image.proofs.lists.story_image_list_counts.Goals as goal
 
 pub returns-then-view-lt-VIEW_WORDS : goal.returns-then-view-lt-VIEW_WORDS

@@ -2,7 +2,6 @@
 use mathlib.Core.Path.{ap}
 use Rattle.answers.specs.AnswerWords.{place_answer}
 use Rattle.answers.proofs.AnswerSlices.{answered_as}
-use borrow.Author.Rules.{rules}
 use Rattle.story_image.proofs.lists.story_image_list_origin.Goals as goal
 
 pub returns : goal.returns

@@ -1,9 +1,8 @@
 -- `story_image::lists::story_image_list_payload` meets its contract.
-use mathlib.Core.Path.{refl, sym, ap, ◌∙◌}
+use mathlib.Core.Path.{refl}
 use Rattle.story_image.proofs.Views.{no_view, asked}
 use Rattle.story_image.proofs.ListValues.{no_list, a_list}
 use Rattle.answers.proofs.AnswerSlices.{unanswered}
-use borrow.Author.Rules.{rules}
 use Rattle.story_image.proofs.lists.story_image_list_payload.Goals as goal
 
 pub returns-then-view-lt-VIEW_WORDS : goal.returns-then-view-lt-VIEW_WORDS

@@ -6,7 +6,6 @@ use Rattle.answers.proofs.AnswerSlices.{unanswered}
 use Rattle.answers.specs.AnswerWords.{entry_answer}
 use Rattle.image.proofs.Views.{strings_by}
 use Rattle.views.specs.Lists.{list_entry}
-use borrow.Author.Rules.{rules}
 use Rattle.story_image.proofs.lists.story_image_node_list_entry.Goals as goal
 
 pub returns-then-view-lt-VIEW_WORDS : goal.returns-then-view-lt-VIEW_WORDS

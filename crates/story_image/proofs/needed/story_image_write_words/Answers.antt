@@ -1,7 +1,6 @@
 -- `story_image::needed::story_image_write_words` meets its contract.
 use Rattle.story_image.proofs.WorkWords.{most_to_write, some_to_write}
 use mathlib.Core.Path.{ap, ◌∙◌}
-use borrow.Author.Rules.{rules}
 use Rattle.image.specs.declared.EntryCounts.{EntryCounts}
 use Rattle.draft.specs.Needs.{words_for, needed_of}
 use Rattle.story_image.proofs.needed.story_image_write_words.Goals as goal

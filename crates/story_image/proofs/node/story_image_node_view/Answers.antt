@@ -1,7 +1,6 @@
 -- `story_image::node::story_image_node_view` meets its contract.
 use mathlib.Core.Path.{refl}
 use Rattle.story_image.proofs.Views.{no_view, asked}
-use borrow.Author.Rules.{rules}
 use Rattle.story_image.proofs.node.story_image_node_view.Goals as goal
 
 pub returns-then-view-lt-VIEW_WORDS : goal.returns-then-view-lt-VIEW_WORDS

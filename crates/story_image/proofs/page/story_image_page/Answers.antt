@@ -1,6 +1,5 @@
 -- `story_image::page::story_image_page` meets its contract.
 use Rattle.story_image.proofs.Pages.{page-without, page-under}
-use borrow.Author.Rules.{rules}
 use Rattle.story_image.proofs.page.story_image_page.Goals as goal
 
 pub returns-then-view-lt-VIEW_WORDS : goal.returns-then-view-lt-VIEW_WORDS

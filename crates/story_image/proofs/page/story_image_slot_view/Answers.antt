@@ -2,7 +2,6 @@
 use mathlib.Core.Path.{ap}
 use Rattle.answers.specs.NodeViewWords.{node_answer}
 use Rattle.story_image.proofs.Views.{no_view, asked}
-use borrow.Author.Rules.{rules}
 use Rattle.story_image.proofs.page.story_image_slot_view.Goals as goal
 
 pub returns-then-view-lt-VIEW_WORDS : goal.returns-then-view-lt-VIEW_WORDS

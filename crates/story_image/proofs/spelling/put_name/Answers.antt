@@ -1,7 +1,6 @@
 -- `story_image::spelling::put_name` meets its contract.
 use Rattle.story_image.proofs.NameTexts.{spelled-long}
 use mathlib.Core.Path.{sym}
-use borrow.Author.Rules.{rules}
 use Rattle.story_image.proofs.spelling.put_name.Goals as goal
 
 pub slice_bounds-put_text_copy-end : goal.slice_bounds-put_text_copy-end

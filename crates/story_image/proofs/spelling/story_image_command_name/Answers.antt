@@ -6,7 +6,6 @@ use Rattle.names.specs.Names.{commands}
 use Rattle.names.specs.ControlCommand.{command_number, known_command}
 use Rattle.names.proofs.Commands.{commands_numbered, below}
 use Rattle.answers.proofs.LentSlices.{unspelled, spelled_as}
-use borrow.Author.Rules.{rules}
 use Rattle.story_image.proofs.NameTexts.{name-fits, command_short, command_count, past-names, some-kind, kind-spelled}
 use Rattle.story_image.proofs.spelling.story_image_command_name.Goals as goal
 

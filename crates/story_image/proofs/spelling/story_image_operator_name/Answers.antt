@@ -6,7 +6,6 @@ use Rattle.names.specs.Names.{operators}
 use Rattle.names.specs.NativeFunctionCall.{operator_number, known_operator}
 use Rattle.names.proofs.Operators.{operators_numbered, below}
 use Rattle.answers.proofs.LentSlices.{unspelled, spelled_as}
-use borrow.Author.Rules.{rules}
 use Rattle.story_image.proofs.NameTexts.{name-fits, operator_short, operator_count, past-names, some-kind, kind-spelled}
 use Rattle.story_image.proofs.spelling.story_image_operator_name.Goals as goal
 

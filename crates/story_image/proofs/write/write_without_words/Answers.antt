@@ -1,6 +1,5 @@
 -- `story_image::write::write_without_words` meets its contract.
 use Rattle.story_image.proofs.Writes.{number, output_by}
-use borrow.Author.Rules.{rules}
 use Rattle.story_image.proofs.write.write_without_words.Goals as goal
 
 pub returns : goal.returns

@@ -1,7 +1,6 @@
 -- `target_changes::steps::can_fall` meets its contract.
 use mathlib.Core.Path.{refl}
 use Rattle.target_changes.proofs.WordSteps.{or_yes, or_no}
-use borrow.Author.Rules.{rules}
 use Rattle.target_changes.proofs.steps.can_fall.Goals as goal
 
 pub returns-then-n-eq-NONE : goal.returns-then-n-eq-NONE

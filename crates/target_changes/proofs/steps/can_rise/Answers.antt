@@ -1,7 +1,6 @@
 -- `target_changes::steps::can_rise` meets its contract.
 use mathlib.Core.Path.{refl}
 use Rattle.target_changes.proofs.WordSteps.{or_yes, or_no}
-use borrow.Author.Rules.{rules}
 use Rattle.target_changes.proofs.steps.can_rise.Goals as goal
 
 pub returns-then-n-eq-NONE : goal.returns-then-n-eq-NONE

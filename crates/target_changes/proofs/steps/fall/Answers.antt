@@ -1,7 +1,6 @@
 -- `target_changes::steps::fall` meets its contract.
 use native.Mathlib.Omega.{arith}
 use Rattle.target_changes.proofs.WordSteps.{fall_none, fall_one}
-use borrow.Author.Rules.{rules}
 use Rattle.target_changes.proofs.steps.fall.Goals as goal
 
 pub returns-then-n-eq-NONE : goal.returns-then-n-eq-NONE

@@ -1,7 +1,6 @@
 -- `target_changes::steps::rise` meets its contract.
 use native.Mathlib.Omega.{arith}
 use Rattle.target_changes.proofs.WordSteps.{rise-none, rise_one}
-use borrow.Author.Rules.{rules}
 use Rattle.target_changes.proofs.steps.rise.Goals as goal
 
 pub returns-then-n-eq-NONE : goal.returns-then-n-eq-NONE

@@ -1,7 +1,6 @@
 -- `target_changes::steps::step` meets its contract.
 use mathlib.Core.Path.{◌∙◌}
 use Rattle.target_changes.proofs.WordSteps.{steps-none, steps_two, falls, rises}
-use borrow.Author.Rules.{rules}
 use Rattle.target_changes.proofs.steps.step.Goals as goal
 
 pub returns-then-old-new : goal.returns-then-old-new

@@ -1,6 +1,5 @@
 -- `target_changes::steps::step_rule` meets its contract.
 use Rattle.target_changes.proofs.WordSteps.{step_same, step_low, step_goes, step-high}
-use borrow.Author.Rules.{rules}
 use Rattle.target_changes.proofs.steps.step_rule.Goals as goal
 
 pub returns-then-old-new : goal.returns-then-old-new

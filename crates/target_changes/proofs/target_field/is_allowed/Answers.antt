@@ -1,6 +1,5 @@
 -- `target_changes::target_field::is_allowed` meets its contract.
 use Rattle.target_changes.proofs.WordSteps.{allowed-choice, allowed-divert, allowed-value, allowed-reference, allowed-none}
-use borrow.Author.Rules.{rules}
 use Rattle.target_changes.proofs.target_field.is_allowed.Goals as goal
 
 pub returns-in-2 : goal.returns-in-2

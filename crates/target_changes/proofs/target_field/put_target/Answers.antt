@@ -1,6 +1,5 @@
 -- `target_changes::target_field::put_target` meets its contract.
 use Rattle.target_changes.proofs.WordSteps.{put_fourth, put_second}
-use borrow.Author.Rules.{rules}
 use Rattle.target_changes.proofs.target_field.put_target.Goals as goal
 
 pub returns-then-node_tag-eq-REFERENCE : goal.returns-then-node_tag-eq-REFERENCE

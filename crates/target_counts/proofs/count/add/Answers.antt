@@ -1,7 +1,6 @@
 -- `target_counts::count::add` meets its contract.
 use native.Mathlib.Omega.{arith}
 use Rattle.target_counts.proofs.Counting.{counted_none, counted_out, counted_in}
-use borrow.Author.Rules.{rules}
 use Rattle.target_counts.proofs.count.add.Goals as goal
 
 pub returns-then-target-eq-NONE : goal.returns-then-target-eq-NONE

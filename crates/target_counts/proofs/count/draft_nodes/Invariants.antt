@@ -1,9 +1,6 @@
 -- `target_counts::count::draft_nodes` meets its contract.
 use Prim.Native.Nat.{◌-◌}
-use mathlib.Core.Path.{refl}
-use native.Mathlib.Omega.{arith}
-use Rattle.target_counts.proofs.Counting.{nodes_alone, target-read, CountedSoFar, loop_start, loop_fits, loop_next, loop_end}
-use borrow.Author.Rules.{rules}
+use Rattle.target_counts.proofs.Counting.{nodes_alone, CountedSoFar}
 use Rattle.target_counts.proofs.count.draft_nodes.Given as goal
 
 abbrev pub invariant-loop-i : goal.invariant-loop-i

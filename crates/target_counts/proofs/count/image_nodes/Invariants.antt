@@ -1,10 +1,7 @@
 -- `target_counts::count::image_nodes` meets its contract.
 use Prim.Native.Nat.{◌-◌}
-use mathlib.Core.Path.{refl, sym}
-use native.Mathlib.Omega.{arith}
 use Rattle.words.specs.Words.{words_of}
-use Rattle.target_counts.proofs.Counting.{nodes_alone, target-read, few_hold, CountedSoFar, loop_start, loop_fits, loop_next, loop_end}
-use borrow.Author.Rules.{rules}
+use Rattle.target_counts.proofs.Counting.{nodes_alone, CountedSoFar}
 use Rattle.target_counts.proofs.count.image_nodes.Given as goal
 
 abbrev pub invariant-loop-i : goal.invariant-loop-i

@@ -1,12 +1,10 @@
 -- `target_counts::count::pointed_at` meets its contract.
-use Prim.Native.Nat.{ℕ, ◌-◌}
+use Prim.Native.Nat.{ℕ}
 use mathlib.Core.Path.{refl, ap, ◌∙◌}
 use native.Mathlib.Omega.{arith}
-use Rattle.image.specs.Sections.{node_count}
 use Rattle.target_counts.specs.Summary.{points_at}
 use Rattle.target_counts.proofs.Points.{at_most_one}
-use Rattle.target_counts.proofs.Counting.{nodes_alone, target-read, PointedSoFar, pointed-start, pointed-next, pointed_end}
-use borrow.Author.Rules.{rules}
+use Rattle.target_counts.proofs.Counting.{target-read, pointed-start, pointed-next, pointed_end}
 use Rattle.target_counts.proofs.count.pointed_at.Goals as goal
 
 pub loop-i-init : goal.loop-i-init

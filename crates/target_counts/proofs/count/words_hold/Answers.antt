@@ -1,9 +1,6 @@
 -- `target_counts::count::words_hold` meets its contract.
-use Prim.Native.Nat.{◌-◌}
 use native.Mathlib.Omega.{arith}
-use Rattle.image.specs.Sections.{node_count}
-use Rattle.target_counts.proofs.Counting.{nodes_alone, few_hold, HoldSoFar, hold_start, hold_next, hold_not, hold_end}
-use borrow.Author.Rules.{rules}
+use Rattle.target_counts.proofs.Counting.{few_hold, hold_start, hold_next, hold_not, hold_end}
 use Rattle.target_counts.proofs.count.words_hold.Goals as goal
 
 pub returns-then-count : goal.returns-then-count

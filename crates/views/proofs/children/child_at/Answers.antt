@@ -1,6 +1,5 @@
 -- `views::children::child_at` meets its contract.
 use Rattle.views.proofs.Answers.{child-missing, child-found, child-past}
-use borrow.Author.Rules.{rules}
 use Rattle.views.proofs.children.child_at.Goals as goal
 
 pub returns-in-NotFound : goal.returns-in-NotFound

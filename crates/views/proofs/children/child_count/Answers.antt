@@ -1,6 +1,5 @@
 -- `views::children::child_count` meets its contract.
 use Rattle.views.proofs.Answers.{child-count-missing, child-count-found}
-use borrow.Author.Rules.{rules}
 use Rattle.views.proofs.children.child_count.Goals as goal
 
 pub returns-in-NotFound : goal.returns-in-NotFound

@@ -1,6 +1,5 @@
 -- `views::children::named_child_at` meets its contract.
 use Rattle.views.proofs.Answers.{named-missing, named-found, named_past}
-use borrow.Author.Rules.{rules}
 use Rattle.views.proofs.children.named_child_at.Goals as goal
 
 pub returns-in-NotFound : goal.returns-in-NotFound

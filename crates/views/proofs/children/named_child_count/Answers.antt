@@ -1,6 +1,5 @@
 -- `views::children::named_child_count` meets its contract.
 use Rattle.views.proofs.Answers.{named-count-missing, named-count-found}
-use borrow.Author.Rules.{rules}
 use Rattle.views.proofs.children.named_child_count.Goals as goal
 
 pub returns-in-NotFound : goal.returns-in-NotFound

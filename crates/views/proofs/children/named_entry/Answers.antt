@@ -2,7 +2,6 @@
 use Rattle.views.proofs.Answers.{entry-missing, entry-shown, entry-hidden}
 use mathlib.Core.Path.{sym, ◌∙◌}
 use Rattle.image.proofs.Views.{strings_by}
-use borrow.Author.Rules.{rules}
 use Rattle.views.proofs.children.named_entry.Goals as goal
 
 pub returns-in-NotFound : goal.returns-in-NotFound

@@ -1,6 +1,5 @@
 -- `views::children::shown_part` meets its contract.
 use Rattle.views.proofs.Answers.{part-shown, part-hidden}
-use borrow.Author.Rules.{rules}
 use Rattle.views.proofs.children.shown_part.Goals as goal
 
 pub returns-then-is_shown : goal.returns-then-is_shown

@@ -1,6 +1,5 @@
 -- `views::children::text` meets its contract.
 use Rattle.views.proofs.Answers.{text_of}
-use borrow.Author.Rules.{rules}
 use Rattle.views.proofs.children.text.Goals as goal
 
 pub returns : goal.returns

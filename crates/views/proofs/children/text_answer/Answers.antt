@@ -2,7 +2,6 @@
 use Rattle.views.proofs.Answers.{text-shown, text-hidden}
 use mathlib.Core.Path.{sym, ◌∙◌}
 use Rattle.image.proofs.Views.{strings_by}
-use borrow.Author.Rules.{rules}
 use Rattle.views.proofs.children.text_answer.Goals as goal
 
 pub returns-then-is_shown : goal.returns-then-is_shown

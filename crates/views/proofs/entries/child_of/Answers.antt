@@ -1,6 +1,5 @@
 -- `views::entries::child_of` meets its contract.
 use Rattle.views.proofs.Reading.{child-past, child-read}
-use borrow.Author.Rules.{rules}
 use Rattle.views.proofs.entries.child_of.Goals as goal
 
 pub returns-then-children-k : goal.returns-then-children-k

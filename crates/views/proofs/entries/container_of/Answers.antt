@@ -1,6 +1,5 @@
 -- `views::entries::container_of` meets its contract.
 use Rattle.views.proofs.Reading.{none_contains, one_contains, other_contains}
-use borrow.Author.Rules.{rules}
 use Rattle.views.proofs.entries.container_of.Goals as goal
 
 pub returns-in-NotFound : goal.returns-in-NotFound

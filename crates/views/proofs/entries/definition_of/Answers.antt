@@ -1,6 +1,5 @@
 -- `views::entries::definition_of` meets its contract.
 use Rattle.views.proofs.Reading.{definition-past, definition-read}
-use borrow.Author.Rules.{rules}
 use Rattle.views.proofs.entries.definition_of.Goals as goal
 
 pub returns-then-definitions-d : goal.returns-then-definitions-d

@@ -1,6 +1,5 @@
 -- `views::entries::entry_of` meets its contract.
 use Rattle.views.proofs.Reading.{entry_past, entry_read}
-use borrow.Author.Rules.{rules}
 use Rattle.views.proofs.entries.entry_of.Goals as goal
 
 pub returns-then-part-k : goal.returns-then-part-k

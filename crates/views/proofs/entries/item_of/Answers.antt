@@ -1,7 +1,6 @@
 -- `views::entries::item_of` meets its contract.
 use Rattle.views.proofs.Reading.{item-read}
 use mathlib.Core.Path.{◌∙◌}
-use borrow.Author.Rules.{rules}
 use Rattle.views.proofs.entries.item_of.Goals as goal
 
 pub returns : goal.returns

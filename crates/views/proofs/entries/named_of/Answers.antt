@@ -1,7 +1,6 @@
 -- `views::entries::named_of` meets its contract.
 use Rattle.views.proofs.Reading.{named-read}
 use mathlib.Core.Path.{◌∙◌}
-use borrow.Author.Rules.{rules}
 use Rattle.views.proofs.entries.named_of.Goals as goal
 
 pub returns : goal.returns

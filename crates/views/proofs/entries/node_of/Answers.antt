@@ -1,6 +1,5 @@
 -- `views::entries::node_of` meets its contract.
 use Rattle.views.proofs.Reading.{node-none, node-read, node-below}
-use borrow.Author.Rules.{rules}
 use Rattle.views.proofs.entries.node_of.Goals as goal
 
 pub returns-then-not-is_inside : goal.returns-then-not-is_inside

@@ -2,7 +2,6 @@
 use Rattle.views.proofs.Answers.{definition-missing, definition-shown, definition-hidden}
 use mathlib.Core.Path.{sym, ◌∙◌}
 use Rattle.image.proofs.Views.{strings_by}
-use borrow.Author.Rules.{rules}
 use Rattle.views.proofs.lists.definition.Goals as goal
 
 pub returns-in-NotFound : goal.returns-in-NotFound

@@ -1,7 +1,6 @@
 -- `views::lists::definition_count` meets its contract.
 use mathlib.Core.Path.{sym}
 use Rattle.views.proofs.Reading.{definitions-count}
-use borrow.Author.Rules.{rules}
 use Rattle.views.proofs.lists.definition_count.Goals as goal
 
 pub returns : goal.returns

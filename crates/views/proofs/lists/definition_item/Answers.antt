@@ -1,6 +1,5 @@
 -- `views::lists::definition_item` meets its contract.
 use Rattle.views.proofs.Answers.{items-missing, items-found, items-past}
-use borrow.Author.Rules.{rules}
 use Rattle.views.proofs.lists.definition_item.Goals as goal
 
 pub returns-in-NotFound : goal.returns-in-NotFound

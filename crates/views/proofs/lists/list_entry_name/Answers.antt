@@ -1,6 +1,5 @@
 -- `views::lists::list_entry_name` meets its contract.
 use Rattle.views.specs.Lists.{list_entry_name}
-use borrow.Author.Rules.{rules}
 use Rattle.views.proofs.lists.list_entry_name.Goals as goal
 
 pub returns-in-NotFound : goal.returns-in-NotFound

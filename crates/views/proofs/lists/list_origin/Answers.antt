@@ -1,6 +1,5 @@
 -- `views::lists::list_origin` meets its contract.
 use Rattle.views.proofs.Answers.{origin-none, origin-short, origin-past, origin-shown, origin-hidden}
-use borrow.Author.Rules.{rules}
 use Rattle.views.proofs.lists.list_origin.Goals as goal
 
 pub returns-then-payload-lt-HEAD_BYTES : goal.returns-then-payload-lt-HEAD_BYTES

@@ -1,6 +1,5 @@
 -- `views::lists::list_payload` meets its contract.
 use Rattle.views.proofs.Answers.{payload_of}
-use borrow.Author.Rules.{rules}
 use Rattle.views.proofs.lists.list_payload.Goals as goal
 
 pub returns : goal.returns

@@ -1,6 +1,5 @@
 -- `views::view::command` meets its contract.
 use Rattle.views.specs.Shown.{command_view}
-use borrow.Author.Rules.{rules}
 use Rattle.views.proofs.view.command.Goals as goal
 
 pub returns-in-Known : goal.returns-in-Known

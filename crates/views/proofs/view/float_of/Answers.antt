@@ -5,7 +5,6 @@ use mathlib.Core.Path.{◌≡◌, refl, sym, ◌∙◌, subst}
 use lib.Dec.{T}
 use lib.Ieee.{Float, nan, inf, fin, is_nan, binary32, of_bits, div}
 use lib.Ieee.Bits.{nan_bits_is, nan_bits_above}
-use borrow.Author.Rules.{rules}
 use Rattle.views.proofs.view.float_of.Goals as goal
 
 -- `views::view::float_of` meets its contract.

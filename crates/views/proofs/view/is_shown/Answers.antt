@@ -1,6 +1,5 @@
 -- `views::view::is_shown` meets its contract.
 use Rattle.views.proofs.Answers.{no_offset, no_length, within}
-use borrow.Author.Rules.{rules}
 use Rattle.views.proofs.view.is_shown.Goals as goal
 
 pub returns-then-offset-eq-NONE : goal.returns-then-offset-eq-NONE

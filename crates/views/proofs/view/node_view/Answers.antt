@@ -3,7 +3,6 @@ use Rattle.views.proofs.Answers.{view-missing, view-found}
 use mathlib.Core.Path.{sym, ap, ◌∙◌}
 use lib.ListN.{length}
 use Rattle.image.proofs.Views.{payload_by, strings_by}
-use borrow.Author.Rules.{rules}
 use Rattle.views.proofs.view.node_view.Goals as goal
 
 pub returns-in-NotFound : goal.returns-in-NotFound

@@ -1,6 +1,5 @@
 -- `views::view::operator` meets its contract.
 use Rattle.views.specs.Shown.{operator_view}
-use borrow.Author.Rules.{rules}
 use Rattle.views.proofs.view.operator.Goals as goal
 
 pub returns-in-Known : goal.returns-in-Known

@@ -1,6 +1,5 @@
 -- `views::view::record_view` meets its contract.
 use Rattle.views.specs.View.{record_view}
-use borrow.Author.Rules.{rules}
 use Rattle.views.proofs.view.record_view.Goals as goal
 
 pub returns-in-NotFound : goal.returns-in-NotFound

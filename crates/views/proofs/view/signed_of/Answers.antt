@@ -4,7 +4,6 @@ use Prim.Native.Nat.{◌-◌}
 use native.Mathlib.Omega.{arith}
 use mir.Val.{to_z}
 use mir.Syntax.{w32}
-use borrow.Author.Rules.{rules}
 use Rattle.views.proofs.view.signed_of.Goals as goal
 
 pub returns-else-word-lt2147483648 : goal.returns-else-word-lt2147483648

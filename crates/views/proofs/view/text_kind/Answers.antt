@@ -1,7 +1,6 @@
 -- `views::view::text_kind` meets its contract.
 use Rattle.views.proofs.Tags.{text-absent, text-present}
 use mathlib.Core.Path.{refl}
-use borrow.Author.Rules.{rules}
 use Rattle.views.proofs.view.text_kind.Goals as goal
 
 pub returns-in-Absent : goal.returns-in-Absent

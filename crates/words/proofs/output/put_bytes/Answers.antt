@@ -1,10 +1,7 @@
 -- `words::output::put_bytes` meets its contract. The invariant: the first i bytes are written.
-use borrow.Author.Rules.{rules}
 use native.Mathlib.Omega.{arith}
-use Prim.Native.Nat.{◌≤◌, ◌-◌}
-use mathlib.Core.Path.{◌≡◌, refl}
-use mathlib.Core.List.{◌++◌}
-use lib.ListN.{length, take, drop, length-set}
+use mathlib.Core.Path.{refl}
+use lib.ListN.{length-set}
 use Rattle.laws.proofs.Lists.{copy_step, copy_end}
 use Rattle.words.proofs.output.put_bytes.Goals as goal
 

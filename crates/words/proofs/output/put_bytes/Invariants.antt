@@ -1,11 +1,8 @@
 -- `words::output::put_bytes` meets its contract. The invariant: the first i bytes are written.
-use borrow.Author.Rules.{rules}
-use native.Mathlib.Omega.{arith}
 use Prim.Native.Nat.{◌≤◌, ◌-◌}
-use mathlib.Core.Path.{◌≡◌, refl}
+use mathlib.Core.Path.{◌≡◌}
 use mathlib.Core.List.{◌++◌}
-use lib.ListN.{length, take, drop, length-set}
-use Rattle.laws.proofs.Lists.{copy_step, copy_end}
+use lib.ListN.{length, take, drop}
 use Rattle.words.proofs.output.put_bytes.Given as goal
 
 abbrev pub invariant-loop-i : goal.invariant-loop-i

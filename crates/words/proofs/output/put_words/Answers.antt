@@ -1,8 +1,5 @@
 -- `words::output::put_words` meets its contract.
-use borrow.Author.Rules.{rules}
-use Prim.Native.Nat.{◌-◌}
-use lib.ListN.{length}
-use Rattle.words.proofs.FilledOutput.{Putting, put_start, put_next, put_end}
+use Rattle.words.proofs.FilledOutput.{put_start, put_next, put_end}
 use Rattle.words.proofs.output.put_words.Goals as goal
 
 pub loop-i-init : goal.loop-i-init

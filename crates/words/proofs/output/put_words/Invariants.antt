@@ -1,8 +1,7 @@
 -- `words::output::put_words` meets its contract.
-use borrow.Author.Rules.{rules}
 use Prim.Native.Nat.{◌-◌}
 use lib.ListN.{length}
-use Rattle.words.proofs.FilledOutput.{Putting, put_start, put_next, put_end}
+use Rattle.words.proofs.FilledOutput.{Putting}
 use Rattle.words.proofs.output.put_words.Given as goal
 
 abbrev pub invariant-loop-i : goal.invariant-loop-i

@@ -9,7 +9,6 @@ use Rattle.draft.specs.Source.{draft_of}
 use Rattle.draft_image.specs.Written.{written}
 use Rattle.write_image.proofs.Premises.{lists-room, definitions-texts, items_sum, index_fit, measured, definitions_put, items_put, index_put}
 use Rattle.write_image.proofs.SectionLayers.{three-parts}
-use borrow.Author.Rules.{rules}
 use Rattle.write_image.proofs.list_part.put_lists.Goals as goal
 
 pub put_definitions-requires : goal.put_definitions-requires

@@ -3,7 +3,6 @@ use Prim.Native.Nat.{◌+◌, ◌*◌}
 use native.Mathlib.Omega.{arith}
 use Rattle.image.specs.Header.{header_length}
 use Rattle.image.proofs.Widths.{width}
-use borrow.Author.Rules.{rules}
 use Rattle.write_image.proofs.CappedSums.{capped_le, adds}
 use Rattle.image.specs.Sections.{node_size, child_size, text_entry_size, definition_size}
 use Rattle.write_image.proofs.size.front_length.Goals as goal

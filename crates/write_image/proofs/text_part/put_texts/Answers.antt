@@ -9,7 +9,6 @@ use Rattle.draft_image.specs.Written.{written}
 use Rattle.write_image.proofs.Premises.{texts-room, texts_fit, payload-fits, payload-room, uses-small, stored_are, key_offsets, measured, payload_put, strings_put}
 use Rattle.write_interning.specs.Uses.{texts_joined}
 use Rattle.write_image.proofs.SectionLayers.{two_parts}
-use borrow.Author.Rules.{rules}
 use Rattle.write_image.proofs.text_part.put_texts.Goals as goal
 
 pub put_payload-requires : goal.put_payload-requires

@@ -9,7 +9,6 @@ use Rattle.draft.specs.Source.{draft_of}
 use Rattle.draft_image.specs.Written.{written}
 use Rattle.write_image.proofs.Premises.{tree-room, nodes_fit, order-fits, children_sum, named_sum, named_fit, named-length, texts_end, measured, nodes_put, children_put, named_put}
 use Rattle.write_image.proofs.SectionLayers.{three-parts}
-use borrow.Author.Rules.{rules}
 use Rattle.write_image.proofs.tree_part.put_tree.Goals as goal
 
 pub put_nodes-text-requires : goal.put_nodes-text-requires

@@ -1,10 +1,7 @@
 -- `write_list_sections::definition_sections::put_definitions` meets its contract.
 use Prim.Native.Nat.{◌-◌, ◌/◌}
-use mathlib.Core.Path.{refl}
-use native.Mathlib.Omega.{arith}
 use lib.ListN.{length}
-use Rattle.write_list_sections.proofs.DefinitionLoops.{Defining, define_start, define_room, define_next, define_end, pass-inside}
-use borrow.Author.Rules.{rules}
+use Rattle.write_list_sections.proofs.DefinitionLoops.{Defining}
 use Rattle.image.specs.Sections.{definition_words}
 use Rattle.write_list_sections.proofs.definition_sections.put_definitions.Given as goal
 

@@ -1,11 +1,7 @@
 -- `write_list_sections::definition_sections::put_items` meets its contract.
-use Prim.Native.Nat.{◌-◌, ◌/◌}
 use mathlib.Core.Path.{refl}
 use native.Mathlib.Omega.{arith}
-use lib.ListN.{length}
-use Rattle.write_list_sections.proofs.DefinitionLoops.{Itemizing, itemize_start, itemize_room, itemize_next, itemize_end}
-use borrow.Author.Rules.{rules}
-use Rattle.image.specs.Sections.{definition_words}
+use Rattle.write_list_sections.proofs.DefinitionLoops.{itemize_start, itemize_room, itemize_next, itemize_end}
 use Rattle.write_list_sections.proofs.definition_sections.put_items.Goals as goal
 
 pub loop-d-init : goal.loop-d-init

@@ -1,11 +1,8 @@
 -- `write_list_sections::definition_sections::put_items_from` meets its contract.
-use Prim.Native.Nat.{◌-◌}
 use mathlib.Core.Path.{refl}
 use native.Mathlib.Omega.{arith}
-use Rattle.words.proofs.EntryLoop.{Running, run_next, run_put}
-use Rattle.write_list_sections.specs.Entered.{item_words}
+use Rattle.words.proofs.EntryLoop.{run_next, run_put}
 use Rattle.write_list_sections.proofs.DefinitionLoops.{items-start, items-room, item-words}
-use borrow.Author.Rules.{rules}
 use Rattle.write_list_sections.proofs.definition_sections.put_items_from.Goals as goal
 
 pub loop-i-init : goal.loop-i-init

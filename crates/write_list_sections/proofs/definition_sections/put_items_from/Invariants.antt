@@ -1,11 +1,7 @@
 -- `write_list_sections::definition_sections::put_items_from` meets its contract.
 use Prim.Native.Nat.{◌-◌}
-use mathlib.Core.Path.{refl}
-use native.Mathlib.Omega.{arith}
-use Rattle.words.proofs.EntryLoop.{Running, run_next, run_put}
+use Rattle.words.proofs.EntryLoop.{Running}
 use Rattle.write_list_sections.specs.Entered.{item_words}
-use Rattle.write_list_sections.proofs.DefinitionLoops.{items-start, items-room, item-words}
-use borrow.Author.Rules.{rules}
 use Rattle.write_list_sections.proofs.definition_sections.put_items_from.Given as goal
 
 abbrev pub invariant-loop-i : goal.invariant-loop-i

@@ -1,6 +1,5 @@
 -- `write_list_sections::payload::put_list` meets its contract.
 use Rattle.write_list_sections.proofs.ListLoops.{head-room, items_fit, origins_fit, list_put}
-use borrow.Author.Rules.{rules}
 use Rattle.write_list_sections.proofs.payload.put_list.Goals as goal
 
 pub put_words-requires : goal.put_words-requires
@@ -20,9 +19,9 @@ put_list_items-behind-requires c =
     let put-words = c.put_words in
     record {
       count_in_bounds = (items_fit to.payload.now to.w.now to.text to.start to.at to.out.now _ _ payload-get.ensures payload-get2.ensures asked.start_in_bounds asked.start_in_bounds_2
-    _ put-words.ensures).0;
+          _ put-words.ensures).0;
       count_in_bounds_2 = (items_fit to.payload.now to.w.now to.text to.start to.at to.out.now _ _ payload-get.ensures payload-get2.ensures asked.start_in_bounds asked.start_in_bounds_2
-    _ put-words.ensures).1;
+          _ put-words.ensures).1;
     }
 
 pub put_list_origins-requires : goal.put_list_origins-requires

@@ -1,8 +1,6 @@
 -- `write_list_sections::payload::put_list_items` meets its contract.
-use Prim.Native.Nat.{◌-◌}
 use native.Mathlib.Omega.{arith}
-use Rattle.write_list_sections.proofs.ListLoops.{Listing, list-start, list-room, list_inside, list-next, list_end}
-use borrow.Author.Rules.{rules}
+use Rattle.write_list_sections.proofs.ListLoops.{list-start, list-room, list_inside, list-next, list_end}
 use Rattle.write_list_sections.proofs.payload.put_list_items.Goals as goal
 
 pub loop-j-init : goal.loop-j-init

@@ -1,8 +1,6 @@
 -- `write_list_sections::payload::put_list_items` meets its contract.
 use Prim.Native.Nat.{◌-◌}
-use native.Mathlib.Omega.{arith}
-use Rattle.write_list_sections.proofs.ListLoops.{Listing, list-start, list-room, list_inside, list-next, list_end}
-use borrow.Author.Rules.{rules}
+use Rattle.write_list_sections.proofs.ListLoops.{Listing}
 use Rattle.write_list_sections.proofs.payload.put_list_items.Given as goal
 
 abbrev pub invariant-loop-j : goal.invariant-loop-j

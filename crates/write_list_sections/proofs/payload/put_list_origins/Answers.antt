@@ -1,11 +1,8 @@
 -- `write_list_sections::payload::put_list_origins` meets its contract.
-use Prim.Native.Nat.{◌+◌, ◌*◌, ◌-◌}
 use mathlib.Core.Path.{refl}
 use native.Mathlib.Omega.{arith}
-use Rattle.words.proofs.EntryLoop.{Running, run_next, run_put}
-use Rattle.write_list_sections.specs.Entered.{list_origin_words}
+use Rattle.words.proofs.EntryLoop.{run_next, run_put}
 use Rattle.write_list_sections.proofs.ListLoops.{origins-start, origins-room, origin-words}
-use borrow.Author.Rules.{rules}
 use Rattle.write_list_sections.proofs.payload.put_list_origins.Goals as goal
 
 pub loop-j-init : goal.loop-j-init

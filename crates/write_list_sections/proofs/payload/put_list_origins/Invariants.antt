@@ -1,11 +1,7 @@
 -- `write_list_sections::payload::put_list_origins` meets its contract.
 use Prim.Native.Nat.{◌+◌, ◌*◌, ◌-◌}
-use mathlib.Core.Path.{refl}
-use native.Mathlib.Omega.{arith}
-use Rattle.words.proofs.EntryLoop.{Running, run_next, run_put}
+use Rattle.words.proofs.EntryLoop.{Running}
 use Rattle.write_list_sections.specs.Entered.{list_origin_words}
-use Rattle.write_list_sections.proofs.ListLoops.{origins-start, origins-room, origin-words}
-use borrow.Author.Rules.{rules}
 use Rattle.write_list_sections.proofs.payload.put_list_origins.Given as goal
 
 abbrev pub invariant-loop-j : goal.invariant-loop-j

@@ -1,6 +1,5 @@
 -- `write_list_sections::payload::put_node` meets its contract.
 use Rattle.write_list_sections.proofs.ListLoops.{node-asked, node_put, node_stays}
-use borrow.Author.Rules.{rules}
 use Rattle.write_list_sections.proofs.payload.put_node.Goals as goal
 
 pub returns-then-node-ne-LIST_VALUE : goal.returns-then-node-ne-LIST_VALUE

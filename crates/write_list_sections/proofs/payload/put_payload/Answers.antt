@@ -1,10 +1,6 @@
 -- `write_list_sections::payload::put_payload` meets its contract.
-use Prim.Native.Nat.{◌-◌, ◌/◌}
 use native.Mathlib.Omega.{arith}
-use lib.ListN.{length}
-use Rattle.image.specs.Sections.{node_words}
-use Rattle.write_list_sections.proofs.PayloadLoop.{ListsSoFar, pay_start, pay_order, pay_node, pay_asked, pay_texts, pay_next, pay_end}
-use borrow.Author.Rules.{rules}
+use Rattle.write_list_sections.proofs.PayloadLoop.{pay_start, pay_order, pay_node, pay_asked, pay_texts, pay_next, pay_end}
 use Rattle.write_list_sections.proofs.payload.put_payload.Goals as goal
 
 pub loop-j-init : goal.loop-j-init

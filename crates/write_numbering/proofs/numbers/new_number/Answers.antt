@@ -2,7 +2,6 @@
 use mathlib.Core.Path.{refl}
 use borrow.Author.Tests.{eq-eqb, ne_eqb}
 use Rattle.write_numbering.specs.Numbers.{new_in}
-use borrow.Author.Rules.{rules}
 use Rattle.write_numbering.proofs.numbers.new_number.Goals as goal
 
 pub returns-then-node-eq-NONE : goal.returns-then-node-eq-NONE

@@ -1,10 +1,7 @@
 -- `write_paths::path_index::put_index` meets its contract.
 use Prim.Native.Nat.{◌-◌}
-use native.Mathlib.Omega.{arith}
-use Rattle.words.proofs.EntryLoop.{Running, three-room, three-next}
+use Rattle.words.proofs.EntryLoop.{Running}
 use Rattle.write_paths.specs.PathIndex.{index_words}
-use Rattle.write_paths.proofs.PathIndex.{begin, finish}
-use borrow.Author.Rules.{rules}
 use Rattle.write_paths.proofs.path_index.put_index.Given as goal
 
 abbrev pub invariant-loop-k : goal.invariant-loop-k

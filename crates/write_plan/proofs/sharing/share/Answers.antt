@@ -1,8 +1,5 @@
 -- `write_plan::sharing::share` meets its contract.
-use Prim.Native.Nat.{◌-◌, ◌<◌}
-use mathlib.Core.Path.{◌≡◌, refl}
-use lib.ListN.{length}
-use Rattle.write_plan.specs.Shared.{SameTexts}
+use mathlib.Core.Path.{refl}
 use Rattle.write_plan.proofs.SharedTexts.{same_none, same_next}
 use borrow.Author.Rules.{rules}
 use Rattle.write_plan.proofs.sharing.share.Goals as goal

@@ -1,10 +1,8 @@
 -- `write_plan::sharing::share` meets its contract.
 use Prim.Native.Nat.{◌-◌, ◌<◌}
-use mathlib.Core.Path.{◌≡◌, refl}
+use mathlib.Core.Path.{◌≡◌}
 use lib.ListN.{length}
 use Rattle.write_plan.specs.Shared.{SameTexts}
-use Rattle.write_plan.proofs.SharedTexts.{same_none, same_next}
-use borrow.Author.Rules.{rules}
 use Rattle.write_plan.proofs.sharing.share.Given as goal
 
 abbrev pub invariant-loop-i : goal.invariant-loop-i

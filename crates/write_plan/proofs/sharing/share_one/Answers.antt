@@ -2,7 +2,6 @@
 use mathlib.Core.Path.{sym, ◌∙◌}
 use Rattle.texts.proofs.Text.{same-equal}
 use Rattle.write_plan.proofs.SharedTexts.{same_none, same_put}
-use borrow.Author.Rules.{rules}
 use Rattle.write_plan.proofs.sharing.share_one.Goals as goal
 
 pub returns-then-w-at : goal.returns-then-w-at

@@ -1,11 +1,6 @@
 -- `write_tree_sections::children::put_children` meets its contract.
-use Rattle.write_tree_sections.proofs.ChildWords.{entry, begin, step_room, step-next, finish}
-use Prim.Native.Nat.{◌/◌, ◌-◌}
-use lib.ListN.{length}
-use Rattle.image.specs.Sections.{node_words}
+use Rattle.write_tree_sections.proofs.ChildWords.{begin, step_room, step-next, finish}
 use native.Mathlib.Omega.{arith}
-use Rattle.words.proofs.EntryLoop.{Running}
-use borrow.Author.Rules.{rules}
 use Rattle.write_tree_sections.proofs.children.put_children.Goals as goal
 
 pub loop-j-init : goal.loop-j-init

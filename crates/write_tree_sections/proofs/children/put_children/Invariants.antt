@@ -1,11 +1,9 @@
 -- `write_tree_sections::children::put_children` meets its contract.
-use Rattle.write_tree_sections.proofs.ChildWords.{entry, begin, step_room, step-next, finish}
+use Rattle.write_tree_sections.proofs.ChildWords.{entry}
 use Prim.Native.Nat.{◌/◌, ◌-◌}
 use lib.ListN.{length}
 use Rattle.image.specs.Sections.{node_words}
-use native.Mathlib.Omega.{arith}
 use Rattle.words.proofs.EntryLoop.{Running}
-use borrow.Author.Rules.{rules}
 use Rattle.write_tree_sections.proofs.children.put_children.Given as goal
 
 abbrev pub invariant-loop-j : goal.invariant-loop-j

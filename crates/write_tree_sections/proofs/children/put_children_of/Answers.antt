@@ -1,13 +1,8 @@
 -- `write_tree_sections::children::put_children_of` meets its contract.
-use Rattle.words.proofs.EntryLoop.{word_room, word_next, Running, run_start, run_put}
-use Prim.Native.Nat.{◌+◌, ◌-◌}
+use Rattle.words.proofs.EntryLoop.{word_room, word_next, run_start, run_put}
 use mathlib.Core.Path.{refl}
-use mathlib.Core.List.{[], ◌∷◌}
-use lib.ListN.{get_or}
 use native.Mathlib.Omega.{arith}
-use Rattle.write_numbering.specs.Numbers.{new_in}
 use Rattle.write_tree_sections.proofs.ChildWords.{child-words-length}
-use borrow.Author.Rules.{rules}
 use Rattle.write_tree_sections.proofs.children.put_children_of.Goals as goal
 
 pub loop-j-init : goal.loop-j-init

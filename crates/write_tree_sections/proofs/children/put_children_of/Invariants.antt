@@ -1,13 +1,9 @@
 -- `write_tree_sections::children::put_children_of` meets its contract.
-use Rattle.words.proofs.EntryLoop.{word_room, word_next, Running, run_start, run_put}
+use Rattle.words.proofs.EntryLoop.{Running}
 use Prim.Native.Nat.{◌+◌, ◌-◌}
-use mathlib.Core.Path.{refl}
 use mathlib.Core.List.{[], ◌∷◌}
 use lib.ListN.{get_or}
-use native.Mathlib.Omega.{arith}
 use Rattle.write_numbering.specs.Numbers.{new_in}
-use Rattle.write_tree_sections.proofs.ChildWords.{child-words-length}
-use borrow.Author.Rules.{rules}
 use Rattle.write_tree_sections.proofs.children.put_children_of.Given as goal
 
 abbrev pub invariant-loop-j : goal.invariant-loop-j

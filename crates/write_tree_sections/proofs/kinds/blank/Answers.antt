@@ -1,5 +1,4 @@
 -- `write_tree_sections::kinds::blank` meets its contract.
-use borrow.Author.Rules.{rules}
 use Rattle.write_tree_sections.proofs.kinds.blank.Goals as goal
 
 pub returns : goal.returns

@@ -1,6 +1,5 @@
 -- `write_tree_sections::kinds::choice` meets its contract.
 use Rattle.write_tree_sections.proofs.Records.{choice-made}
-use borrow.Author.Rules.{rules}
 use Rattle.write_tree_sections.proofs.kinds.choice.Goals as goal
 
 pub returns : goal.returns

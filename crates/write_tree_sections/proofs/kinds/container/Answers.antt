@@ -1,6 +1,5 @@
 -- `write_tree_sections::kinds::container` meets its contract.
 use Rattle.write_tree_sections.proofs.Records.{container-made}
-use borrow.Author.Rules.{rules}
 use Rattle.write_tree_sections.proofs.kinds.container.Goals as goal
 
 pub returns : goal.returns

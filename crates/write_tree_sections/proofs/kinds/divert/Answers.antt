@@ -1,7 +1,6 @@
 -- `write_tree_sections::kinds::divert` meets its contract.
 use Rattle.write_tree_sections.proofs.Records.{divert-made, count_small}
 use native.Mathlib.Omega.{arith}
-use borrow.Author.Rules.{rules}
 use Rattle.write_tree_sections.proofs.kinds.divert.Goals as goal
 
 pub overflow_add-at : goal.overflow_add-at

@@ -1,9 +1,8 @@
 -- `write_tree_sections::kinds::encode_kind` meets its contract.
 use native.Mathlib.Omega.{arith}
-use mathlib.Core.Logic.{inl, inr, ⊎_elim}
+use mathlib.Core.Logic.{inl, inr}
 use mathlib.Core.Path.{◌∙◌}
 use Rattle.write_tree_sections.proofs.ByTag.{at_container, at_choice, at_divert, at_text, at_text-range, at_number, at_list_lem, at_target, at_word, at_reference, at_blank}
-use borrow.Author.Rules.{rules}
 use Rattle.write_tree_sections.proofs.kinds.encode_kind.Goals as goal
 
 pub returns-in-1 : goal.returns-in-1

@@ -1,6 +1,5 @@
 -- `write_tree_sections::kinds::optional_offset` meets its contract.
 use Rattle.laws.proofs.Cases.{cases}
-use borrow.Author.Rules.{rules}
 use Rattle.write_tree_sections.proofs.kinds.optional_offset.Goals as goal
 
 pub returns-then-offset-eq-NONE : goal.returns-then-offset-eq-NONE

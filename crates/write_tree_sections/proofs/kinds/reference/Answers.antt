@@ -1,6 +1,5 @@
 -- `write_tree_sections::kinds::reference` meets its contract.
 use Rattle.write_tree_sections.proofs.Records.{reference-made}
-use borrow.Author.Rules.{rules}
 use Rattle.write_tree_sections.proofs.kinds.reference.Goals as goal
 
 pub returns : goal.returns

@@ -1,6 +1,5 @@
 -- `write_tree_sections::kinds::text_and` meets its contract.
 use Rattle.write_tree_sections.proofs.Records.{text-made}
-use borrow.Author.Rules.{rules}
 use Rattle.write_tree_sections.proofs.kinds.text_and.Goals as goal
 
 pub returns : goal.returns

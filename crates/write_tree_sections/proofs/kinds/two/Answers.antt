@@ -1,6 +1,5 @@
 -- `write_tree_sections::kinds::two` meets its contract.
 use Rattle.write_tree_sections.proofs.Records.{two_made}
-use borrow.Author.Rules.{rules}
 use Rattle.write_tree_sections.proofs.kinds.two.Goals as goal
 
 pub returns : goal.returns

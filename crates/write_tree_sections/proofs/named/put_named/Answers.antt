@@ -1,10 +1,6 @@
 -- `write_tree_sections::named::put_named` meets its contract.
-use Prim.Native.Nat.{◌/◌, ◌-◌}
-use lib.ListN.{length}
-use Rattle.image.specs.Sections.{node_words}
 use native.Mathlib.Omega.{arith}
-use Rattle.write_tree_sections.proofs.NamedWords.{Naming, begin, step_room, step-text, step-next, finish}
-use borrow.Author.Rules.{rules}
+use Rattle.write_tree_sections.proofs.NamedWords.{begin, step_room, step-text, step-next, finish}
 use Rattle.write_tree_sections.proofs.named.put_named.Goals as goal
 
 pub loop-j-init : goal.loop-j-init

@@ -2,9 +2,7 @@
 use Prim.Native.Nat.{◌/◌, ◌-◌}
 use lib.ListN.{length}
 use Rattle.image.specs.Sections.{node_words}
-use native.Mathlib.Omega.{arith}
-use Rattle.write_tree_sections.proofs.NamedWords.{Naming, begin, step_room, step-text, step-next, finish}
-use borrow.Author.Rules.{rules}
+use Rattle.write_tree_sections.proofs.NamedWords.{Naming}
 use Rattle.write_tree_sections.proofs.named.put_named.Given as goal
 
 abbrev pub invariant-loop-j : goal.invariant-loop-j

@@ -1,10 +1,8 @@
 -- `write_tree_sections::named::put_named_of` meets its contract.
-use Rattle.words.proofs.EntryLoop.{three-room, three-next, Running, run_start, run_put}
-use Prim.Native.Nat.{◌-◌}
+use Rattle.words.proofs.EntryLoop.{three-room, three-next, run_start, run_put}
 use native.Mathlib.Omega.{arith}
 use mathlib.Core.Path.{refl}
-use Rattle.write_tree_sections.proofs.NamedWords.{named-entry, named-words-length}
-use borrow.Author.Rules.{rules}
+use Rattle.write_tree_sections.proofs.NamedWords.{named-words-length}
 use Rattle.write_tree_sections.proofs.named.put_named_of.Goals as goal
 
 pub loop-j-init : goal.loop-j-init

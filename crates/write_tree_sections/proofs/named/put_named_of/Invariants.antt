@@ -1,10 +1,7 @@
 -- `write_tree_sections::named::put_named_of` meets its contract.
-use Rattle.words.proofs.EntryLoop.{three-room, three-next, Running, run_start, run_put}
+use Rattle.words.proofs.EntryLoop.{Running}
 use Prim.Native.Nat.{◌-◌}
-use native.Mathlib.Omega.{arith}
-use mathlib.Core.Path.{refl}
-use Rattle.write_tree_sections.proofs.NamedWords.{named-entry, named-words-length}
-use borrow.Author.Rules.{rules}
+use Rattle.write_tree_sections.proofs.NamedWords.{named-entry}
 use Rattle.write_tree_sections.proofs.named.put_named_of.Given as goal
 
 abbrev pub invariant-loop-j : goal.invariant-loop-j

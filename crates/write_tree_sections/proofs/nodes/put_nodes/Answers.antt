@@ -1,12 +1,8 @@
 -- `write_tree_sections::nodes::put_nodes` meets its contract.
-use Prim.Native.Nat.{◌/◌, ◌-◌}
-use lib.ListN.{length}
-use Rattle.image.specs.Sections.{node_words}
 use mathlib.Core.Path.{refl}
 use native.Mathlib.Omega.{arith}
 use Rattle.image.proofs.Widths.{width}
-use Rattle.write_tree_sections.proofs.NodeLoop.{NodesSoFar, begin, step_room, step-text, step-texts, step-starts, step-next, finish}
-use borrow.Author.Rules.{rules}
+use Rattle.write_tree_sections.proofs.NodeLoop.{begin, step_room, step-text, step-texts, step-starts, step-next, finish}
 use Rattle.write_tree_sections.proofs.nodes.put_nodes.Goals as goal
 
 pub overflow_mul-size : goal.overflow_mul-size

@@ -2,11 +2,7 @@
 use Prim.Native.Nat.{◌/◌, ◌-◌}
 use lib.ListN.{length}
 use Rattle.image.specs.Sections.{node_words}
-use mathlib.Core.Path.{refl}
-use native.Mathlib.Omega.{arith}
-use Rattle.image.proofs.Widths.{width}
-use Rattle.write_tree_sections.proofs.NodeLoop.{NodesSoFar, begin, step_room, step-text, step-texts, step-starts, step-next, finish}
-use borrow.Author.Rules.{rules}
+use Rattle.write_tree_sections.proofs.NodeLoop.{NodesSoFar}
 use Rattle.write_tree_sections.proofs.nodes.put_nodes.Given as goal
 
 abbrev pub invariant-loop-j : goal.invariant-loop-j

@@ -1,9 +1,7 @@
 -- `write_tree_sections::texts_used::list_texts` meets its contract.
-use Prim.Native.Nat.{◌-◌}
 use native.Mathlib.Omega.{arith}
-use Rattle.write_tree_sections.proofs.TextCounts.{Counting, count-start, count_next, count_end}
+use Rattle.write_tree_sections.proofs.TextCounts.{count-start, count_next, count_end}
 use Rattle.write_tree_sections.proofs.Records.{count_small}
-use borrow.Author.Rules.{rules}
 use Rattle.write_tree_sections.proofs.texts_used.list_texts.Goals as goal
 
 pub loop-j-init : goal.loop-j-init

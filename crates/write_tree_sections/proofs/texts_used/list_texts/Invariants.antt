@@ -1,9 +1,6 @@
 -- `write_tree_sections::texts_used::list_texts` meets its contract.
 use Prim.Native.Nat.{◌-◌}
-use native.Mathlib.Omega.{arith}
-use Rattle.write_tree_sections.proofs.TextCounts.{Counting, count-start, count_next, count_end}
-use Rattle.write_tree_sections.proofs.Records.{count_small}
-use borrow.Author.Rules.{rules}
+use Rattle.write_tree_sections.proofs.TextCounts.{Counting}
 use Rattle.write_tree_sections.proofs.texts_used.list_texts.Given as goal
 
 abbrev pub invariant-loop-j : goal.invariant-loop-j

@@ -3,7 +3,6 @@ use mathlib.Core.Path.{◌∙◌}
 use native.Mathlib.Omega.{arith}
 use Rattle.write_tree_sections.proofs.TextCounts.{at_container, at_choice, at_divert, at_list_lem, at_reference, at_one, at_one_more, at_none}
 use Rattle.write_tree_sections.proofs.Records.{count_small}
-use borrow.Author.Rules.{rules}
 use Rattle.write_tree_sections.proofs.texts_used.texts_of.Goals as goal
 
 pub overflow_add-result : goal.overflow_add-result
