@@ -1,6 +1,7 @@
 // A line for each image of samples/, which the arguments name: its name, and the line that image_check prints of it.
 #![tactic(auto)]
 
+use std::env::FillError;
 use std::fs::File;
 use std::rt::{Env, Files};
 use std::{io, str};
@@ -17,8 +18,11 @@ fn print_sample(rt: &(impl Files + Print), name: &str) -> io::Result<()> {
 // The argument of this place; answers whether there is one.
 fn print_argument(rt: &(impl Env + Files + Print), place: usize) -> io::Result<bool> {
     let mut buffer = [0u8; 4096];
-    let Ok(n) = rt.arg(place, &mut buffer) else {
-        return Ok(false);
+    let n = match rt.arg(place, &mut buffer) {
+        Ok(n) => n,
+        // longer than any name here, so an empty one stands for it
+        Err(FillError::TooLong) => 0,
+        Err(FillError::NotPresent) => return Ok(false),
     };
     let Ok(name) = str::from_utf8(&buffer[..n]) else {
         return Err(io::Error::from(io::ErrorKind::InvalidData));
