@@ -5,7 +5,6 @@ use mathlib.Core.List.{List}
 use Rattle.draft_words.specs.Slices.{BeginWith, behind_words}
 use Rattle.draft_words.proofs.read_tables.Goals as goal
 
--- `draft_words::read_tables` meets its contract: each table's bytes begin where those of the one before it end.
 of-bytes : (n : ℕ) (bs cs ws : List ℕ) → bs ≡ cs → BeginWith n bs ws → BeginWith n cs ws
 of-bytes n bs cs ws e = subst (λ (x : List ℕ). BeginWith n x ws) e
 

@@ -9,13 +9,11 @@ put_use-behind-requires c = first-room _ _ _ _ _ (definition_is _ _ _ _ c.defini
 pub put_entries-requires : goal.put_entries-requires
 put_entries-requires c =
     let asked = c.requires in
-    let definition_at_lem = c.definition_at-definition in
     let put-use = c.put_use-behind in
-    second-room _ _ _ _ _ (definition_is _ _ _ _ definition_at_lem.ensures) asked.room _ _ put-use.ensures
+    second-room _ _ _ _ _ (definition_is _ _ _ _ c.definition_at-definition.ensures) asked.room _ _ put-use.ensures
 
 pub returns : goal.returns
 returns c =
     let asked = c.requires in
-    let definition_at_lem = c.definition_at-definition in
     let put-use = c.put_use-behind in
-    two_put _ _ _ _ _ (definition_is _ _ _ _ definition_at_lem.ensures) asked.room _ _ put-use.ensures _ _ c.put_entries.ensures
+    two_put _ _ _ _ _ (definition_is _ _ _ _ c.definition_at-definition.ensures) asked.room _ _ put-use.ensures _ _ c.put_entries.ensures

@@ -1,4 +1,4 @@
--- `draft::path_list::list_right_lem` meets its contract. The invariant: each entry so far is right by itself.
+-- `draft::path_list::list_right` meets its contract. The invariant: each entry so far is right by itself.
 use mathlib.Core.Path.{sym, ◌∙◌}
 use borrow.Author.Rules.{rules}
 use Rattle.draft.proofs.Runs.{all_starts, all_stops, all_goes, all_ends}

@@ -1,4 +1,4 @@
--- `draft::path_list::list_right_lem` meets its contract. The invariant: each entry so far is right by itself.
+-- `draft::path_list::list_right` meets its contract. The invariant: each entry so far is right by itself.
 use Prim.Native.Nat.{◌≤◌, ◌-◌}
 use mathlib.Core.Path.{◌≡◌}
 use mathlib.Core.Bool.{true}

@@ -9,7 +9,6 @@ use Rattle.image.proofs.Widths.{number-words}
 use Rattle.draft.specs.declared.source.PathNode.{PathNode}
 use Rattle.draft.proofs.source.path_node.Goals as goal
 
--- `draft::source::path_node` meets its contract.
 -- the words from the first one on
 abbrev words-from : List ℕ → ℕ → ℕ → PathNode
 words-from nodes at next = record { parent = get_or nodes at 0; place = get_or nodes (next + 1) 0; offset = get_or nodes (next + 3) 0; len = get_or nodes (next + 4) 0 }

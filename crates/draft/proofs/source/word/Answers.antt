@@ -6,7 +6,6 @@ use lib.ListN.{length, get_or, get_or-eq_default}
 use borrow.Author.Rules.{rules}
 use Rattle.draft.proofs.source.word.Goals as goal
 
--- `draft::source::word` meets its contract.
 past : (ws : List ℕ) (i : ℕ) → length ws ≤ i → 0 ≡ get_or ws i 0
 past ws i h = sym (get_or-eq_default ws 0 {n = i} h)
 

@@ -8,7 +8,6 @@ use Rattle.image.specs.Sections.{most_words, node_words}
 use Rattle.image.proofs.Widths.{width}
 use Rattle.draft.proofs.source.word_of.Goals as goal
 
--- `draft::source::word_of` meets its contract.
 few : (n version : ℕ) → n * node_words version ≤ n * most_words
 few n version = mul-le-mul_left n (width version).most
 

@@ -7,7 +7,6 @@ use lib.Ieee.{Float, nan, inf, fin, is_nan, binary32, of_bits, div}
 use lib.Ieee.Bits.{nan_bits_is, nan_bits_above}
 use Rattle.views.proofs.view.float_of.Goals as goal
 
--- `views::view::float_of` meets its contract.
 is-nan : (x : Float) → is_nan x ≡ true → x ≡ nan
 unfolding is_nan
 is-nan nan e = refl

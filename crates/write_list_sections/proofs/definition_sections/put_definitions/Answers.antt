@@ -20,24 +20,21 @@ pub overflow_add-k : goal.overflow_add-k
 overflow_add-k c =
     let loop = c.loop-d in
     let test = c.loop-d-test in
-    let definition_at_lem = c.definition_at-definition in
-    omega (arith, pass-inside _ _ _ _ _ _ loop.invariant.passing test.true _ definition_at_lem.ensures)
+    omega (arith, pass-inside _ _ _ _ _ _ loop.invariant.passing test.true _ c.definition_at-definition.ensures)
 
 pub overflow_add-k-in-loop-d : goal.overflow_add-k-in-loop-d
 overflow_add-k-in-loop-d c =
     let loop = c.loop-d in
     let test = c.loop-d-test in
-    let definition_at_lem = c.definition_at-definition in
-    omega (arith, pass-inside _ _ _ _ _ _ loop.invariant.passing test.true _ definition_at_lem.ensures)
+    omega (arith, pass-inside _ _ _ _ _ _ loop.invariant.passing test.true _ c.definition_at-definition.ensures)
 
 pub loop-d-preserved : goal.loop-d-preserved
 loop-d-preserved c =
     let loop = c.loop-d in
     let test = c.loop-d-test in
-    let definition_at_lem = c.definition_at-definition in
     let word = c.word-offset in
     let put-words = c.put_words in
-    define_next _ _ _ _ _ _ _ _ _ loop.invariant test.true _ definition_at_lem.ensures _ word.ensures _ put-words.ensures _ _ refl refl
+    define_next _ _ _ _ _ _ _ _ _ loop.invariant test.true _ c.definition_at-definition.ensures _ word.ensures _ put-words.ensures _ _ refl refl
 
 pub returns : goal.returns
 returns c = λ s order kept e p o. define_end _ _ _ _ _ _ _ _ c.loop-d.invariant c.loop-d-test.false s order kept e p o

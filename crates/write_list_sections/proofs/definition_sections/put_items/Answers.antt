@@ -17,23 +17,20 @@ pub overflow_mul-at : goal.overflow_mul-at
 overflow_mul-at c =
     let loop = c.loop-d in
     let test = c.loop-d-test in
-    let definition_at_lem = c.definition_at-definition in
-    omega (arith, (itemize_room _ _ _ _ _ _ _ _ _ _ loop.invariant test.true _ definition_at_lem.ensures).1)
+    omega (arith, (itemize_room _ _ _ _ _ _ _ _ _ _ loop.invariant test.true _ c.definition_at-definition.ensures).1)
 
 pub overflow_add-at : goal.overflow_add-at
 overflow_add-at c =
     let loop = c.loop-d in
     let test = c.loop-d-test in
-    let definition_at_lem = c.definition_at-definition in
-    omega (arith, (itemize_room _ _ _ _ _ _ _ _ _ _ loop.invariant test.true _ definition_at_lem.ensures).1)
+    omega (arith, (itemize_room _ _ _ _ _ _ _ _ _ _ loop.invariant test.true _ c.definition_at-definition.ensures).1)
 
 pub overflow_add-k-in-loop-d : goal.overflow_add-k-in-loop-d
 overflow_add-k-in-loop-d c =
     let room =
     let loop = c.loop-d in
     let test = c.loop-d-test in
-    let definition_at_lem = c.definition_at-definition in
-    (itemize_room _ _ _ _ _ _ _ _ _ _ loop.invariant test.true _ definition_at_lem.ensures).0 in
+    (itemize_room _ _ _ _ _ _ _ _ _ _ loop.invariant test.true _ c.definition_at-definition.ensures).0 in
     omega (arith, room)
 
 pub overflow_add-k-in-loop-d-2 : goal.overflow_add-k-in-loop-d-2
@@ -41,17 +38,15 @@ overflow_add-k-in-loop-d-2 c =
     let room =
     let loop = c.loop-d in
     let test = c.loop-d-test in
-    let definition_at_lem = c.definition_at-definition in
-    (itemize_room _ _ _ _ _ _ _ _ _ _ loop.invariant test.true _ definition_at_lem.ensures).0 in
+    (itemize_room _ _ _ _ _ _ _ _ _ _ loop.invariant test.true _ c.definition_at-definition.ensures).0 in
     omega (arith, room)
 
 pub loop-d-preserved : goal.loop-d-preserved
 loop-d-preserved c =
     let loop = c.loop-d in
     let test = c.loop-d-test in
-    let definition_at_lem = c.definition_at-definition in
     let put-items-from = c.put_items_from in
-    itemize_next _ _ _ _ _ _ _ _ _ _ loop.invariant test.true _ definition_at_lem.ensures _ put-items-from.ensures _ _ refl refl
+    itemize_next _ _ _ _ _ _ _ _ _ _ loop.invariant test.true _ c.definition_at-definition.ensures _ put-items-from.ensures _ _ refl refl
 
 pub returns : goal.returns
 returns c = λ s order kept e i p o. itemize_end _ _ _ _ _ _ _ _ _ c.loop-d.invariant c.loop-d-test.false s order kept e i p o

@@ -35,12 +35,11 @@ loop-j-preserved c =
     let test = c.loop-j-test in
     let payload-get = c.payload_get-origin in
     let text-count = c.text_count in
-    let optional_offset_lem = c.optional_offset in
     let payload-get2 = c.payload_get in
     let word = c.word in
     let payload-get3 = c.payload_get-in-loop-j in
     let payload-get4 = c.payload_get-in-loop-j-2 in
-    list-next _ _ _ _ _ _ _ _ _ _ _ loop.invariant test.true _ _ payload-get.ensures text-count.ensures _ _ _ _ _ optional_offset_lem.ensures
+    list-next _ _ _ _ _ _ _ _ _ _ _ loop.invariant test.true _ _ payload-get.ensures text-count.ensures _ _ _ _ _ c.optional_offset.ensures
     payload-get2.ensures word.ensures payload-get3.ensures payload-get4.ensures _ c.put_words.ensures
 
 pub returns : goal.returns

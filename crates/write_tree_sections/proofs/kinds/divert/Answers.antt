@@ -9,6 +9,5 @@ overflow_add-at c = omega (arith, c.text_count.ensures, count_small c.args.node.
 pub returns : goal.returns
 returns c =
     let blank = c.blank-r in
-    let optional_offset_lem = c.optional_offset in
-    divert-made _ _ _ _ blank.ensures _ _ _ optional_offset_lem.ensures _ c.new_number.ensures _ _
+    divert-made _ _ _ _ blank.ensures _ _ _ c.optional_offset.ensures _ c.new_number.ensures _ _
     c.text_count.ensures c.optional_offset-2.ensures

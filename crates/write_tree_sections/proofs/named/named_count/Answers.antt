@@ -1,4 +1,4 @@
--- `write_tree_sections::named::named_count_lem` meets its contract.
+-- `write_tree_sections::named::named_count` meets its contract.
 use Rattle.laws.proofs.Cases.{cases}
 use Rattle.write_tree_sections.proofs.named.named_count.Goals as goal
 

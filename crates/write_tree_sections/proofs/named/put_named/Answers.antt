@@ -21,12 +21,11 @@ put_named_of-requires c =
     let below = rw node-count.ensures at test.true in
     let word = c.word in
     let node_at = c.node_at-node in
-    let named_count_lem = c.named_count-own in
-    let t = step-text _ _ _ _ _ _ asked.named_fit _ _ _ _ _ loop.invariant below _ word.ensures _ node_at.ensures _ named_count_lem.ensures in (
+    let t = step-text _ _ _ _ _ _ asked.named_fit _ _ _ _ _ loop.invariant below _ word.ensures _ node_at.ensures _ c.named_count-own.ensures in (
       asked.named_fit.order.new_start,
       omega arith,
       step_room _ _ _ _ _ _ asked.named_fit _ _ _ _ _ loop.invariant below _ word.ensures _ node_at.ensures
-          _ named_count_lem.ensures,
+          _ c.named_count-own.ensures,
     )
 
 pub overflow_add-text : goal.overflow_add-text
@@ -39,8 +38,7 @@ overflow_add-text c =
     let below = rw node-count.ensures at test.true in
     let word = c.word in
     let node_at = c.node_at-node in
-    let named_count_lem = c.named_count-own in
-    step-text _ _ _ _ _ _ asked.named_fit _ _ _ _ _ loop.invariant below _ word.ensures _ node_at.ensures _ named_count_lem.ensures in
+    step-text _ _ _ _ _ _ asked.named_fit _ _ _ _ _ loop.invariant below _ word.ensures _ node_at.ensures _ c.named_count-own.ensures in
     omega arith
 
 pub overflow_add-at : goal.overflow_add-at
@@ -53,8 +51,7 @@ overflow_add-at c =
     let below = rw node-count.ensures at test.true in
     let word = c.word in
     let node_at = c.node_at-node in
-    let named_count_lem = c.named_count-own in
-    step_room _ _ _ _ _ _ asked.named_fit _ _ _ _ _ loop.invariant below _ word.ensures _ node_at.ensures _ named_count_lem.ensures in
+    step_room _ _ _ _ _ _ asked.named_fit _ _ _ _ _ loop.invariant below _ word.ensures _ node_at.ensures _ c.named_count-own.ensures in
     omega (arith, room, c.loop-j.invariant.running.long, c.well_formed.1.1.1.1.1.0)
 
 pub loop-j-preserved : goal.loop-j-preserved
@@ -66,8 +63,7 @@ loop-j-preserved c =
     let below = rw node-count.ensures at test.true in
     let word = c.word in
     let node_at = c.node_at-node in
-    let named_count_lem = c.named_count-own in
-    step-next _ _ _ _ _ _ asked.named_fit _ _ _ _ _ loop.invariant below _ word.ensures _ node_at.ensures _ named_count_lem.ensures _
+    step-next _ _ _ _ _ _ asked.named_fit _ _ _ _ _ loop.invariant below _ word.ensures _ node_at.ensures _ c.named_count-own.ensures _
     c.put_named_of.ensures
 
 pub returns : goal.returns
