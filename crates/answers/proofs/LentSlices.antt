@@ -1,8 +1,8 @@
 -- Slices that are lent for results: what is written at their start, and what a refusal leaves.
+use Rattle.std.specs.Prelude.{None, Option, Some}
 use Prim.Native.Nat.{ℕ, zero, suc, ◌≤◌, ◌<◌}
 use mathlib.Core.Path.{◌≡◌, refl, sym, ap, ◌∙◌}
 use mathlib.Core.List.{List, [], ◌∷◌, ◌++◌}
-use mathlib.Core.Option.{Option, none, some}
 use native.Mathlib.Nat.{not-suc-le-zero}
 use lib.ListN.{length, set, drop}
 use borrow.Author.Tests.{le-leb, lt-leb}
@@ -25,21 +25,21 @@ first-set (x ∷ xs) n h = refl
 
 -- ---- a text and its length
 
-pub unspelled : (o : Option (List ℕ)) (text size : List ℕ) → o ≡ none → Spelled o text text size size 18
+pub unspelled : (o : Option (List ℕ)) (text size : List ℕ) → o ≡ None → Spelled o text text size size 18
 unfolding written_after
 unspelled o text size e = record { number = sym (ap (λ (p : Option (List ℕ)). spelled_number p (length text) (length size)) e); spelling = refl; size = refl }
 
 module _ (t text size : List ℕ) where
-  pub no_size : length size < 1 → Spelled (some t) text text size size 23
+  pub no_size : length size < 1 → Spelled (Some t) text text size size 23
   unfolding written_after
   no_size h = record { number = rw (lt-leb 1 (length size) h); spelling = refl; size = refl }
 
-  pub no_room : 1 ≤ length size → length text < length t → Spelled (some t) text text size size 23
+  pub no_room : 1 ≤ length size → length text < length t → Spelled (Some t) text text size size 23
   unfolding written_after
   no_room k h = record { number = rw (le-leb 1 (length size) k, lt-leb (length t) (length text) h); spelling = refl; size = refl }
 
   pub roomy : 1 ≤ length size → length t ≤ length text → (now : List ℕ) (n : ℕ) → now ≡ t ++ drop (length t) text → n ≡ length t
-      → Spelled (some t) text now size (set size 0 n) 0
+      → Spelled (Some t) text now size (set size 0 n) 0
   unfolding written_after
   roomy k h now n e q =
       record {

@@ -1,9 +1,11 @@
 -- The place of a list value, by the record of its node.
+use Rattle.std.specs.Prelude.{None, Option, Some}
 use Prim.Native.Nat.{ℕ, ◌+◌, ◌/◌, ◌≤◌, ◌<◌}
 use mathlib.Core.Path.{◌≡◌, refl, sym, ap, ◌∙◌}
 use mathlib.Core.List.{List}
 use mathlib.Core.Bool.{Bool, true, false, cond, not, true≢false}
-use mathlib.Core.Option.{Option, none, some, some-injective, none-ne-some}
+use Rattle.std.proofs.lemmas.Option.{same_Some}
+use Rattle.std.proofs.lemmas.Option.{none-some}
 use native.Mathlib.Omega.{arith}
 use native.Mathlib.Decide.{dec_lt}
 use lib.ListN.{length}
@@ -24,9 +26,6 @@ use Rattle.views.specs.declared.Span.{Span}
 use Rattle.views.specs.declared.ValueView.TheVariants as value
 use Rattle.views.specs.declared.NodeKindView.{NodeKindView}
 use Rattle.views.specs.declared.NodeKindView.TheVariants as kind
-use Rattle.views.specs.declared.KindAnswer.{KindAnswer}
-use Rattle.views.specs.declared.KindAnswer.TheVariants as kindly
-use Rattle.views.specs.declared.NodeAnswer.TheVariants as node
 use Rattle.views.specs.View.{span, shown, with_text, of_command, of_operator, kind_view, with_kind, record_view, node_view}
 use Rattle.answers.specs.NodeViewWords.{list_of_kind, list_place}
 use Rattle.answers.specs.RecordWords.{list_place_in}
@@ -72,35 +71,35 @@ list_tag_lem t =
 
 -- ---- by kind
 
-abbrev list_of : KindAnswer → Option Span
-list_of (kindly.Kind k) = list_of_kind k
-list_of kindly.NotFound = none
+abbrev list_of : Option NodeKindView → Option Span
+list_of (Some k) = list_of_kind k
+list_of None = None
 
-command_none : (o : Option CommandType) → list_of (of_command o) ≡ none
-command_none none = refl
-command_none (some c) = refl
+command_none : (o : Option CommandType) → list_of (of_command o) ≡ None
+command_none None = refl
+command_none (Some c) = refl
 
-operator_none : (o : Option Op) → list_of (of_operator o) ≡ none
-operator_none none = refl
-operator_none (some c) = refl
+operator_none : (o : Option Op) → list_of (of_operator o) ≡ None
+operator_none None = refl
+operator_none (Some c) = refl
 
-tested-none : (b : Bool) (k : NodeKindView) → list_of_kind k ≡ none → list_of (cond b (kindly.Kind k) kindly.NotFound) ≡ none
+tested-none : (b : Bool) (k : NodeKindView) → list_of_kind k ≡ None → list_of (cond b (Some k) None) ≡ None
 tested-none true k h = h
 tested-none false k h = refl
 
 module _ (strings : List ℕ) (payload : ℕ) (r : NodeRecord) where
-  with_none : (g : Span → KindAnswer) → ((t : Span) → list_of (g t) ≡ none) → list_of (with_text strings r g) ≡ none
+  with_none : (g : Span → Option NodeKindView) → ((t : Span) → list_of (g t) ≡ None) → list_of (with_text strings r g) ≡ None
   unfolding with_text
   with_none g h = by (shown (length strings) r.f0 r.f1)
     where
-      by : (b : Bool) → list_of (cond b (g (span r.f0 r.f1)) kindly.NotFound) ≡ none
+      by : (b : Bool) → list_of (cond b (g (span r.f0 r.f1)) None) ≡ None
       by true = h (span r.f0 r.f1)
       by false = refl
 
   abbrev place : Option Span
-  place = cond (leb (r.f0 + r.f1) payload) (some (span r.f0 r.f1)) none
+  place = cond (leb (r.f0 + r.f1) payload) (Some (span r.f0 r.f1)) None
 
-  kind-place : (k : Kind) → list_of (kind_view strings payload r k) ≡ cond (is_list k) place none
+  kind-place : (k : Kind) → list_of (kind_view strings payload r k) ≡ cond (is_list k) place None
   unfolding kind_view
   kind-place Container = refl
   kind-place Choice = refl
@@ -116,7 +115,7 @@ module _ (strings : List ℕ) (payload : ℕ) (r : NodeRecord) where
   kind-place ListValue = by (leb (r.f0 + r.f1) payload)
     where
       by : (b : Bool)
-          → list_of (cond b (kindly.Kind (kind.Value (value.List (span r.f0 r.f1)))) kindly.NotFound) ≡ cond b (some (span r.f0 r.f1)) none
+          → list_of (cond b (Some (kind.Value (value.List (span r.f0 r.f1)))) None) ≡ cond b (Some (span r.f0 r.f1)) None
       by true = refl
       by false = refl
   kind-place TargetValue = with_none _ (λ t. refl)
@@ -129,39 +128,39 @@ module _ (strings : List ℕ) (payload : ℕ) (r : NodeRecord) where
   pub record_place : list_place_in payload r ≡ list_place (record_view strings payload r)
   unfolding record_view
   record_place =
-      ap (λ (b : Bool). cond b place none) (sym (list_tag_lem r.tag))
+      ap (λ (b : Bool). cond b place None) (sym (list_tag_lem r.tag))
       ∙ sym (kind-place (kind_of r.tag))
       ∙ by (kind_view strings payload r (kind_of r.tag))
     where
-      by : (a : KindAnswer) → list_of a ≡ list_place (with_kind strings payload r a)
-      by (kindly.Kind k) = refl
-      by kindly.NotFound = refl
+      by : (a : Option NodeKindView) → list_of a ≡ list_place (with_kind strings payload r a)
+      by (Some k) = refl
+      by None = refl
 
 -- ---- what the code answers
 
 module _ (payload : ℕ) (r : NodeRecord) where
-  pub no_list : (r.tag ≡ 12 → ⊥) → none ≡ list_place_in payload r
+  pub no_list : (r.tag ≡ 12 → ⊥) → None ≡ list_place_in payload r
   no_list d = rw (ne_eqb r.tag 12 d)
 
-  pub outside-payload : r.tag ≡ 12 → payload < r.f0 + r.f1 → none ≡ list_place_in payload r
+  pub outside-payload : r.tag ≡ 12 → payload < r.f0 + r.f1 → None ≡ list_place_in payload r
   outside-payload e h = rw (eq-eqb r.tag 12 e, lt-leb (r.f0 + r.f1) payload h)
 
-  pub inside-payload : r.tag ≡ 12 → r.f0 + r.f1 ≤ payload → some (span r.f0 r.f1) ≡ list_place_in payload r
+  pub inside-payload : r.tag ≡ 12 → r.f0 + r.f1 ≤ payload → Some (span r.f0 r.f1) ≡ list_place_in payload r
   inside-payload e h = rw (eq-eqb r.tag 12 e, le-leb (r.f0 + r.f1) payload h)
 
 -- ---- a list value lies in the payload
 
 abbrev pub Lies : ℕ → Option Span → Type 0
-Lies n o = (t : Span) → o ≡ some t → t.offset + t.len ≤ n
+Lies n o = (t : Span) → o ≡ Some t → t.offset + t.len ≤ n
 
-none-lies : (n : ℕ) → Lies n none
-none-lies n t e = absurd (none-ne-some t e)
+none-lies : (n : ℕ) → Lies n None
+none-lies n t e = absurd (none-some t e)
 
 place-lies : (payload : ℕ) (r : NodeRecord) → Lies payload (list_place_in payload r)
 place-lies payload r = by (eqb r.tag 12) (leb (r.f0 + r.f1) payload) refl
   where
-    by : (a b : Bool) → leb (r.f0 + r.f1) payload ≡ b → Lies payload (cond a (cond b (some (span r.f0 r.f1)) none) none)
-    by true true h t e = let z = some-injective (span r.f0 r.f1) t e in rw (← z) (leb-true (r.f0 + r.f1) payload h)
+    by : (a b : Bool) → leb (r.f0 + r.f1) payload ≡ b → Lies payload (cond a (cond b (Some (span r.f0 r.f1)) None) None)
+    by true true h t e = let z = same_Some (span r.f0 r.f1) t e in rw (← z) (leb-true (r.f0 + r.f1) payload h)
     by true false h t e = none-lies payload t e
     by false b h t e = none-lies payload t e
 
@@ -172,6 +171,6 @@ list-lies s i = by (inside s i)
     own : Lies (length s.payload) (list_place (record_view s.strings (length s.payload) (node_in s i)))
     own t e = place-lies (length s.payload) (node_in s i) t (record_place s.strings (length s.payload) (node_in s i) ∙ e)
 
-    by : (b : Bool) → Lies (length s.payload) (list_place (cond b (record_view s.strings (length s.payload) (node_in s i)) node.NotFound))
+    by : (b : Bool) → Lies (length s.payload) (list_place (cond b (record_view s.strings (length s.payload) (node_in s i)) None))
     by true = own
     by false = none-lies (length s.payload)

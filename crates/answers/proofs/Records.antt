@@ -1,10 +1,10 @@
 -- The words that are taken from a record are those of its view.
+use Rattle.std.specs.Prelude.{None, Option, Some, ℕ}
 use Prim.Native.Nat.{ℕ, zero, suc, ◌+◌, ◌*◌, ◌/◌, ◌%◌, ◌≤◌, ◌<◌}
 use mathlib.Core.Path.{◌≡◌, refl, sym, ap, ◌∙◌}
 use mathlib.Core.Logic.{◌⊎◌, inl, inr}
 use mathlib.Core.List.{List, [], ◌∷◌, ◌++◌}
 use mathlib.Core.Bool.{Bool, true, false, cond, not}
-use mathlib.Core.Option.{Option, none, some}
 use native.Mathlib.Omega.{arith}
 use native.Mathlib.Nat.{not-suc-le-zero}
 use native.Mathlib.Decide.{ℕ_discrete}
@@ -15,9 +15,6 @@ use mir.Facts.{of_z-to_z}
 use mir.Syntax.{w32}
 use Rattle.words.specs.Words.{NONE, is_none}
 use Rattle.names.specs.Names.{commands, operators, number_in}
-use Rattle.names.specs.Spelling.{numbered}
-use Rattle.names.specs.declared.Number.{Number}
-use Rattle.names.specs.declared.Number.TheVariants as number
 use Rattle.names.specs.declared.control_command.CommandType.{CommandType}
 use Rattle.names.specs.declared.native_function_call.Op.{Op}
 use Rattle.names.specs.ControlCommand.{command_named}
@@ -29,24 +26,18 @@ use Rattle.image.specs.declared.NodeRecord.{NodeRecord}
 use Rattle.records.specs.Fields.{kinds, kind_of}
 use Rattle.records.specs.Flags.{odd}
 use Rattle.views.specs.declared.Span.{Span}
-use Rattle.views.specs.declared.OptionalText.{OptionalText}
-use Rattle.views.specs.declared.OptionalWord.TheVariants as word
 use Rattle.views.specs.declared.ValueView.{ValueView}
 use Rattle.views.specs.declared.ValueView.TheVariants as value
 use Rattle.views.specs.declared.NodeKindView.{NodeKindView}
 use Rattle.views.specs.declared.NodeKindView.TheVariants as kind
-use Rattle.views.specs.declared.KindAnswer.{KindAnswer}
-use Rattle.views.specs.declared.KindAnswer.TheVariants as kindly
-use Rattle.views.specs.declared.NodeAnswer.{NodeAnswer}
-use Rattle.views.specs.declared.NodeAnswer.TheVariants as node
 use Rattle.views.specs.View.{signed, span, optional_text, optional_word, push_type, of_command, of_operator, with_text, kind_view, with_kind, record_view}
 use Rattle.views.specs.Shown.{container_view, divert_view, command_view, operator_view, list_view, with_name, text_kind}
 use Rattle.answers.specs.declared.node.KindWords.{KindWords}
-use Rattle.answers.specs.declared.node.KindFound.TheVariants as found
 use Rattle.answers.specs.AnswerWords.{Answered, unsigned, word_or, span_or, no_span, bit_if}
 use Rattle.answers.specs.NodeViewWords.{push_number, divert_flags, assignment_flags, value_words, kind_words, node_view_words, node_answer}
 use Rattle.answers.specs.RecordWords.{words_found, words_of_kind, text_alone, value_alone, number_found, fields_of}
 use Rattle.answers.proofs.AnswerSlices.{unanswered, too_short}
+use Rattle.views.specs.declared.NodeView.{NodeView}
 
 -- ---- a word is shown as it stands
 
@@ -54,7 +45,7 @@ pub word_back : (w : ℕ) → word_or (optional_word w) ≡ w
 unfolding optional_word
 word_back w = by (is_none w) refl
   where
-    by : (b : Bool) → is_none w ≡ b → word_or (cond b word.Absent (word.Present w)) ≡ w
+    by : (b : Bool) → is_none w ≡ b → word_or (cond b None (Some w)) ≡ w
     by true e = sym (eqb-true w NONE e)
     by false e = refl
 
@@ -104,53 +95,53 @@ assignment_flags_lem w = rw (first_bit w, second_bit (w / 2)) (omega arith)
 -- ---- the kinds one by one
 
 module _ (strings : ℕ) (r : NodeRecord) where
-  pub container-found : (k : KindWords) → r.f2 < 4294967296 → (o : OptionalText) (t : Span) → o ≡ optional_text strings r.f0 r.f1 → t ≡ span_or o
-      → k ≡ text_alone 1 t NONE 0 r.f2 → words_found (found.Kind k) ≡ words_of_kind (container_view strings r)
+  pub container-found : (k : KindWords) → r.f2 < 4294967296 → (o : Option Span) (t : Span) → o ≡ optional_text strings r.f0 r.f1 → t ≡ span_or o
+      → k ≡ text_alone 1 t NONE 0 r.f2 → words_found (Some k) ≡ words_of_kind (container_view strings r)
   unfolding container_view
   container-found k h o t e p q = rw (q, p, e, bits_back r.f2 h)
 
-  pub divert-refused : 2 < r.f6 / 8 → none ≡ words_of_kind (divert_view strings r)
+  pub divert-refused : 2 < r.f6 / 8 → None ≡ words_of_kind (divert_view strings r)
   unfolding divert_view
   divert-refused h = rw (lt-leb (r.f6 / 8) 2 h)
 
-  pub divert-found : r.f6 / 8 ≤ 2 → (o p : OptionalText) (t v : Span) → o ≡ optional_text strings r.f0 r.f1 → t ≡ span_or o
+  pub divert-found : r.f6 / 8 ≤ 2 → (o p : Option Span) (t v : Span) → o ≡ optional_text strings r.f0 r.f1 → t ≡ span_or o
       → p ≡ optional_text strings r.f3 r.f4 → v ≡ span_or p
-      → words_found (found.Kind (record { tag = 4; text = t; variable = v; target = r.f2; value = r.f5; flags = r.f6 })) ≡ words_of_kind (divert_view strings r)
+      → words_found (Some (record { tag = 4; text = t; variable = v; target = r.f2; value = r.f5; flags = r.f6 })) ≡ words_of_kind (divert_view strings r)
   unfolding divert_view
   divert-found h o p t v e f g i = rw (le-leb (r.f6 / 8) 2 h, f, e, i, g, word_back r.f2, divert_flags_lem r.f6 h)
 
 pub list-found : (payload start len : ℕ) (k : KindWords) → start + len ≤ payload → k ≡ text_alone 12 (span start len) NONE 0 0
-    → words_found (found.Kind k) ≡ words_of_kind (list_view payload start len)
+    → words_found (Some k) ≡ words_of_kind (list_view payload start len)
 unfolding list_view
 list-found payload start len k h e = rw (le-leb (start + len) payload h, e)
 
-pub list-refused : (payload start len : ℕ) → payload < start + len → none ≡ words_of_kind (list_view payload start len)
+pub list-refused : (payload start len : ℕ) → payload < start + len → None ≡ words_of_kind (list_view payload start len)
 unfolding list_view
 list-refused payload start len h = rw (lt-leb (start + len) payload h)
 
 -- ---- names
 
-pub command_found : (t : List ℕ) (n : Number) → numbered n ≡ number_in commands t → words_found (number_found 3 n) ≡ words_of_kind (command_view t)
+pub command_found : (t : List ℕ) (n : Option ℕ) → n ≡ number_in commands t → words_found (number_found 3 n) ≡ words_of_kind (command_view t)
 unfolding command_view
 command_found t n e = by (command_named t) refl n e
   where
-    by : (o : Option CommandType) → command_named t ≡ o → (n : Number) → numbered n ≡ number_in commands t
+    by : (o : Option CommandType) → command_named t ≡ o → (n : Option ℕ) → n ≡ number_in commands t
         → words_found (number_found 3 n) ≡ words_of_kind (of_command o)
-    by none q number.Unknown p = refl
-    by none q (number.Known k) p = let u = unnamed-number commands_numbered t q in let z : ◌≡◌ {A = ℕ} 0 1 = cc in absurd (omega arith)
-    by (some a) q number.Unknown p = let u = named-number commands_numbered t a q in let z : ◌≡◌ {A = ℕ} 0 1 = cc in absurd (omega arith)
-    by (some a) q (number.Known k) p = let u = named-number commands_numbered t a q in cc
+    by None q None p = refl
+    by None q (Some k) p = let u = unnamed-number commands_numbered t q in let z : ◌≡◌ {A = ℕ} 0 1 = cc in absurd (omega arith)
+    by (Some a) q None p = let u = named-number commands_numbered t a q in let z : ◌≡◌ {A = ℕ} 0 1 = cc in absurd (omega arith)
+    by (Some a) q (Some k) p = let u = named-number commands_numbered t a q in cc
 
-pub operator_found : (t : List ℕ) (n : Number) → numbered n ≡ number_in operators t → words_found (number_found 6 n) ≡ words_of_kind (operator_view t)
+pub operator_found : (t : List ℕ) (n : Option ℕ) → n ≡ number_in operators t → words_found (number_found 6 n) ≡ words_of_kind (operator_view t)
 unfolding operator_view
 operator_found t n e = by (operator_named t) refl n e
   where
-    by : (o : Option Op) → operator_named t ≡ o → (n : Number) → numbered n ≡ number_in operators t
+    by : (o : Option Op) → operator_named t ≡ o → (n : Option ℕ) → n ≡ number_in operators t
         → words_found (number_found 6 n) ≡ words_of_kind (of_operator o)
-    by none q number.Unknown p = refl
-    by none q (number.Known k) p = let u = unnamed-number operators_numbered t q in let z : ◌≡◌ {A = ℕ} 0 1 = cc in absurd (omega arith)
-    by (some a) q number.Unknown p = let u = named-number operators_numbered t a q in let z : ◌≡◌ {A = ℕ} 0 1 = cc in absurd (omega arith)
-    by (some a) q (number.Known k) p = let u = named-number operators_numbered t a q in cc
+    by None q None p = refl
+    by None q (Some k) p = let u = unnamed-number operators_numbered t q in let z : ◌≡◌ {A = ℕ} 0 1 = cc in absurd (omega arith)
+    by (Some a) q None p = let u = named-number operators_numbered t a q in let z : ◌≡◌ {A = ℕ} 0 1 = cc in absurd (omega arith)
+    by (Some a) q (Some k) p = let u = named-number operators_numbered t a q in cc
 
 -- ---- kinds that are made of a text, by the tag
 
@@ -162,22 +153,22 @@ module _ (strings : List ℕ) (r : NodeRecord) (t : Span) where
   named_at_lem k e a h = h ∙ ap (λ (x : ℕ). words_of_kind (with_name x strings r t)) (sym e)
 
   module _ (k : KindWords) where
-    pub text-named : (r.tag ≡ 7) ⊎ ((r.tag ≡ 11) ⊎ (r.tag ≡ 13)) → k ≡ text_alone r.tag t NONE 0 0 → Named r.tag (words_found (found.Kind k))
+    pub text-named : (r.tag ≡ 7) ⊎ ((r.tag ≡ 11) ⊎ (r.tag ≡ 13)) → k ≡ text_alone r.tag t NONE 0 0 → Named r.tag (words_found (Some k))
     unfolding with_name
     text-named (inl e) q = named_at_lem 7 e _ (rw (q, e))
     text-named (inr (inl e)) q = named_at_lem 11 e _ (rw (q, e))
     text-named (inr (inr e)) q = named_at_lem 13 e _ (rw (q, e))
 
-    pub pointer_named : r.tag ≡ 14 → r.f2 < 4294967296 → k ≡ text_alone 14 t NONE r.f2 0 → Named r.tag (words_found (found.Kind k))
+    pub pointer_named : r.tag ≡ 14 → r.f2 < 4294967296 → k ≡ text_alone 14 t NONE r.f2 0 → Named r.tag (words_found (Some k))
     unfolding with_name
     pointer_named e h q = named_at_lem 14 e _ (rw (q, bits_back r.f2 h))
 
-    pub assignment_named : r.tag ≡ 16 → k ≡ text_alone 16 t NONE 0 (r.f2 % 4) → Named r.tag (words_found (found.Kind k))
+    pub assignment_named : r.tag ≡ 16 → k ≡ text_alone 16 t NONE 0 (r.f2 % 4) → Named r.tag (words_found (Some k))
     unfolding with_name
     assignment_named e q = named_at_lem 16 e _ (rw (q, assignment_flags_lem r.f2))
 
     pub reference-named : (n : ℕ) → (n ≡ 3 → ⊥) → (n ≡ 6 → ⊥) → ((n ≡ 7) ⊎ ((n ≡ 11) ⊎ (n ≡ 13)) → ⊥) → (n ≡ 14 → ⊥) → (n ≡ 16 → ⊥)
-        → k ≡ text_alone 17 t r.f4 0 0 → Named n (words_found (found.Kind k))
+        → k ≡ text_alone 17 t r.f4 0 0 → Named n (words_found (Some k))
     unfolding with_name
     reference-named n a b c d e q =
         rw (ne_eqb n 3 a, ne_eqb n 6 b, ne_eqb n 7 (λ x. c (inl x)), ne_eqb n 11 (λ x. c (inr (inl x))), ne_eqb n 13 (λ x. c (inr (inr x))), ne_eqb n 14 d, ne_eqb n 16 e, q, word_back r.f4)
@@ -197,7 +188,7 @@ text-fields strings r = refl
 
 module _ (strings : List ℕ) (payload : ℕ) (r : NodeRecord) (k : KindWords) where
   abbrev Viewed : ℕ → Type 0
-  Viewed tag = words_found (found.Kind k) ≡ words_of_kind (kind_view strings payload r (kind_of tag))
+  Viewed tag = words_found (Some k) ≡ words_of_kind (kind_view strings payload r (kind_of tag))
 
   viewed_at : (t : ℕ) → r.tag ≡ t → Viewed t → Viewed r.tag
   viewed_at t e h = h ∙ ap (λ (x : ℕ). words_of_kind (kind_view strings payload r (kind_of x))) (sym e)
@@ -229,24 +220,24 @@ module _ (strings : List ℕ) (payload : ℕ) (r : NodeRecord) (k : KindWords) w
 -- ---- the ten words
 
 module _ (strings : List ℕ) (payload : ℕ) (r : NodeRecord) where
-  abbrev viewed : KindAnswer
+  abbrev viewed : Option NodeKindView
   viewed = kind_view strings payload r (kind_of r.tag)
 
-  pub kind-missing : none ≡ words_of_kind viewed → none ≡ node_answer (record_view strings payload r)
+  pub kind-missing : None ≡ words_of_kind viewed → None ≡ node_answer (record_view strings payload r)
   unfolding record_view
   kind-missing h = by viewed h
     where
-      by : (a : KindAnswer) → none ≡ words_of_kind a → none ≡ node_answer (with_kind strings payload r a)
-      by kindly.NotFound e = refl
-      by (kindly.Kind k) e = let z : ◌≡◌ {A = ℕ} 0 1 = cc in absurd (omega arith)
+      by : (a : Option NodeKindView) → None ≡ words_of_kind a → None ≡ node_answer (with_kind strings payload r a)
+      by None e = refl
+      by (Some k) e = let z : ◌≡◌ {A = ℕ} 0 1 = cc in absurd (omega arith)
 
-  pub kind-viewed : (ws : List ℕ) → some ws ≡ words_of_kind viewed → some (r.parent ∷ r.place ∷ ws) ≡ node_answer (record_view strings payload r)
+  pub kind-viewed : (ws : List ℕ) → Some ws ≡ words_of_kind viewed → Some (r.parent ∷ r.place ∷ ws) ≡ node_answer (record_view strings payload r)
   unfolding record_view
   kind-viewed ws h = by viewed h
     where
-      by : (a : KindAnswer) → some ws ≡ words_of_kind a → some (r.parent ∷ r.place ∷ ws) ≡ node_answer (with_kind strings payload r a)
-      by kindly.NotFound e = let z : ◌≡◌ {A = ℕ} 0 1 = cc in absurd (omega arith)
-      by (kindly.Kind k) e =
+      by : (a : Option NodeKindView) → Some ws ≡ words_of_kind a → Some (r.parent ∷ r.place ∷ ws) ≡ node_answer (with_kind strings payload r a)
+      by None e = let z : ◌≡◌ {A = ℕ} 0 1 = cc in absurd (omega arith)
+      by (Some k) e =
           let q : ws ≡ kind_words k = cc in
           rw (q, word_back r.parent, word_back r.place)
 
@@ -273,9 +264,9 @@ eight (kind.VariableReference t target) = refl
 eight kind.Void = refl
 
 -- an answer of fewer words than a view has
-pub view-short : (a : NodeAnswer) (xs : List ℕ) → length xs < 10 → Answered (node_answer a) xs xs 18
-view-short node.NotFound xs h = unanswered none xs refl
-view-short (node.View v) xs h = let e = eight v.kind in too_short (node_view_words v) xs (omega arith)
+pub view-short : (a : Option NodeView) (xs : List ℕ) → length xs < 10 → Answered (node_answer a) xs xs 18
+view-short None xs h = unanswered None xs refl
+view-short (Some v) xs h = let e = eight v.kind in too_short (node_view_words v) xs (omega arith)
 
 -- ten words written one by one
 pub ten_put : (xs : List ℕ) (a b c d e f g h i j : ℕ) → 10 ≤ length xs

@@ -1,4 +1,5 @@
 -- The words of kinds with a signed field.
+use Rattle.std.specs.Prelude.{Option, ℕ}
 use Prim.Native.Nat.{ℕ, ◌<◌}
 use mathlib.Core.Path.{◌≡◌, refl, ap}
 use lib.IntN.{ℤ}
@@ -8,8 +9,6 @@ use mir.Syntax.{w32}
 use Rattle.words.specs.Words.{NONE}
 use Rattle.image.specs.Tags.{container_tag, choice_tag, int_tag, pointer_tag}
 use Rattle.views.specs.declared.Span.{Span}
-use Rattle.views.specs.declared.OptionalText.{OptionalText}
-use Rattle.views.specs.declared.OptionalWord.{OptionalWord}
 use Rattle.views.specs.declared.ValueView.{ValueView}
 use Rattle.views.specs.declared.ValueView.TheVariants as value
 use Rattle.views.specs.declared.NodeKindView.{NodeKindView}
@@ -28,10 +27,10 @@ module _ (z : ℤ) (w : KindWords) (h : mag z < 2147483648) where
       → w ≡ text_alone pointer_tag t NONE r 0 → eight_of w ≡ value_words v
   pointer_words v t r g e q = rw (g, ← field_bits z r h e) (ap eight_of q)
 
-  pub container-words : (k : NodeKindView) (name : OptionalText) → k ≡ kind.Container z name
+  pub container-words : (k : NodeKindView) (name : Option Span) → k ≡ kind.Container z name
       → w ≡ text_alone container_tag (span_or name) NONE 0 (unsigned (to_z w32 (of_z w32 z))) → eight_of w ≡ kind_words k
   container-words k name g q = rw (g, ← field_bits z _ h refl) (ap eight_of q)
 
-  pub choice-words : (k : NodeKindView) (target : OptionalWord) → k ≡ kind.ChoicePoint z target
+  pub choice-words : (k : NodeKindView) (target : Option ℕ) → k ≡ kind.ChoicePoint z target
       → w ≡ text_alone choice_tag no_span (word_or target) 0 (unsigned (to_z w32 (of_z w32 z))) → eight_of w ≡ kind_words k
   choice-words k target g q = rw (g, ← field_bits z _ h refl) (ap eight_of q)

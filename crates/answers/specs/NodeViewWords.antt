@@ -1,6 +1,5 @@
 -- A node's view in ten words.
-use Rattle.std.specs.Prelude.{ℕ, ◌+◌, List, [], ◌∷◌, Bool}
-use Rattle.std.proofs.Math.Option.{Option, none, some}
+use Rattle.std.specs.Prelude.{ℕ, ◌+◌, List, [], ◌∷◌, Bool, None, Option, Some}
 use Rattle.words.specs.Words.{NONE}
 use Rattle.names.specs.ControlCommand.{command_number}
 use Rattle.names.specs.NativeFunctionCall.{operator_number}
@@ -12,8 +11,6 @@ use Rattle.views.specs.declared.ValueView.TheVariants as value
 use Rattle.views.specs.declared.NodeKindView.{NodeKindView}
 use Rattle.views.specs.declared.NodeKindView.TheVariants as kind
 use Rattle.views.specs.declared.NodeView.{NodeView}
-use Rattle.views.specs.declared.NodeAnswer.{NodeAnswer}
-use Rattle.views.specs.declared.NodeAnswer.TheVariants as node
 use Rattle.answers.specs.AnswerWords.{unsigned, word_or, no_span, span_or, bit_if, span_then}
 use Rattle.image.specs.Tags.{container_tag, choice_tag, command_tag, divert_tag, glue_tag, operator_tag, tag_tag, bool_tag, int_tag, float_tag, string_tag, list_tag, target_tag, pointer_tag, assignment_tag, reference_tag, void_tag}
 
@@ -67,35 +64,35 @@ kind_words kind.Void = value_word void_tag 0
 abbrev pub node_view_words : NodeView → List ℕ
 node_view_words v = word_or v.parent ∷ word_or v.child_index ∷ kind_words v.kind
 
-abbrev pub node_answer : NodeAnswer → Option (List ℕ)
-node_answer (node.View v) = some (node_view_words v)
-node_answer node.NotFound = none
+abbrev pub node_answer : Option NodeView → Option (List ℕ)
+node_answer (Some v) = Some (node_view_words v)
+node_answer None = None
 
 -- ---- a list value, by the view of its node
 
 abbrev pub list_of_value : ValueView → Option Span
-list_of_value (value.Bool b) = none
-list_of_value (value.Int i) = none
-list_of_value (value.Float bits x) = none
-list_of_value (value.String t) = none
-list_of_value (value.List t) = some t
-list_of_value (value.DivertTarget t) = none
-list_of_value (value.VariablePointer t context) = none
+list_of_value (value.Bool b) = None
+list_of_value (value.Int i) = None
+list_of_value (value.Float bits x) = None
+list_of_value (value.String t) = None
+list_of_value (value.List t) = Some t
+list_of_value (value.DivertTarget t) = None
+list_of_value (value.VariablePointer t context) = None
 
 abbrev pub list_of_kind : NodeKindView → Option Span
-list_of_kind (kind.Container flags name) = none
-list_of_kind (kind.ChoicePoint flags target) = none
-list_of_kind (kind.ControlCommand c) = none
-list_of_kind (kind.Divert path target variable arguments conditional external pushes p) = none
-list_of_kind kind.Glue = none
-list_of_kind (kind.NativeFunction o) = none
-list_of_kind (kind.Tag t) = none
+list_of_kind (kind.Container flags name) = None
+list_of_kind (kind.ChoicePoint flags target) = None
+list_of_kind (kind.ControlCommand c) = None
+list_of_kind (kind.Divert path target variable arguments conditional external pushes p) = None
+list_of_kind kind.Glue = None
+list_of_kind (kind.NativeFunction o) = None
+list_of_kind (kind.Tag t) = None
 list_of_kind (kind.Value v) = list_of_value v
-list_of_kind (kind.VariableAssignment t global new) = none
-list_of_kind (kind.VariableReference t target) = none
-list_of_kind kind.Void = none
+list_of_kind (kind.VariableAssignment t global new) = None
+list_of_kind (kind.VariableReference t target) = None
+list_of_kind kind.Void = None
 
 -- its place in the payload, none where the node is no list value
-abbrev pub list_place : NodeAnswer → Option Span
-list_place (node.View v) = list_of_kind v.kind
-list_place node.NotFound = none
+abbrev pub list_place : Option NodeView → Option Span
+list_place (Some v) = list_of_kind v.kind
+list_place None = None

@@ -8,15 +8,19 @@ pub mod view_words; // view_words.rt: a node's view, as it is answered
 pub mod lists; // lists.rt: list values, definitions, items
 
 ghost use Rattle.std.specs.Prelude.{◌≡◌, ◌≤◌, ◌++◌, length, drop};
-ghost use Rattle.std.proofs.Math.Option.{some};
 ghost use Rattle.answers.specs.AnswerWords.{span_or, no_span, unsigned, named_view_words};
-ghost use Rattle.answers.specs.AnswerWords.{Answered, found_answer, count_answer, named_answer, place_answer, part_words, part_answer};
+ghost use Rattle.answers.specs.AnswerWords.{Answered, found_answer, named_answer, place_answer, part_words, part_answer};
 ghost use Rattle.answers.specs.Lent.{Spelled};
 
 use image::NONE;
-use image::refusal::{NO_ROOM, NOT_FOUND};
-use views::{Count, Found, NamedAnswer, NamedChildView, OptionalText, Span, TextAnswer};
+use image::refusal::Refusal;
+use views::{NamedChildView, Span};
 use words::output::put_bytes;
+
+// The refusals of answers, by the numbers that C is given.
+pub const NOT_FOUND: u32 = Refusal::NotFound as u32;
+
+pub const NO_ROOM: u32 = Refusal::NoRoom as u32;
 
 // The largest number that a word holds.
 const LARGEST_WORD: usize = 4294967295;
@@ -44,12 +48,12 @@ pub fn no_span() -> Span
 }
 
 // The place of a text, or of none.
-pub fn span_or(text: OptionalText) -> Span
+pub fn span_or(text: Option<Span>) -> Span
     ensures { result ≡ span_or text }
 {
     match text {
-        OptionalText::Present(span) => span,
-        OptionalText::Absent => no_span(),
+        Some(span) => span,
+        None => no_span(),
     }
 }
 
@@ -65,16 +69,12 @@ pub fn put_words(words: &[u32], out: &mut [u32])
     requires { length words.now ≤ length out.old }
     ensures { out.new ≡ words.now ++ drop (length words.now) out.old }
 {
-    let mut i = 0;
-    while i < words.len() {
-        out[i] = words[i];
-        i += 1;
-    }
+    out[..words.len()].copy_from_slice(words);
 }
 
 // The words of an answer.
 pub fn put_answer(words: &[u32], answer: &mut [u32]) -> u32
-    ensures { Answered (some words.now) answer.old answer.new result }
+    ensures { Answered (Some words.now) answer.old answer.new result }
 {
     if words.len() <= answer.len() {
         put_words(words, answer);
@@ -83,39 +83,27 @@ pub fn put_answer(words: &[u32], answer: &mut [u32]) -> u32
     NOT_FOUND
 }
 
-// The node that was found.
-pub fn put_found(found: Found, answer: &mut [u32]) -> u32
+// The number that was found: a node, a count.
+pub fn put_found(found: Option<u32>, answer: &mut [u32]) -> u32
     ensures { Answered (found_answer found) answer.old answer.new result }
 {
     match found {
-        Found::NotFound => NOT_FOUND,
-        Found::Node(node) => {
+        None => NOT_FOUND,
+        Some(node) => {
             let words = [node];
             put_answer(&words, answer)
         }
     }
 }
 
-// A count that was found.
-pub fn put_count(count: Count, answer: &mut [u32]) -> u32
-    ensures { Answered (count_answer count) answer.old answer.new result }
-{
-    match count {
-        Count::NotFound => NOT_FOUND,
-        Count::Of(number) => {
-            let words = [number];
-            put_answer(&words, answer)
-        }
-    }
-}
-
 // A named child that was found.
-pub fn put_named(found: NamedAnswer, answer: &mut [u32]) -> u32
+// Beside `put_found` and the functions of `lists` only the words' function differs; what is alike is `put_answer`.
+pub fn put_named(found: Option<NamedChildView>, answer: &mut [u32]) -> u32
     ensures { Answered (named_answer found) answer.old answer.new result }
 {
     match found {
-        NamedAnswer::NotFound => NOT_FOUND,
-        NamedAnswer::Named(named) => {
+        None => NOT_FOUND,
+        Some(named) => {
             let words = named_words(named);
             put_answer(&words, answer)
         }
@@ -123,12 +111,12 @@ pub fn put_named(found: NamedAnswer, answer: &mut [u32]) -> u32
 }
 
 // The place, in the strings, of a text that was found.
-pub fn put_place(found: TextAnswer, answer: &mut [u32]) -> u32
+pub fn put_place(found: Option<Span>, answer: &mut [u32]) -> u32
     ensures { Answered (place_answer found) answer.old answer.new result }
 {
     match found {
-        TextAnswer::NotFound => NOT_FOUND,
-        TextAnswer::Text(text) => {
+        None => NOT_FOUND,
+        Some(text) => {
             let words = [text.offset, text.len];
             put_answer(&words, answer)
         }
@@ -152,12 +140,12 @@ pub fn put_part(bytes: usize, section: u32, place: Span, answer: &mut [u32]) -> 
 }
 
 // The same of a text that was found.
-pub fn put_text(bytes: usize, strings: u32, found: TextAnswer, answer: &mut [u32]) -> u32
+pub fn put_text(bytes: usize, strings: u32, found: Option<Span>, answer: &mut [u32]) -> u32
     ensures { Answered (part_answer bytes strings found) answer.old answer.new result }
 {
     match found {
-        TextAnswer::NotFound => NOT_FOUND,
-        TextAnswer::Text(text) => put_part(bytes, strings, text, answer),
+        None => NOT_FOUND,
+        Some(text) => put_part(bytes, strings, text, answer),
     }
 }
 
@@ -165,7 +153,7 @@ pub fn put_text(bytes: usize, strings: u32, found: TextAnswer, answer: &mut [u32
 // no room, and then both stay.
 pub fn put_text_copy(part: &[u8], long: u32, text: &mut [u8], size: &mut [u32]) -> u32
     requires { long ≡ length part.now }
-    ensures { Spelled (some part.now) text.old text.new size.old size.new result }
+    ensures { Spelled (Some part.now) text.old text.new size.old size.new result }
 {
     if size.len() < 1 {
         return NO_ROOM;

@@ -1,6 +1,6 @@
 // List values, definitions and items in words.
+// The functions `put_..` answer the number that the C interface gives: 0, or NOT_FOUND.
 ghost use Rattle.std.specs.Prelude.{◌≡◌, [], ◌∷◌};
-ghost use Rattle.std.proofs.Math.Option.{some};
 ghost use Rattle.image.specs.Header.{sections_by};
 ghost use Rattle.views.specs.View.{node_view};
 ghost use Rattle.answers.specs.AnswerWords.{entry_words, definition_view_words, item_view_words, count_words, found_item_words};
@@ -8,32 +8,23 @@ ghost use Rattle.answers.specs.AnswerWords.{Answered, answer_after, entry_answer
 ghost use Rattle.answers.specs.NodeViewWords.{list_place};
 ghost use Rattle.answers.specs.RecordWords.{found_list_place, list_place_in};
 
-use crate::{LARGEST_WORD, put_answer, span_or, unsigned_of};
-use image::refusal::NOT_FOUND;
+use crate::{LARGEST_WORD, NOT_FOUND, put_answer, span_or, unsigned_of};
 use image::{ImageView, NodeRecord, payload, tag};
 use list_items::ItemSearch;
-use lookups::{ListItem, ListItemAnswer};
-use views::entries::RecordFound;
-use views::{DefinitionAnswer, DefinitionView, EntryAnswer, ItemAnswer, ItemView, ListEntry, Span};
-
-// The place of a list value in the payload, where the node is one.
-#[derive(Clone, Copy)]
-pub enum ListPlace {
-    List(Span),
-    NotFound,
-}
+use lookups::ListItem;
+use views::{DefinitionView, ItemView, ListEntry, Span};
 
 // The same of a node's record, beside a payload of so many bytes.
-fn place_of(node: NodeRecord, payload: usize) -> ListPlace
+fn place_of(node: NodeRecord, payload: usize) -> Option<Span>
     ensures { found_list_place result ≡ list_place_in payload node }
 {
     if node.tag != tag::LIST_VALUE {
-        return ListPlace::NotFound;
+        return None;
     }
     if payload < node.f0 as usize + node.f1 as usize {
-        return ListPlace::NotFound;
+        return None;
     }
-    ListPlace::List(Span {
+    Some(Span {
         offset: node.f0,
         len: node.f1,
     })
@@ -73,12 +64,13 @@ pub fn item_words(item: ItemView) -> [u32; 3]
 }
 
 // An entry of a list value that was found.
-pub fn put_entry(found: EntryAnswer, answer: &mut [u32]) -> u32
+// Beside `put_definition` and `put_item` only the words' function differs; what is alike is `put_answer`.
+pub fn put_entry(found: Option<ListEntry>, answer: &mut [u32]) -> u32
     ensures { Answered (entry_answer found) answer.old answer.new result }
 {
     match found {
-        EntryAnswer::NotFound => NOT_FOUND,
-        EntryAnswer::Entry(entry) => {
+        None => NOT_FOUND,
+        Some(entry) => {
             let words = entry_words(entry);
             put_answer(&words, answer)
         }
@@ -86,12 +78,13 @@ pub fn put_entry(found: EntryAnswer, answer: &mut [u32]) -> u32
 }
 
 // A definition that was found.
-pub fn put_definition(found: DefinitionAnswer, answer: &mut [u32]) -> u32
+// Beside `put_entry` and `put_item` only the words' function differs; what is alike is `put_answer`.
+pub fn put_definition(found: Option<DefinitionView>, answer: &mut [u32]) -> u32
     ensures { Answered (definition_answer found) answer.old answer.new result }
 {
     match found {
-        DefinitionAnswer::NotFound => NOT_FOUND,
-        DefinitionAnswer::Definition(definition) => {
+        None => NOT_FOUND,
+        Some(definition) => {
             let words = definition_words(definition);
             put_answer(&words, answer)
         }
@@ -99,12 +92,13 @@ pub fn put_definition(found: DefinitionAnswer, answer: &mut [u32]) -> u32
 }
 
 // An item of a definition that was found.
-pub fn put_item(found: ItemAnswer, answer: &mut [u32]) -> u32
+// Beside `put_entry` and `put_definition` only the words' function differs; what is alike is `put_answer`.
+pub fn put_item(found: Option<ItemView>, answer: &mut [u32]) -> u32
     ensures { Answered (item_answer found) answer.old answer.new result }
 {
     match found {
-        ItemAnswer::NotFound => NOT_FOUND,
-        ItemAnswer::Item(item) => {
+        None => NOT_FOUND,
+        Some(item) => {
             let words = item_words(item);
             put_answer(&words, answer)
         }
@@ -141,19 +135,19 @@ pub fn put_item_numbers(item: ListItem, answer: &mut [u32]) -> u32
 }
 
 // The same of an item that was found by name.
-pub fn put_list_item(found: ListItemAnswer, answer: &mut [u32]) -> u32
+pub fn put_list_item(found: Option<ListItem>, answer: &mut [u32]) -> u32
     ensures { Answered (list_item_answer found) answer.old answer.new result }
 {
     match found {
-        ListItemAnswer::NotFound => NOT_FOUND,
-        ListItemAnswer::Item(item) => put_item_numbers(item, answer),
+        None => NOT_FOUND,
+        Some(item) => put_item_numbers(item, answer),
     }
 }
 
 // The same of a search, and the number of definitions whose items it searched as the first word of `searched`, if a word is lent.
 pub fn put_search(search: ItemSearch, answer: &mut [u32], searched: &mut [u32]) -> u32
     ensures answer { Answered (list_item_answer search.answer) answer.old answer.new result }
-    ensures searched { searched.new ≡ answer_after (some (search.searched ∷ [])) searched.old }
+    ensures searched { searched.new ≡ answer_after (Some (search.searched ∷ [])) searched.old }
 {
     let count = [search.searched];
     put_answer(&count, searched);
@@ -176,14 +170,10 @@ pub fn put_list_counts(payload: &[u8], answer: &mut [u32]) -> u32
 }
 
 // The place of a node's list value: where its view shows a list.
-pub fn list_place(bytes: &[u8], view: ImageView, id: u32) -> ListPlace
+pub fn list_place(bytes: &[u8], view: ImageView, id: u32) -> Option<Span>
     ensures { found_list_place result ≡ list_place (node_view (sections_by bytes.now view) id) }
 {
-    match views::entries::node_of(bytes, view, id) {
-        RecordFound::NotFound => ListPlace::NotFound,
-        RecordFound::Record(node) => {
-            let payload = image::section_part(bytes, view.payload, ImageView::PAYLOAD_SIZE);
-            place_of(node, payload.len())
-        }
-    }
+    let node = views::entries::node_of(bytes, view, id)?;
+    let payload = image::section_part(bytes, view.payload, ImageView::PAYLOAD_SIZE);
+    place_of(node, payload.len())
 }

@@ -1,5 +1,6 @@
 // A node's view in ten words: parent, place, kind, text, text_length, variable, variable_length, target, value, flags. They are taken
 // straight from the node's record, by one decision over its tag; laws say that they are the words of the view.
+// The functions `put_..` answer the number that the C interface gives: 0, or NOT_FOUND.
 ghost use Rattle.std.specs.Prelude.{◌≡◌, not, ◌≤◌, ◌∷◌, ◌++◌, eqb, length, drop};
 ghost use Rattle.image.specs.Header.{sections_by};
 ghost use Rattle.records.specs.Fields.{kind_of};
@@ -9,12 +10,9 @@ ghost use Rattle.answers.specs.AnswerWords.{Answered, bit_if};
 ghost use Rattle.answers.specs.NodeViewWords.{node_answer};
 ghost use Rattle.answers.specs.RecordWords.{eight_of, words_found, words_of_kind, text_alone, value_alone, number_found, fields_of};
 
-use crate::{no_span, span_or};
-use image::refusal::NOT_FOUND;
+use crate::{NOT_FOUND, no_span, span_or};
 use image::{ImageView, NONE, NodeRecord, tag};
-use names::Number;
-use views::entries::RecordFound;
-use views::{OptionalText, Span};
+use views::Span;
 
 // Words of a node's view.
 pub const NODE_VIEW_WORDS: usize = 10;
@@ -28,12 +26,6 @@ pub struct KindWords {
     pub target: u32,
     pub value: u32,
     pub flags: u32,
-}
-
-#[derive(Clone, Copy)]
-pub enum KindFound {
-    Kind(KindWords),
-    NotFound,
 }
 
 // A kind that has no second text.
@@ -65,23 +57,23 @@ fn bit_of(word: u32) -> u32
 }
 
 // Name and flags.
-fn container(node: NodeRecord, strings: usize) -> KindFound
+fn container(node: NodeRecord, strings: usize) -> Option<KindWords>
     ensures { words_found result ≡ words_of_kind (container_view strings node) }
 {
     let name = span_or(views::view::optional_text(strings, node.f0, node.f1));
-    KindFound::Kind(text_alone(tag::CONTAINER, name, NONE, 0, node.f2))
+    Some(text_alone(tag::CONTAINER, name, NONE, 0, node.f2))
 }
 
 // Path, variable, target, number of arguments, flags; none where the push type is unknown.
-fn divert(node: NodeRecord, strings: usize) -> KindFound
+fn divert(node: NodeRecord, strings: usize) -> Option<KindWords>
     ensures { words_found result ≡ words_of_kind (divert_view strings node) }
 {
     if 2 < node.f6 / 8 {
-        return KindFound::NotFound;
+        return None;
     }
     let text = span_or(views::view::optional_text(strings, node.f0, node.f1));
     let variable = span_or(views::view::optional_text(strings, node.f3, node.f4));
-    KindFound::Kind(KindWords {
+    Some(KindWords {
         tag: tag::DIVERT,
         text,
         variable,
@@ -92,29 +84,27 @@ fn divert(node: NodeRecord, strings: usize) -> KindFound
 }
 
 // A command or operator, by the number of its name.
-fn numbered(tag: u32, number: Number) -> KindFound
+fn numbered(tag: u32, number: Option<u8>) -> Option<KindWords>
     ensures { result ≡ number_found tag number }
 {
-    match number {
-        Number::Known(known) => KindFound::Kind(value_alone(tag, known as u32)),
-        Number::Unknown => KindFound::NotFound,
-    }
+    let known = number?;
+    Some(value_alone(tag, known as u32))
 }
 
 // The place of a list value, where it is inside the payload.
-fn list(payload: usize, start: u32, len: u32) -> KindFound
+fn list(payload: usize, start: u32, len: u32) -> Option<KindWords>
     ensures { words_found result ≡ words_of_kind (list_view payload start len) }
 {
     if start as usize + len as usize <= payload {
-        KindFound::Kind(text_alone(tag::LIST_VALUE, Span { offset: start, len }, NONE, 0, 0))
+        Some(text_alone(tag::LIST_VALUE, Span { offset: start, len }, NONE, 0, 0))
     } else {
-        KindFound::NotFound
+        None
     }
 }
 
 // A kind that is made of its text, by the tag and the fields that it may have. They are taken one by one, so that a record need not be
 // laid down in memory for the call.
-fn with_name(tag: u32, f2: u32, f4: u32, name: Span, strings: &[u8]) -> KindFound
+fn with_name(tag: u32, f2: u32, f4: u32, name: Span, strings: &[u8]) -> Option<KindWords>
     ensures { words_found result ≡ words_of_kind (with_name tag strings.now (fields_of tag 0 0 f2 f4) name) }
 {
     let text = image::text_part(strings, name.offset, name.len);
@@ -124,39 +114,35 @@ fn with_name(tag: u32, f2: u32, f4: u32, name: Span, strings: &[u8]) -> KindFoun
             tag::OPERATOR,
             names::native_function_call::operator_number(text),
         ),
-        tag::TAG | tag::STRING_VALUE | tag::TARGET_VALUE => KindFound::Kind(text_alone(
-            tag, name, NONE, 0, 0,
-        )),
-        tag::POINTER_VALUE => KindFound::Kind(text_alone(tag::POINTER_VALUE, name, NONE, f2, 0)),
-        tag::ASSIGNMENT => KindFound::Kind(text_alone(tag::ASSIGNMENT, name, NONE, 0, f2 % 4)),
-        _ => KindFound::Kind(text_alone(tag::REFERENCE, name, f4, 0, 0)),
+        tag::TAG | tag::STRING_VALUE | tag::TARGET_VALUE => Some(text_alone(tag, name, NONE, 0, 0)),
+        tag::POINTER_VALUE => Some(text_alone(tag::POINTER_VALUE, name, NONE, f2, 0)),
+        tag::ASSIGNMENT => Some(text_alone(tag::ASSIGNMENT, name, NONE, 0, f2 % 4)),
+        _ => Some(text_alone(tag::REFERENCE, name, f4, 0, 0)),
     }
 }
 
 // The same, where the text is present and inside.
-fn text_kind(tag: u32, f0: u32, f1: u32, f2: u32, f4: u32, strings: &[u8]) -> KindFound
+fn text_kind(tag: u32, f0: u32, f1: u32, f2: u32, f4: u32, strings: &[u8]) -> Option<KindWords>
     ensures { words_found result ≡ words_of_kind (text_kind tag strings.now (fields_of tag f0 f1 f2 f4)) }
 {
-    match views::view::optional_text(strings.len(), f0, f1) {
-        OptionalText::Absent => KindFound::NotFound,
-        OptionalText::Present(name) => with_name(tag, f2, f4, name, strings),
-    }
+    let name = views::view::optional_text(strings.len(), f0, f1)?;
+    with_name(tag, f2, f4, name, strings)
 }
 
 // The words of a record's kind: one decision over the tag's number. Kinds made of a text share one arm, so that the strings are not laid
 // down in memory for a call.
-pub fn kind_words(node: NodeRecord, payload: usize, strings: &[u8]) -> KindFound
+pub fn kind_words(node: NodeRecord, payload: usize, strings: &[u8]) -> Option<KindWords>
     ensures { words_found result ≡ words_of_kind (kind_view strings.now payload node (kind_of node.tag)) }
 {
     let tag = node.tag;
     match tag {
         tag::CONTAINER => container(node, strings.len()),
-        tag::CHOICE => KindFound::Kind(text_alone(tag::CHOICE, no_span(), node.f2, 0, node.f3)),
+        tag::CHOICE => Some(text_alone(tag::CHOICE, no_span(), node.f2, 0, node.f3)),
         tag::DIVERT => divert(node, strings.len()),
-        tag::GLUE => KindFound::Kind(value_alone(tag::GLUE, 0)),
-        tag::BOOL_VALUE => KindFound::Kind(value_alone(tag::BOOL_VALUE, bit_of(node.f0))),
-        tag::INT_VALUE => KindFound::Kind(value_alone(tag::INT_VALUE, node.f0)),
-        tag::FLOAT_VALUE => KindFound::Kind(value_alone(tag::FLOAT_VALUE, node.f0)),
+        tag::GLUE => Some(value_alone(tag::GLUE, 0)),
+        tag::BOOL_VALUE => Some(value_alone(tag::BOOL_VALUE, bit_of(node.f0))),
+        tag::INT_VALUE => Some(value_alone(tag::INT_VALUE, node.f0)),
+        tag::FLOAT_VALUE => Some(value_alone(tag::FLOAT_VALUE, node.f0)),
         tag::LIST_VALUE => list(payload, node.f0, node.f1),
         tag::COMMAND
         | tag::OPERATOR
@@ -166,8 +152,8 @@ pub fn kind_words(node: NodeRecord, payload: usize, strings: &[u8]) -> KindFound
         | tag::POINTER_VALUE
         | tag::ASSIGNMENT
         | tag::REFERENCE => { text_kind(tag, node.f0, node.f1, node.f2, node.f4, strings) }
-        tag::VOID => KindFound::Kind(value_alone(tag::VOID, 0)),
-        _ => KindFound::NotFound,
+        tag::VOID => Some(value_alone(tag::VOID, 0)),
+        _ => None,
     }
 }
 
@@ -196,8 +182,8 @@ fn put_record_view(node: NodeRecord, payload: usize, strings: &[u8], answer: &mu
         return NOT_FOUND;
     }
     match kind_words(node, payload, strings) {
-        KindFound::NotFound => NOT_FOUND,
-        KindFound::Kind(kind) => {
+        None => NOT_FOUND,
+        Some(kind) => {
             put_ten(node.parent, node.place, kind, answer);
             0
         }
@@ -209,8 +195,8 @@ pub fn put_node_view(bytes: &[u8], view: ImageView, id: u32, answer: &mut [u32])
     ensures { Answered (node_answer (node_view (sections_by bytes.now view) id)) answer.old answer.new result }
 {
     match views::entries::node_of(bytes, view, id) {
-        RecordFound::NotFound => NOT_FOUND,
-        RecordFound::Record(node) => {
+        None => NOT_FOUND,
+        Some(node) => {
             let payload = image::section_part(bytes, view.payload, ImageView::PAYLOAD_SIZE);
             let strings = image::section_part(bytes, view.strings, ImageView::STRINGS_SIZE);
             put_record_view(node, payload.len(), strings, answer)

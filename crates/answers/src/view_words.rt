@@ -1,4 +1,5 @@
 // A node's view, as it is answered, in ten words. Module node takes the same words straight from the record.
+// `put_node` answers the number that the C interface gives: 0, or NOT_FOUND.
 ghost use Rattle.std.specs.Prelude.{◌≡◌, ◌≤◌};
 ghost use Rattle.words.specs.Words.{NONE};
 ghost use Rattle.names.specs.ControlCommand.{command_number};
@@ -9,22 +10,19 @@ ghost use Rattle.answers.specs.NodeViewWords.{eight_words, push_number, divert_f
 ghost use Rattle.answers.specs.RecordWords.{eight_of, text_alone, value_alone};
 
 use crate::node::{KindWords, text_alone, value_alone};
-use crate::{no_span, put_answer, span_or, unsigned_of};
-use image::refusal::NOT_FOUND;
+use crate::{NOT_FOUND, no_span, put_answer, span_or, unsigned_of};
 use image::{NONE, tag};
 use names::control_command::CommandType;
 use names::native_function_call::Op;
-use views::{
-    NodeAnswer, NodeKindView, NodeView, OptionalText, OptionalWord, PushPopType, Span, ValueView,
-};
+use views::{NodeKindView, NodeView, PushPopType, Span, ValueView};
 
 // A node or a place, or NONE.
-fn word_or(word: OptionalWord) -> u32
+fn word_or(word: Option<u32>) -> u32
     ensures { result ≡ word_or word }
 {
     match word {
-        OptionalWord::Present(present) => present,
-        OptionalWord::Absent => NONE,
+        Some(present) => present,
+        None => NONE,
     }
 }
 
@@ -56,14 +54,14 @@ fn divert_flags(conditional: bool, external: bool, pushes: bool, push: PushPopTy
 }
 
 // Name and flags.
-fn container(flags: i32, name: OptionalText) -> KindWords
+fn container(flags: i32, name: Option<Span>) -> KindWords
     ensures { result ≡ text_alone container_tag (span_or name) NONE 0 (unsigned flags) }
 {
     text_alone(tag::CONTAINER, span_or(name), NONE, 0, unsigned_of(flags))
 }
 
 // Target and flags.
-fn choice(flags: i32, target: OptionalWord) -> KindWords
+fn choice(flags: i32, target: Option<u32>) -> KindWords
     ensures { result ≡ text_alone choice_tag no_span (word_or target) 0 (unsigned flags) }
 {
     text_alone(
@@ -203,12 +201,13 @@ fn node_words(view: NodeView) -> [u32; 10]
 }
 
 // The words of a view that was answered.
-pub fn put_node(view: NodeAnswer, answer: &mut [u32]) -> u32
+// Beside `lists::put_entry` only the words' function differs; what is alike is `put_answer`.
+pub fn put_node(view: Option<NodeView>, answer: &mut [u32]) -> u32
     ensures { Answered (node_answer view) answer.old answer.new result }
 {
     match view {
-        NodeAnswer::NotFound => NOT_FOUND,
-        NodeAnswer::View(node) => {
+        None => NOT_FOUND,
+        Some(node) => {
             let words = node_words(node);
             put_answer(&words, answer)
         }

@@ -186,10 +186,11 @@ lanes_end s a b c d p q r u h ep eq er eu =
 -- ---- what the code reads
 
 -- four bytes by sums
-pub word_number : (a b c d : ℕ) → a < 256 → b < 256 → c < 256 → d < 256 → a + 256 * (b + 256 * (c + 256 * d)) ≡ little_endian (a ∷ b ∷ c ∷ d ∷ [])
+pub from_bytes : (a b c d w : ℕ) → a < 256 → b < 256 → c < 256 → d < 256 → w ≡ a + 256 * (b + 256 * (c + 256 * d)) → w ≡ little_endian (a ∷ b ∷ c ∷ d ∷ [])
 unfolding little_endian
-word_number a b c d ha hb hc hd =
-    sym
+from_bytes a b c d w ha hb hc hd e =
+    e
+    ∙ sym
     (ap (λ x. bit_xor (bit_xor (bit_xor (x * 2 ^ 8) c * 2 ^ 8) b * 2 ^ 8) a) (xor_shifted 0 8 d hd)
     ∙ ap (λ x. bit_xor (bit_xor (x * 2 ^ 8) b * 2 ^ 8) a) (xor_shifted (0 * 2 ^ 8 + d) 8 c hc)
     ∙ ap (λ x. bit_xor (x * 2 ^ 8) a) (xor_shifted ((0 * 2 ^ 8 + d) * 2 ^ 8 + c) 8 b hb)

@@ -1,8 +1,8 @@
 // The checksum of an image: CRC-32 of every byte except its own four. A table of 256 words takes byte after byte; from LANES_FROM bytes on
-// four lanes take four bytes each, by four further tables. A table that is indexed in a loop has to be a local: they take about 5 KB of stack.
+// four lanes take four bytes each, by four further tables.
 #![tactic(auto)]
 
-ghost use Rattle.std.specs.Prelude.{◌≡◌, [], ◌∷◌, ◌+◌, ◌≤◌, min, length, take, drop};
+ghost use Rattle.std.specs.Prelude.{◌≡◌, ◌+◌, ◌≤◌, length, take, drop};
 ghost use Rattle.std.specs.Int.Bits.{bit_xor};
 ghost use Rattle.checksum.specs.Crc.{shifts, crc_table, byte_step, crc_from, crc32, checksum_of};
 ghost use Rattle.checksum.specs.Lanes.{lane_entries, little_endian, lanes_from};
@@ -14,11 +14,11 @@ pub const SKIP_TO: usize = SKIP_FROM + 4;
 
 const ONES: u32 = 0xffffffff;
 
-// From so many bytes on four lanes are faster, although their tables are copied to the stack first.
+// From so many bytes on four lanes are faster, although they read four more tables.
 const LANES_FROM: usize = 64;
 
 // Entry i is eight shifts of i, by the polynomial edb88320 (reflected).
-const CRC32_TABLE: [u32; 256] = [
+static CRC32_TABLE: [u32; 256] = [
     0x00000000, 0x77073096, 0xee0e612c, 0x990951ba, 0x076dc419, 0x706af48f, 0xe963a535, 0x9e6495a3,
     0x0edb8832, 0x79dcb8a4, 0xe0d5e91e, 0x97d2d988, 0x09b64c2b, 0x7eb17cbd, 0xe7b82d07, 0x90bf1d91,
     0x1db71064, 0x6ab020f2, 0xf3b97148, 0x84be41de, 0x1adad47d, 0x6ddde4eb, 0xf4d4b551, 0x83d385c7,
@@ -54,7 +54,7 @@ const CRC32_TABLE: [u32; 256] = [
 ];
 
 // Four tables, one after the other: entry i is 128 shifts of i in the first, 120 in the second, 112 and 104.
-const LANE_TABLES: [u32; 1024] = [
+static LANE_TABLES: [u32; 1024] = [
     0x00000000, 0xae689191, 0x87a02563, 0x29c8b4f2, 0xd4314c87, 0x7a59dd16, 0x539169e4, 0xfdf9f875,
     0x73139f4f, 0xdd7b0ede, 0xf4b3ba2c, 0x5adb2bbd, 0xa722d3c8, 0x094a4259, 0x2082f6ab, 0x8eea673a,
     0xe6273e9e, 0x484faf0f, 0x61871bfd, 0xcfef8a6c, 0x32167219, 0x9c7ee388, 0xb5b6577a, 0x1bdec6eb,
@@ -185,112 +185,98 @@ const LANE_TABLES: [u32; 1024] = [
     0x409d8afe, 0x9d0b537b, 0x20c13fb5, 0xfd57e630, 0x8024e068, 0x5db239ed, 0xe0785523, 0x3dee8ca6,
 ];
 
-// The table, for a local: a constant that is indexed in a loop is copied at each turn.
-fn table() -> [u32; 256]
-    ensures { result ≡ crc_table }
+// The table, whose rule is proved here.
+fn table() -> &'static [u32; 256]
+    ensures { result.now ≡ crc_table }
 {
-    CRC32_TABLE
+    &CRC32_TABLE
 }
 
-// The four tables, for a local.
-fn lane_tables() -> [u32; 1024]
-    ensures { result ≡ lane_entries }
+// The four tables, likewise.
+fn lane_tables() -> &'static [u32; 1024]
+    ensures { result.now ≡ lane_entries }
 {
-    LANE_TABLES
+    &LANE_TABLES
 }
 
 // One byte more.
-fn update(table: &[u32; 256], crc: u32, byte: u8) -> u32
-    requires { table.now ≡ crc_table }
+fn update(crc: u32, byte: u8) -> u32
     ensures { result ≡ byte_step crc byte }
 {
-    let index = ((crc % 256) ^ (byte as u32)) as usize;
-    (crc >> 8) ^ table[index]
+    let index = ((crc % 256) ^ u32::from(byte)) as usize;
+    (crc >> 8) ^ table()[index]
 }
 
 // Every byte of a slice, one by one.
-fn update_bytes(table: &[u32; 256], crc: u32, bytes: &[u8]) -> u32
-    requires { table.now ≡ crc_table }
+fn update_bytes(crc: u32, bytes: &[u8]) -> u32
     ensures { result ≡ crc_from crc bytes.now }
 {
     let mut c = crc;
-    let mut i = 0;
-    while i < bytes.len() {
-        c = update(table, c, bytes[i]);
-        i += 1;
+    for byte in bytes {
+        c = update(c, *byte);
     }
     c
 }
 
-// Four bytes as a number, the first one lowest.
-fn word(a: u8, b: u8, c: u8, d: u8) -> u32
-    ensures { result ≡ little_endian (a ∷ b ∷ c ∷ d ∷ []) }
-{
-    (a as u32) + 256 * ((b as u32) + 256 * ((c as u32) + 256 * (d as u32)))
-}
-
 // 128 shifts of a word, a table for each of its bytes: where a lane stands after a block of 16 bytes.
-fn shift_block(tables: &[u32; 1024], x: u32) -> u32
-    requires { tables.now ≡ lane_entries }
+fn shift_block(x: u32) -> u32
     ensures { result ≡ shifts 128 x }
 {
-    let i = (x % 256) as usize;
-    let j = (x / 256 % 256) as usize + 256;
-    let k = (x / 65536 % 256) as usize + 512;
-    let l = (x / 16777216) as usize + 768;
-    ((tables[i] ^ tables[j]) ^ tables[k]) ^ tables[l]
+    let tables = lane_tables();
+    let [i, j, k, l] = x.to_le_bytes();
+    tables[usize::from(i)]
+        ^ tables[usize::from(j) + 256]
+        ^ tables[usize::from(k) + 512]
+        ^ tables[usize::from(l) + 768]
 }
 
 // A lane takes in its four bytes at i, and is shifted to the block after.
-fn lane(tables: &[u32; 1024], crc: u32, s: &[u8], i: usize) -> u32
-    requires { (tables.now ≡ lane_entries) × (i + 4 ≤ length s.now) }
+fn lane(crc: u32, s: &[u8], i: usize) -> u32
+    requires { i + 4 ≤ length s.now }
     ensures { result ≡ shifts 128 (bit_xor crc (little_endian (take 4 (drop i s.now)))) }
 {
-    shift_block(tables, crc ^ word(s[i], s[i + 1], s[i + 2], s[i + 3]))
+    shift_block(crc ^ u32::from_le_bytes([s[i], s[i + 1], s[i + 2], s[i + 3]]))
 }
 
 // The lanes become one register: each takes in its four bytes and is added to the next. The bytes after these 16 go one by one.
-fn join_lanes(table: &[u32; 256], a: u32, b: u32, c: u32, d: u32, s: &[u8]) -> u32
-    requires { (table.now ≡ crc_table) × (16 ≤ length s.now) }
+fn join_lanes(a: u32, b: u32, c: u32, d: u32, s: &[u8]) -> u32
+    requires { 16 ≤ length s.now }
     ensures { result ≡ lanes_from a b c d s.now }
 {
-    let first = update_bytes(table, a, &s[..4]);
-    let second = update_bytes(table, first ^ b, &s[4..8]);
-    let third = update_bytes(table, second ^ c, &s[8..12]);
-    let last = update_bytes(table, third ^ d, &s[12..16]);
-    update_bytes(table, last, &s[16..])
+    let first = update_bytes(a, &s[..4]);
+    let second = update_bytes(first ^ b, &s[4..8]);
+    let third = update_bytes(second ^ c, &s[8..12]);
+    let last = update_bytes(third ^ d, &s[12..16]);
+    update_bytes(last, &s[16..])
 }
 
 // Every byte of a slice, by four lanes: blocks of 16 while another follows, then the lanes are joined.
-fn update_lanes(table: &[u32; 256], crc: u32, s: &[u8]) -> u32
-    requires { (table.now ≡ crc_table) × (16 ≤ length s.now) }
+fn update_lanes(crc: u32, s: &[u8]) -> u32
+    requires { 16 ≤ length s.now }
     ensures { result ≡ crc_from crc s.now }
 {
-    let tables = lane_tables();
-    let mut a = crc;
-    let mut b: u32 = 0;
-    let mut c: u32 = 0;
-    let mut d: u32 = 0;
+    let (mut a, mut b, mut c, mut d) = (crc, 0, 0, 0);
     let mut i = 0;
+
+    // By index: the place where the blocks end is where the lanes are joined.
     while 32 <= s.len() - i {
-        a = lane(&tables, a, s, i);
-        b = lane(&tables, b, s, i + 4);
-        c = lane(&tables, c, s, i + 8);
-        d = lane(&tables, d, s, i + 12);
+        a = lane(a, s, i);
+        b = lane(b, s, i + 4);
+        c = lane(c, s, i + 8);
+        d = lane(d, s, i + 12);
         i += 16;
     }
-    join_lanes(table, a, b, c, d, &s[i..])
+    join_lanes(a, b, c, d, &s[i..])
 }
 
 // Every byte of a slice, in the way that is faster for its length.
-fn update_all(table: &[u32; 256], crc: u32, bytes: &[u8]) -> u32
-    requires { table.now ≡ crc_table }
+fn update_all(crc: u32, bytes: &[u8]) -> u32
     ensures { result ≡ crc_from crc bytes.now }
 {
     if bytes.len() < LANES_FROM {
-        update_bytes(table, crc, bytes)
+        update_bytes(crc, bytes)
     } else {
-        update_lanes(table, crc, bytes)
+        update_lanes(crc, bytes)
     }
 }
 
@@ -298,24 +284,15 @@ fn update_all(table: &[u32; 256], crc: u32, bytes: &[u8]) -> u32
 pub fn crc(bytes: &[u8]) -> u32
     ensures { result ≡ crc32 bytes.now }
 {
-    let table = table();
-    !update_all(&table, ONES, bytes)
-}
-
-// The position n, or the end where the bytes are fewer.
-fn within(n: usize, len: usize) -> usize
-    ensures { result ≡ min n len }
-{
-    if n < len { n } else { len }
+    !update_all(ONES, bytes)
 }
 
 // The checksum of an image: its own bytes are skipped.
 pub fn checksum(bytes: &[u8]) -> u32
     ensures { result ≡ checksum_of bytes.now }
 {
-    let table = table();
-    let end = within(SKIP_FROM, bytes.len());
-    let start = within(SKIP_TO, bytes.len());
-    let head = update_all(&table, ONES, &bytes[..end]);
-    !update_all(&table, head, &bytes[start..])
+    let end = SKIP_FROM.min(bytes.len());
+    let start = SKIP_TO.min(bytes.len());
+    let head = update_all(ONES, &bytes[..end]);
+    !update_all(head, &bytes[start..])
 }

@@ -1,4 +1,5 @@
 -- The loop of `depth`: so many steps have led to a node, and the rest are those from it.
+use Rattle.std.specs.Prelude.{None, Option, Some, ℕ}
 use Prim.Native.Nat.{ℕ, suc, ◌+◌, ◌*◌, ◌-◌, ◌/◌, ◌≤◌, ◌<◌}
 use mathlib.Core.Path.{◌≡◌, refl, sym, ap, ◌∙◌, subst}
 use mathlib.Core.List.{List, []}
@@ -16,24 +17,22 @@ use Rattle.image.specs.Header.{section_bytes, sections_by}
 use Rattle.image.proofs.Parts.{section-outside}
 use Rattle.image.proofs.Views.{section-count}
 use Rattle.image.proofs.Widths.{words-some}
-use Rattle.views.specs.declared.Count.{Count}
-use Rattle.views.specs.declared.Count.TheVariants as count
 use Rattle.views.proofs.Reading.{count-here, inside-here, node-below}
 use Rattle.depth.specs.Depth.{one_more, depth_from, depth_of}
 use Rattle.depth.proofs.Steps.{depth-root, depth-above, outside-none}
 
 -- so many steps more
-abbrev pub plus : ℕ → Count → Count
-plus k (count.Of n) = count.Of (k + n)
-plus k count.NotFound = count.NotFound
+abbrev pub plus : ℕ → Option ℕ → Option ℕ
+plus k (Some n) = Some (k + n)
+plus k None = None
 
-plus_none : (c : Count) → plus 0 c ≡ c
-plus_none (count.Of n) = ap count.Of (zero-add n)
-plus_none count.NotFound = refl
+plus_none : (c : Option ℕ) → plus 0 c ≡ c
+plus_none (Some n) = ap Some (zero-add n)
+plus_none None = refl
 
-plus-more : (k : ℕ) (c : Count) → plus k (one_more c) ≡ plus (k + 1) c
-plus-more k (count.Of n) = let e : k + suc n ≡ k + 1 + n = omega arith in ap count.Of e
-plus-more k count.NotFound = refl
+plus-more : (k : ℕ) (c : Option ℕ) → plus k (one_more c) ≡ plus (k + 1) c
+plus-more k (Some n) = let e : k + suc n ≡ k + 1 + n = omega arith in ap Some e
+plus-more k None = refl
 
 -- ---- over sections
 
@@ -47,11 +46,11 @@ unfolding depth_of
 climb-start s id = record { few = omega arith; left = rw (sub-zero (node_count s)) (sym (plus_none _)) }
 
 module _ (s : Sections) (id at steps : ℕ) (c : Climbed s id at steps) where
-  climb_end : node_count s ≤ steps → count.NotFound ≡ depth_of s id
+  climb_end : node_count s ≤ steps → None ≡ depth_of s id
   unfolding depth_from
   climb_end h = let e : node_count s - steps ≡ 0 = omega arith in sym (c.left ∙ rw e)
 
-  climb_out : inside s at ≡ false → count.NotFound ≡ depth_of s id
+  climb_out : inside s at ≡ false → None ≡ depth_of s id
   climb_out o = sym (c.left ∙ ap (plus steps) (outside-none s (node_count s - steps) at o))
 
   module _ (h : steps < node_count s) (i : inside s at ≡ true) where
@@ -61,8 +60,8 @@ module _ (s : Sections) (id at steps : ℕ) (c : Climbed s id at steps) where
     one_left : depth_of s id ≡ plus steps (depth_from (suc rest) s at)
     one_left = let e : node_count s - steps ≡ suc rest = omega arith in c.left ∙ ap (λ (n : ℕ). plus steps (depth_from n s at)) e
 
-    climb-root : at ≡ 0 → count.Of steps ≡ depth_of s id
-    climb-root z = sym (one_left ∙ ap (plus steps) (depth-root s rest at i z) ∙ ap count.Of (add-zero steps))
+    climb-root : at ≡ 0 → Some steps ≡ depth_of s id
+    climb-root z = sym (one_left ∙ ap (plus steps) (depth-root s rest at i z) ∙ ap Some (add-zero steps))
 
     climb-above : (at ≡ 0 → ⊥) → Climbed s id (parent_of s at) (steps + 1)
     climb-above z =
@@ -110,14 +109,14 @@ module _ (bs : List ℕ) (v : ImageView) (part : List ℕ) (e : part ≡ section
   loop_start = climb-start own id
 
   module _ (at steps : ℕ) (c : Climbed own id at steps) where
-    pub loop_end : v.nodes.count ≤ steps → count.NotFound ≡ depth_of own id
+    pub loop_end : v.nodes.count ≤ steps → None ≡ depth_of own id
     loop_end h = climb_end own id at steps c (rw (← count_is) (omega (arith, count_or_none.most)))
 
     module _ (b : Bool) (i : b ≡ inside_among nodes at) where
       inside_is : b ≡ inside own at
       inside_is = inside-here bs v part e at nodes n b i
 
-      pub loop_out : not b ≡ true → count.NotFound ≡ depth_of own id
+      pub loop_out : not b ≡ true → None ≡ depth_of own id
       loop_out o = climb_out own id at steps c (sym inside_is ∙ not-true b o)
 
       module _ (o : not b ≡ false) where
@@ -134,7 +133,7 @@ module _ (bs : List ℕ) (v : ImageView) (part : List ℕ) (e : part ≡ section
           node : inside own at ≡ true
           node = sym inside_is ∙ not-false b o
 
-          pub loop_root : at ≡ 0 → count.Of steps ≡ depth_of own id
+          pub loop_root : at ≡ 0 → Some steps ≡ depth_of own id
           loop_root z = climb-root own id at steps c fewer node z
 
           pub loop_above : (at ≡ 0 → ⊥) → (p : ℕ) → p ≡ get_or (words_of part) (at * node_words v.version + 0) 0 → Climbed own id p (steps + 1)

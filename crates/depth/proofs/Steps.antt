@@ -1,4 +1,5 @@
 -- The depth is the number of parent steps: an answer counts them, and what is counted is answered.
+use Rattle.std.specs.Prelude.{None, Option, Some, ℕ}
 use Prim.Native.Nat.{ℕ, zero, suc, ◌+◌, ◌-◌, ◌≤◌, ◌<◌}
 use mathlib.Core.Path.{◌≡◌, refl, sym, ap, ◌∙◌, subst}
 use mathlib.Core.List.{List, [], ◌∷◌}
@@ -12,26 +13,24 @@ use Rattle.laws.proofs.Members.{All, Distinct, pigeon}
 use Rattle.image.specs.Sections.{Sections, node_count, parent_of, inside}
 use Rattle.image.proofs.Tests.{inside-true}
 use Rattle.tree.specs.Reach.{climb}
-use Rattle.views.specs.declared.Count.{Count}
-use Rattle.views.specs.declared.Count.TheVariants as count
 use Rattle.views.specs.Answers.{of_count}
 use Rattle.views.proofs.Given.{count-given, count-refused}
 use Rattle.depth.specs.Depth.{one_more, depth_from, depth_of, StepsToRoot, DepthExact}
 
-none_of : (d : ℕ) → count.NotFound ≡ count.Of d → ⊥
+none_of : (d : ℕ) → None ≡ Some d → ⊥
 none_of d h = let z : ◌≡◌ {A = ℕ} 0 1 = cc in omega arith
 
-pub of_same : (a b : ℕ) → count.Of a ≡ count.Of b → a ≡ b
+pub of_same : (a b : ℕ) → Some a ≡ Some b → a ≡ b
 of_same a b h = cc
 
 -- ---- the definition by its tests
 
 module _ (s : Sections) (n i : ℕ) where
-  pub depth-outside : inside s i ≡ false → depth_from (suc n) s i ≡ count.NotFound
+  pub depth-outside : inside s i ≡ false → depth_from (suc n) s i ≡ None
   unfolding depth_from
   depth-outside h = rw h
 
-  pub depth-root : inside s i ≡ true → i ≡ 0 → depth_from (suc n) s i ≡ count.Of 0
+  pub depth-root : inside s i ≡ true → i ≡ 0 → depth_from (suc n) s i ≡ Some 0
   unfolding depth_from
   depth-root h e = rw (h, eq-eqb i 0 e)
 
@@ -40,7 +39,7 @@ module _ (s : Sections) (n i : ℕ) where
   depth-above h d = rw (h, ne_eqb i 0 d)
 
 -- a number outside, however many nodes may be looked at
-pub outside-none : (s : Sections) (n i : ℕ) → inside s i ≡ false → depth_from n s i ≡ count.NotFound
+pub outside-none : (s : Sections) (n i : ℕ) → inside s i ≡ false → depth_from n s i ≡ None
 outside-none s zero i h = unfold depth_from in refl
 outside-none s (suc n) i h = depth-outside s n i h
 
@@ -74,16 +73,16 @@ module _ (s : Sections) where
 
   -- ---- what is answered is so
 
-  one_more_lem : (i d : ℕ) → inside s i ≡ true → (i ≡ 0 → ⊥) → (c : Count) → ((m : ℕ) → c ≡ count.Of m → StepsToRoot s (parent_of s i) m)
-      → one_more c ≡ count.Of d → StepsToRoot s i d
-  one_more_lem i d h z (count.Of m) above e = subst (StepsToRoot s i) (of_same (suc m) d e) (steps-above i m h z (above m refl))
-  one_more_lem i d h z count.NotFound above e = absurd (none_of d e)
+  one_more_lem : (i d : ℕ) → inside s i ≡ true → (i ≡ 0 → ⊥) → (c : Option ℕ) → ((m : ℕ) → c ≡ Some m → StepsToRoot s (parent_of s i) m)
+      → one_more c ≡ Some d → StepsToRoot s i d
+  one_more_lem i d h z (Some m) above e = subst (StepsToRoot s i) (of_same (suc m) d e) (steps-above i m h z (above m refl))
+  one_more_lem i d h z None above e = absurd (none_of d e)
 
-  answered : (n i d : ℕ) → depth_from n s i ≡ count.Of d → StepsToRoot s i d
+  answered : (n i d : ℕ) → depth_from n s i ≡ Some d → StepsToRoot s i d
   answered zero i d e = absurd (none_of d (unfold depth_from in e))
   answered (suc n) i d e = by (inside s i) refl (ℕ_discrete i 0) (λ m q. answered n (parent_of s i) m q)
     where
-      by : (b : Bool) → inside s i ≡ b → Dec (i ≡ 0) → ((m : ℕ) → depth_from n s (parent_of s i) ≡ count.Of m → StepsToRoot s (parent_of s i) m)
+      by : (b : Bool) → inside s i ≡ b → Dec (i ≡ 0) → ((m : ℕ) → depth_from n s (parent_of s i) ≡ Some m → StepsToRoot s (parent_of s i) m)
           → StepsToRoot s i d
       by false h z above = absurd (none_of d (sym (depth-outside s n i h) ∙ e))
       by true h (yes z) above = subst (StepsToRoot s i) (of_same 0 d (sym (depth-root s n i h z) ∙ e)) (steps-root i h z)
@@ -91,7 +90,7 @@ module _ (s : Sections) where
 
   -- ---- what is so is answered, where enough nodes are looked at
 
-  counted : (n i d : ℕ) → StepsToRoot s i d → d < n → depth_from n s i ≡ count.Of d
+  counted : (n i d : ℕ) → StepsToRoot s i d → d < n → depth_from n s i ≡ Some d
   unfolding climb
   counted zero i d t h = absurd (omega arith)
   counted (suc n) i zero t h = depth-root s n i (t.nodes 0 (omega arith)) t.arrives
@@ -147,7 +146,7 @@ module _ (s : Sections) where
 
   -- ---- all of it
 
-  pub depth-counted : (i d : ℕ) → StepsToRoot s i d → depth_of s i ≡ count.Of d
+  pub depth-counted : (i d : ℕ) → StepsToRoot s i d → depth_of s i ≡ Some d
   unfolding depth_of
   depth-counted i d t = counted (node_count s) i d t (few i d t)
 
@@ -162,6 +161,6 @@ module _ (s : Sections) where
         missing = λ h. ap of_count (by (depth_of s i) refl h);
       }
     where
-      by : (c : Count) → depth_of s i ≡ c → ((d : ℕ) → StepsToRoot s i d → ⊥) → c ≡ count.NotFound
-      by (count.Of d) e h = absurd (h d (answered (node_count s) i d e))
-      by count.NotFound e h = refl
+      by : (c : Option ℕ) → depth_of s i ≡ c → ((d : ℕ) → StepsToRoot s i d → ⊥) → c ≡ None
+      by (Some d) e h = absurd (h d (answered (node_count s) i d e))
+      by None e h = refl

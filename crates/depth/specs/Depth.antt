@@ -1,25 +1,23 @@
 -- The depth of a node: how many parent steps lead from it to node 0.
-use Rattle.std.specs.Prelude.{ℕ, zero, suc, ◌≤◌, ◌<◌, ◌≡◌, true, cond, eqb}
+use Rattle.std.specs.Prelude.{ℕ, zero, suc, ◌≤◌, ◌<◌, ◌≡◌, true, cond, eqb, None, Option, Some}
 use Rattle.image.specs.Refusals.{not_found}
 use Rattle.image.specs.Sections.{Sections, node_count, parent_of, inside, sections}
 use Rattle.tree.specs.Reach.{climb}
-use Rattle.views.specs.declared.Count.{Count}
-use Rattle.views.specs.declared.Count.TheVariants as count
 use Rattle.views.specs.Answers.{given, refused, of_count}
 
-abbrev pub one_more : Count → Count
-one_more (count.Of n) = count.Of (suc n)
-one_more count.NotFound = count.NotFound
+abbrev pub one_more : Option ℕ → Option ℕ
+one_more (Some n) = Some (suc n)
+one_more None = None
 
 -- node 0 has depth 0, any other node one more than its parent; nothing for a number that is no node. At most n nodes are looked at.
-unfoldable pub depth_from : ℕ → Sections → ℕ → Count
-depth_from zero s i = count.NotFound
+unfoldable pub depth_from : ℕ → Sections → ℕ → Option ℕ
+depth_from zero s i = None
 depth_from (suc n) s i =
     let above = depth_from n s (parent_of s i) in
-    cond (inside s i) (cond (eqb i 0) (count.Of 0) (one_more above)) count.NotFound
+    cond (inside s i) (cond (eqb i 0) (Some 0) (one_more above)) None
 
 -- parents that reach node 0 lead to no node twice, so as many as there are suffice
-unfoldable pub depth_of : Sections → ℕ → Count
+unfoldable pub depth_of : Sections → ℕ → Option ℕ
 depth_of s i = depth_from (node_count s) s i
 
 -- ---- the plain reading

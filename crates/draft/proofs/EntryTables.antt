@@ -117,10 +117,10 @@ definition-only s d q = tests-only _ _ q
 
 module _ (s : Sections) (d : ℕ) (p : first_of d (draft_definition_rule s) ≡ 0) where
   pub definitions-stop : (x : ℕ) → d < definition_count s → x ≡ draft_definition_rule s d → (x ≡ 0 → ⊥)
-      → 19 ≡ (first_of (definition_count s) (draft_definition_rule s) ▸ unless (items_used_up s) 19)
+      → x ≡ (first_of (definition_count s) (draft_definition_rule s) ▸ unless (items_used_up s) 19)
   definitions-stop x h e q =
-      refused (first_of (definition_count s) (draft_definition_rule s)) (unless (items_used_up s) 19) 19
-      (first-broken (definition_count s) d 19 (draft_definition_rule s) h p (definition-only s d (λ z. q (e ∙ z))) (λ z. omega arith)) (λ z. omega arith)
+      refused (first_of (definition_count s) (draft_definition_rule s)) (unless (items_used_up s) 19) x
+      (first-broken (definition_count s) d x (draft_definition_rule s) h p e q) q
 
   module _ (h : d ≤ definition_count s) (k : definition_count s ≤ d) (used all : ℕ) (u : used ≡ items_before s d) (v : all ≡ length s.items / text_entry_words) where
     past-definitions : (first_of (definition_count s) (draft_definition_rule s) ▸ unless (items_used_up s) 19) ≡ unless (eqb used all) 19

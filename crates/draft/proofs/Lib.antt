@@ -1,4 +1,5 @@
 pub mod NodeCount
+pub mod Ranges
 pub mod Rules
 pub mod SameTree
 pub mod SamePaths

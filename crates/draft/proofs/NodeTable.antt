@@ -170,10 +170,9 @@ module _ (s : Sections) (entries : List ℕ) (i : ℕ) (sums : Sums) (p : Passin
   passing-next next e u = record { none = rw (add-one i) (first_next i (path_node_rule s entries) p.none e); summed = rw (add-one i) u }
 
   pub refused-here : (r : ℕ) → i < node_count s → r ≡ path_node_rule s entries i → (r ≡ 0 → ⊥)
-      → 19 ≡ (first_of (node_count s) (path_node_rule s entries) ▸ unless (used_up s) 19)
+      → r ≡ (first_of (node_count s) (path_node_rule s entries) ▸ unless (used_up s) 19)
   refused-here r h e d =
-      refused (first_of (node_count s) (path_node_rule s entries)) (unless (used_up s) 19) 19
-      (first-broken (node_count s) i 19 (path_node_rule s entries) h p.none (node-only s entries i (λ z. d (e ∙ z))) (λ q. omega arith)) (λ q. omega arith)
+      refused (first_of (node_count s) (path_node_rule s entries)) (unless (used_up s) 19) r (first-broken (node_count s) i r (path_node_rule s entries) h p.none e d) d
 
   module _ (h : i ≤ node_count s) (k : node_count s ≤ i) where
     pub all_summed : sums ≡ sums_before s (node_count s)

@@ -1,25 +1,26 @@
 -- The list of paths: whether its nodes rise, the entry of a node, hints, the entries that are right.
+use Rattle.std.specs.Prelude.{None, Some, is_some}
 use Prim.Native.Nat.{ℕ, zero, suc, ◌+◌, ◌-◌, ◌*◌, ◌%◌, ◌≤◌, ◌<◌}
 use mathlib.Core.Path.{◌≡◌, refl, sym, ap, ◌∙◌, subst}
 use mathlib.Core.Logic.{◌⊎◌, inl, inr}
 use mathlib.Core.List.{List, [], ◌∷◌}
 use mathlib.Core.Bool.{Bool, true, false, cond, not, ◌&&◌, ◌||◌, true≢false}
-use mathlib.Core.Option.{none, some}
 use native.Mathlib.Omega.{arith}
 use native.Mathlib.Nat.{add-zero, not-suc-le-zero}
-use native.Mathlib.Numerals.{add-one}
 use native.Mathlib.Decide.{ℕ_discrete, dec_lt}
 use lib.Dec.{leb, ltb, eqb}
 use lib.ListN.{length, get_or}
 use borrow.Author.Tests.{lt-ltb, le-ltb, le-leb, lt-leb, ltb-true, eq-eqb, ne_eqb, eqb-true, not-true, not-false}
+use Rattle.std.specs.List.{list_all, range_with_len}
 use Rattle.laws.specs.Counted.{all_of, last_of}
-use Rattle.laws.specs.Lists.{has, is_some}
-use Rattle.laws.proofs.Flags.{both_true, false-and, all_next, all_at, all_fails, all_of_lem}
+use Rattle.laws.specs.Lists.{has}
+use Rattle.laws.proofs.Flags.{both_true, false-and, all_at, all_of_lem}
 use Rattle.laws.proofs.Members.{All, Distinct, pigeon, all_ext}
 use Rattle.image.specs.declared.NodeRecord.{NodeRecord}
 use Rattle.image.specs.Sections.{absent, inside_among}
 use Rattle.image.proofs.Tests.{inside-true}
 use Rattle.records.specs.Flags.{external}
+use Rattle.draft.proofs.Ranges.{all_after}
 use Rattle.draft.specs.declared.path_list.PathEntry.{PathEntry}
 use Rattle.draft.specs.declared.path_list.Hint.{Hint}
 use Rattle.draft.specs.PathList.{path_count, path_word, path_origin, path_of, listed, new_origin, path_right, list_right, may_follow}
@@ -45,20 +46,19 @@ module _ (entries : List ℕ) where
   abbrev pub rises_at : ℕ → Bool
   rises_at k = ltb (path_origin entries k) (path_origin entries (suc k))
 
-  module _ (k a b : ℕ) (next : a ≡ path_origin entries (k + 1)) (this : b ≡ path_origin entries k) where
-    same : rises_at k ≡ ltb b a
-    same = rw (this, next, add-one)
+  -- the same of an entry and the one before it
+  abbrev pub rises_to : ℕ → Bool
+  rises_to k = ltb (path_origin entries (k - 1)) (path_origin entries k)
 
-    pub rise-stops : (count : ℕ) → count ≡ path_count entries → k + 1 < count → a ≤ b → false ≡ paths_rise entries
-    unfolding paths_rise
-    rise-stops count e h l = sym (all_fails (path_count entries - 1) rises_at k (omega arith) (same ∙ le-ltb b a l))
-
-    pub rise_goes : b < a → all_of k rises_at ≡ true → all_of (k + 1) rises_at ≡ true
-    rise_goes l p = all_next k rises_at p (same ∙ lt-ltb b a l)
-
-  pub rise-ends : (count k : ℕ) → count ≡ path_count entries → k ≤ count - 1 → count ≤ k + 1 → all_of k rises_at ≡ true → true ≡ paths_rise entries
+  pub rise_told : (n : ℕ) → n ≡ path_count entries → list_all rises_to (range_with_len 1 (n - 1)) ≡ paths_rise entries
   unfolding paths_rise
-  rise-ends count k e h l p = let z : k ≡ path_count entries - 1 = omega arith in sym (rw z at p)
+  rise_told n e =
+      rw e
+      (all_after rises_to rises_at 1 (path_count entries - 1)
+      (λ i h.
+      let z : 1 + i ≡ suc i = omega arith in
+      let y : 1 + i - 1 ≡ i = omega arith in
+      cc))
 
   -- of two entries of a list that rises
   pub rising_between : paths_rise entries ≡ true → (j k : ℕ) → j < k → k < path_count entries → path_origin entries j < path_origin entries k
@@ -78,18 +78,18 @@ module _ (entries : List ℕ) (i : ℕ) where
   of_node k = eqb (path_origin entries k) i
 
   -- where none is, and where one is and none after it
-  last_none : (n : ℕ) → ((k : ℕ) → k < n → of_node k ≡ false) → last_of n of_node ≡ none
+  last_none : (n : ℕ) → ((k : ℕ) → k < n → of_node k ≡ false) → last_of n of_node ≡ None
   unfolding last_of
   last_none zero h = refl
   last_none (suc n) h = rw (h n (omega arith)) (last_none n (λ k l. h k (omega arith)))
 
-  last_is : (n d : ℕ) → d < n → of_node d ≡ true → ((k : ℕ) → d < k → k < n → of_node k ≡ false) → last_of n of_node ≡ some d
+  last_is : (n d : ℕ) → d < n → of_node d ≡ true → ((k : ℕ) → d < k → k < n → of_node k ≡ false) → last_of n of_node ≡ Some d
   unfolding last_of
   last_is zero d l y h = absurd (not-suc-le-zero l)
   last_is (suc n) d l y h = by (ℕ_discrete d n) (λ b. last_is n d b y (λ k a c. h k a (omega arith)))
     where
-      by : Dec (d ≡ n) → (d < n → last_of n of_node ≡ some d) → cond (of_node n) (some n) (last_of n of_node) ≡ some d
-      by (yes e) next = rw (ap of_node (sym e) ∙ y) (ap some (sym e))
+      by : Dec (d ≡ n) → (d < n → last_of n of_node ≡ Some d) → cond (of_node n) (Some n) (last_of n of_node) ≡ Some d
+      by (yes e) next = rw (ap of_node (sym e) ∙ y) (ap Some (sym e))
       by (no e) next = rw (h n (omega arith) (omega arith)) (next (omega arith))
 
 -- ---- hints
@@ -126,7 +126,7 @@ module _ (entries : List ℕ) (i : ℕ) (h : Hint) (t : Hinted entries i h) (y :
         let both = both_true (ltb h.next (path_count entries)) (eqb (path_origin entries h.next) i) (sym e ∙ q) in
         (ltb-true h.next (path_count entries) both.0, eqb-true (path_origin entries h.next) i both.1)
 
-    found : some h.next ≡ path_of entries i
+    found : Some h.next ≡ path_of entries i
     unfolding path_of
     found =
         sym
@@ -160,7 +160,7 @@ module _ (entries : List ℕ) (i : ℕ) (h : Hint) (t : Hinted entries i h) (y :
           | no d ↦ above k (omega arith) c
         ]
 
-    missed : none ≡ path_of entries i
+    missed : None ≡ path_of entries i
     unfolding path_of
     missed = sym (last_none entries i (path_count entries) (λ k c. ne_eqb (path_origin entries k) i (apart k c (dec_lt k h.next))))
       where

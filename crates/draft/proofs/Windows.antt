@@ -1,9 +1,9 @@
 -- Bits of words; a window of nodes and the bits that are kept for it.
+use Rattle.std.specs.Prelude.{None, Option, Some, is_some}
 use Prim.Native.Nat.{ℕ, zero, suc, ◌+◌, ◌-◌, ◌*◌, ◌/◌, ◌%◌, ◌^◌, ◌≤◌, ◌<◌, max}
 use mathlib.Core.Path.{◌≡◌, refl, sym, ap, ap₂, ◌∙◌}
 use mathlib.Core.List.{List, ◌++◌}
 use mathlib.Core.Bool.{Bool, true, false, cond, not, ◌&&◌, ◌||◌, true≢false}
-use mathlib.Core.Option.{Option, none, some}
 use native.Mathlib.Omega.{arith}
 use native.Mathlib.Nat.{add-zero, one-mul, zero-mul, zero-add, mod-lt, div-eq_of_lt}
 use native.Mathlib.Numerals.{add-one}
@@ -16,7 +16,6 @@ use lib.ListN.{length, get_or, set, replicate, length-replicate, get_or-replicat
 use lib.Seq.{get_or-set_same, get_or-set_other}
 use borrow.Author.Tests.{eq-eqb, ne_eqb, not-true}
 use Rattle.laws.specs.Counted.{all_of, last_of}
-use Rattle.laws.specs.Lists.{is_some}
 use Rattle.laws.proofs.Flags.{not-true-false, all_at, all_of_lem, or_zero}
 use Rattle.draft.specs.PathList.{path_count, path_origin, path_of, new_origin}
 use Rattle.draft.specs.PathWindows.{marked, Marks, Windowed, Ready, new_within, once_within, mask_in}
@@ -146,11 +145,11 @@ unfolding last_of all_of
 none_of zero t = refl
 none_of (suc n) t = go (t n) (last_of n t) ∙ ap (λ (b : Bool). b && not (t n)) (none_of n t)
   where
-    go : (b : Bool) (x : Option ℕ) → not (is_some (cond b (some n) x)) ≡ (not (is_some x) && not b)
-    go true none = refl
-    go true (some k) = refl
-    go false none = refl
-    go false (some k) = refl
+    go : (b : Bool) (x : Option ℕ) → not (is_some (cond b (Some n) x)) ≡ (not (is_some x) && not b)
+    go true None = refl
+    go true (Some k) = refl
+    go false None = refl
+    go false (Some k) = refl
 
 module _ (entries : List ℕ) (number : ℕ) where
   -- by the first k entries
@@ -168,17 +167,17 @@ module _ (entries : List ℕ) (number : ℕ) where
 
   -- one more entry
   module _ (k n : ℕ) (read : n ≡ path_origin entries k) (window : List ℕ) (f : Filled k window) where
-    some_or : (x : Option ℕ) (b : Bool) → (is_some x || b) ≡ is_some (cond b (some k) x)
-    some_or none true = refl
-    some_or none false = refl
-    some_or (some j) true = refl
-    some_or (some j) false = refl
+    some_or : (x : Option ℕ) (b : Bool) → (is_some x || b) ≡ is_some (cond b (Some k) x)
+    some_or None true = refl
+    some_or None false = refl
+    some_or (Some j) true = refl
+    some_or (Some j) false = refl
 
     pub filled_goes : (next : List ℕ) → ((i : ℕ) → i / 32768 ≡ number → marked next i ≡ (marked window i || eqb n i)) → Filled (k + 1) next
     unfolding last_of
     filled_goes next h i e =
         h i e ∙ ap (λ (b : Bool). b || eqb n i) (f i e) ∙ some_or (last_of k (of_node entries i)) (eqb n i)
-        ∙ rw (add-one k) (ap (λ (m : ℕ). is_some (cond (eqb m i) (some k) (last_of k (of_node entries i)))) read)
+        ∙ rw (add-one k) (ap (λ (m : ℕ). is_some (cond (eqb m i) (Some k) (last_of k (of_node entries i)))) read)
 
     -- whether it is the first of its node
     new_marked : n / 32768 ≡ number → not (marked window n) ≡ new_origin entries k

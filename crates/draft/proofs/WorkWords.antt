@@ -1,4 +1,5 @@
 -- The work words that a draft needs and those that are lent, by the comparisons that the code makes.
+use Rattle.std.specs.Prelude.{None, Some}
 use Prim.Native.Nat.{ℕ, ◌+◌, ◌*◌, ◌-◌, ◌/◌, ◌≤◌, ◌<◌}
 use mathlib.Core.Path.{◌≡◌, refl, ap}
 use mathlib.Core.Bool.{Bool, true, false, cond}
@@ -9,10 +10,9 @@ use lib.Dec.{leb}
 use borrow.Author.Tests.{le-leb, lt-leb, leb-true}
 use Rattle.laws.specs.Refusal.{unless}
 use Rattle.image.specs.declared.EntryCounts.{EntryCounts}
-use Rattle.draft.specs.declared.Needed.TheVariants.{Words, TooMany}
 use Rattle.draft.specs.Needs.{words_for, needed_of, needed_number}
 
-fewer : (needed work : ℕ) → work < needed → TooMany ≡ needed_of needed work
+fewer : (needed work : ℕ) → work < needed → None ≡ needed_of needed work
 unfolding needed_of
 fewer needed work h = rw (lt-leb needed work h)
 
@@ -21,16 +21,16 @@ pub needed-number : (needed work : ℕ) → needed_number (needed_of needed work
 unfolding needed_of unless
 needed-number needed work = go (leb needed work)
   where
-    go : (b : Bool) → needed_number (cond b (Words needed) TooMany) ≡ unless b 7
+    go : (b : Bool) → needed_number (cond b (Some needed) None) ≡ unless b 7
     go true = refl
     go false = refl
 
 -- an answer that says how many are needed
-pub needed-words : (needed work n : ℕ) → needed_of needed work ≡ Words n → (n ≡ needed) × (needed ≤ work)
+pub needed-words : (needed work n : ℕ) → needed_of needed work ≡ Some n → (n ≡ needed) × (needed ≤ work)
 unfolding needed_of
 needed-words needed work n e = go (leb needed work) refl e
   where
-    go : (b : Bool) → leb needed work ≡ b → cond b (Words needed) TooMany ≡ Words n → (n ≡ needed) × (needed ≤ work)
+    go : (b : Bool) → leb needed work ≡ b → cond b (Some needed) None ≡ Some n → (n ≡ needed) × (needed ≤ work)
     go true q p = (cc, leb-true needed work q)
     go false q p = let z : ◌≡◌ {A = ℕ} 0 1 = cc in absurd (omega arith)
 
@@ -49,26 +49,26 @@ module _ (k : EntryCounts) (work : ℕ) where
   abbrev needed : ℕ
   needed = words_for k
 
-  pub few_nodes : work / 4 / 4 < k.nodes → TooMany ≡ needed_of needed work
+  pub few_nodes : work / 4 / 4 < k.nodes → None ≡ needed_of needed work
   few_nodes h = fewer needed work (omega arith)
 
-  pub few_children : (left : ℕ) → left + k.nodes * 4 ≡ work / 4 → left < k.children → TooMany ≡ needed_of needed work
+  pub few_children : (left : ℕ) → left + k.nodes * 4 ≡ work / 4 → left < k.children → None ≡ needed_of needed work
   few_children left e h = fewer needed work (omega arith)
 
-  pub few_named : (left : ℕ) → left + (k.nodes * 4 + k.children) ≡ work / 4 → left < k.named → TooMany ≡ needed_of needed work
+  pub few_named : (left : ℕ) → left + (k.nodes * 4 + k.children) ≡ work / 4 → left < k.named → None ≡ needed_of needed work
   few_named left e h = fewer needed work (omega arith)
 
-  pub few_definitions : (left : ℕ) → left + (k.nodes * 4 + k.children + k.named) ≡ work / 4 → left < k.definitions → TooMany ≡ needed_of needed work
+  pub few_definitions : (left : ℕ) → left + (k.nodes * 4 + k.children + k.named) ≡ work / 4 → left < k.definitions → None ≡ needed_of needed work
   few_definitions left e h = fewer needed work (omega arith)
 
-  pub few_items : (left : ℕ) → left + (k.nodes * 4 + k.children + k.named + k.definitions) ≡ work / 4 → left < k.items → TooMany ≡ needed_of needed work
+  pub few_items : (left : ℕ) → left + (k.nodes * 4 + k.children + k.named + k.definitions) ≡ work / 4 → left < k.items → None ≡ needed_of needed work
   few_items left e h = fewer needed work (omega arith)
 
-  pub few_payload : (left : ℕ) → left + (k.nodes * 4 + k.children + k.named + k.definitions + k.items) ≡ work / 4 → left < k.payload → TooMany ≡ needed_of needed work
+  pub few_payload : (left : ℕ) → left + (k.nodes * 4 + k.children + k.named + k.definitions + k.items) ≡ work / 4 → left < k.payload → None ≡ needed_of needed work
   few_payload left e h = fewer needed work (omega arith)
 
-  pub enough : (left : ℕ) → left + (k.nodes * 4 + k.children + k.named + k.definitions + k.items + k.payload) ≡ work / 4 → Words ((work / 4 - left) * 4) ≡ needed_of needed work
+  pub enough : (left : ℕ) → left + (k.nodes * 4 + k.children + k.named + k.definitions + k.items + k.payload) ≡ work / 4 → Some ((work / 4 - left) * 4) ≡ needed_of needed work
   unfolding needed_of
   enough left e =
       let same : (work / 4 - left) * 4 ≡ needed = omega arith in
-      rw (le-leb needed work (omega arith)) (ap Words same)
+      rw (le-leb needed work (omega arith)) (ap Some same)

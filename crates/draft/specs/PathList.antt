@@ -1,10 +1,8 @@
 -- Paths lent beside a draft, from which targets are to be found: the entries of the list, the nodes that follow a path of it, and row 19, which
 -- does not test the targets of these.
-use Rattle.std.specs.Prelude.{ℕ, ◌+◌, ◌*◌, ◌/◌, ◌%◌, List, [], ◌∷◌, Bool, cond, ◌&&◌, ◌||◌, not, length, get_or, leb, eqb}
-use Rattle.std.proofs.Math.Option.{Option}
+use Rattle.std.specs.Prelude.{ℕ, ◌+◌, ◌*◌, ◌/◌, ◌%◌, List, [], ◌∷◌, Bool, cond, ◌&&◌, ◌||◌, not, length, get_or, leb, eqb, Option, is_some}
 use Rattle.laws.specs.Refusal.{unless, counts_as, ◌▸◌, first_of}
 use Rattle.laws.specs.Counted.{all_of, last_of}
-use Rattle.laws.specs.Lists.{is_some}
 use Rattle.image.specs.declared.NodeRecord.{NodeRecord}
 use Rattle.image.specs.Entries.{node_in}
 use Rattle.image.specs.Refusals.{bad_draft}

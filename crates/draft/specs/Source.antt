@@ -3,6 +3,7 @@ use Rattle.std.specs.Prelude.{ℕ, ◌+◌, ◌*◌, ◌≡◌, List, [], get_or
 use Rattle.image.specs.Sections.{Sections, node_words}
 use Rattle.image.specs.declared.EntryCounts.{EntryCounts}
 use Rattle.draft.specs.declared.source.PathNode.{PathNode}
+use Rattle.draft.specs.declared.source.Draft.{Draft}
 use Rattle.draft.specs.Needs.{draft_counts}
 
 abbrev pub draft_of : ℕ → List ℕ → List ℕ → List ℕ → List ℕ → List ℕ → List ℕ → List ℕ → Sections
@@ -18,6 +19,10 @@ draft_of version nodes children named definitions items payload strings =
       payload = payload;
       strings = strings;
     }
+
+-- the sections of a draft that is lent
+abbrev pub drafted : ℕ → Draft → Sections
+drafted version d = draft_of version d.nodes.now d.children.now d.named.now d.definitions.now d.items.now d.payload.now d.strings.now
 
 -- the sections with other nodes
 abbrev pub with_nodes : Sections → List ℕ → Sections

@@ -1,4 +1,5 @@
 // The writer's work words: what lies where.
+// They are lent by C's caller: no heap is used.
 
 // Where the parts begin. The first words are sorted: the uses of texts, first those of the draft's texts, then the paths. From `offsets` on
 // stands for each use, in its own order, where its text begins in the image's strings. From `at` on lie the tables of uses: two words for

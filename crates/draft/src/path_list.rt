@@ -12,7 +12,7 @@ use image::{NONE, NodeRecord, tag};
 // Words an entry.
 pub const PATH_ENTRY_WORDS: usize = 4;
 
-// Nodes of a window: a bit for each in so many words.
+// Nodes of a window: a bit for each in so many words. It is of fixed size, and a list may be longer: no heap is used.
 const WINDOW_NODES: usize = 32768;
 
 pub const WINDOW_WORDS: usize = 1024;
@@ -41,6 +41,7 @@ pub fn path_count(entries: &[u32]) -> usize
 }
 
 // Entry `k`.
+// Four words as for `source::definition_at`, but those of another record.
 pub fn entry_at(entries: &[u32], k: usize) -> PathEntry
     requires { k < path_count entries.now }
     ensures { result ≡ path_entry entries.now k }
@@ -66,15 +67,7 @@ fn origin_at(entries: &[u32], k: usize) -> u32
 fn paths_rise(entries: &[u32]) -> bool
     ensures { result ≡ paths_rise entries.now }
 {
-    let count = path_count(entries);
-    let mut k = 0;
-    while k + 1 < count {
-        if origin_at(entries, k + 1) <= origin_at(entries, k) {
-            return false;
-        }
-        k += 1;
-    }
-    true
+    (1..path_count(entries)).all(|k| origin_at(entries, k - 1) < origin_at(entries, k))
 }
 
 // The hint for node 0.
@@ -130,10 +123,8 @@ fn fill_window(entries: &[u32], number: usize, window: &mut [u32; WINDOW_WORDS])
     tree::clear(window, WINDOW_WORDS);
     let count = path_count(entries);
     let mut twice = 0;
-    let mut k = 0;
-    while k < count {
+    for k in 0..count {
         twice = twice | mark(window, number, origin_at(entries, k));
-        k += 1;
     }
     twice == 0
 }
@@ -235,12 +226,10 @@ fn none_twice(entries: &[u32], nodes: usize) -> bool
 {
     let mut window = [0; WINDOW_WORDS];
     let windows = nodes / WINDOW_NODES + 1;
-    let mut number = 0;
-    while number < windows {
+    for number in 0..windows {
         if !fill_window(entries, number, &mut window) {
             return false;
         }
-        number += 1;
     }
     true
 }
@@ -271,12 +260,10 @@ pub fn list_right(entries: &[u32], nodes: usize, components: usize) -> bool
     if nodes < count {
         return false;
     }
-    let mut k = 0;
-    while k < count {
+    for k in 0..count {
         if !entry_right(entries, nodes, components, k) {
             return false;
         }
-        k += 1;
     }
     if paths_rise(entries) {
         return true;

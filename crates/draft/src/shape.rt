@@ -2,22 +2,24 @@
 ghost use Rattle.std.specs.Prelude.{◌≡◌, [], ◌+◌, ◌*◌, ◌≤◌, ◌<◌, length, get_or};
 ghost use Rattle.laws.specs.Refusal.{passes, first_of};
 ghost use Rattle.laws.specs.Counted.{all_of};
+ghost use Rattle.image.specs.Refusals.{refusal_in};
 ghost use Rattle.texts.specs.Text.{rising};
 ghost use Rattle.image.specs.Sections.{text_entry_words, definition_words, node_count, definition_count};
 ghost use Rattle.image.specs.Entries.{record_of, entry_text_from, definition_text_in};
 ghost use Rattle.tree.specs.Tree.{right_child, entries_rule};
-ghost use Rattle.draft.specs.Source.{draft_of};
+ghost use Rattle.draft.specs.Source.{drafted, draft_of};
 ghost use Rattle.draft.specs.Draft.{relation_rule, order_rule, shape_rule};
 ghost use Rattle.draft.specs.Shown.{right_container, named_right, TreePassed, ListsPassed, TablesPassed};
 
 use crate::source;
-use crate::source::Source;
+use crate::source::{Draft, Source};
 use image::order::texts_rise;
-use image::refusal::DRAFT_SHAPE;
+use image::refusal::Refusal;
 use image::tag::CONTAINER;
 use image::{ImageView, NodeRecord};
 
 // Whether the text of an entry, the `place`-th from entry `first` on, comes after that of the entry before it.
+// Over words; its twin over bytes is `image::order::entry_rises`.
 fn entry_rises(entries: &[u32], strings: &[u8], first: usize, place: usize) -> bool
     requires { (first + place) * text_entry_words + text_entry_words ≤ length entries.now }
     ensures { result ≡ rising (entry_text_from entries.now strings.now first) place }
@@ -31,6 +33,7 @@ fn entry_rises(entries: &[u32], strings: &[u8], first: usize, place: usize) -> b
 }
 
 // Whether the text of definition `d` comes after that of the definition before it.
+// Over words; its twin over bytes is `image::order::definition_rises`.
 fn definition_rises(definitions: &[u32], strings: &[u8], d: usize) -> bool
     requires { d * definition_words + definition_words ≤ length definitions.now }
     ensures { result ≡ rising (definition_text_in definitions.now strings.now) d }
@@ -75,13 +78,11 @@ fn right_children(
     ensures { let s = draft_of source.version nodes.now [] [] [] [] [] [] in
         result ≡ all_of count (λ j. right_child s (get_or children.now (start + j) 0) id j) }
 {
-    let mut j = 0;
-    while j < count {
+    for j in 0..count {
         let child = source::word(children, start + j);
         if !right_child(nodes, child, id, j, source) {
             return false;
         }
-        j += 1;
     }
     true
 }
@@ -133,12 +134,10 @@ fn right_entries(
     requires { (first + count) * text_entry_words ≤ length named.now }
     ensures { result ≡ all_of count (named_right source.version nodes.now named.now strings.now id first) }
 {
-    let mut j = 0;
-    while j < count {
+    for j in 0..count {
         if !right_entry(nodes, named, strings, id, first, j, source) {
             return false;
         }
-        j += 1;
     }
     true
 }
@@ -148,12 +147,10 @@ fn items_rise(items: &[u32], strings: &[u8], first: usize, count: usize) -> bool
     requires { (first + count) * text_entry_words ≤ length items.now }
     ensures { result ≡ all_of count (rising (entry_text_from items.now strings.now first)) }
 {
-    let mut j = 0;
-    while j < count {
+    for j in 0..count {
         if !entry_rises(items, strings, first, j) {
             return false;
         }
-        j += 1;
     }
     true
 }
@@ -210,15 +207,13 @@ pub fn entries_right(
         result ≡ passes (first_of (node_count s) (entries_rule s)) }
 {
     let count = source::node_count(nodes, source);
-    let mut i = 0;
-    while i < count {
+    for i in 0..count {
         if source::node_word(nodes, i, NodeRecord::TAG, source) == CONTAINER {
             let node = source::node_at(nodes, i, source);
             if !node_entries_right(nodes, children, named, strings, node, i, source) {
                 return false;
             }
         }
-        i += 1;
     }
     true
 }
@@ -231,21 +226,21 @@ fn relation_rule(
     strings: &[u8],
     i: usize,
     source: Source,
-) -> u32
+) -> Result<(), Refusal>
     requires { let s = draft_of source.version nodes.now children.now named.now [] [] [] strings.now in TreePassed s × (i < node_count s) }
     ensures { let s = draft_of source.version nodes.now children.now named.now [] [] [] strings.now in
-        result ≡ relation_rule s i }
+        refusal_in result ≡ relation_rule s i }
 {
     let count = source::node_count(nodes, source);
     let node = source::node_at(nodes, i, source);
     let parent_tag = source::tag_at(nodes, node.parent, source);
-    if records::parent_rule(node, i, count, parent_tag) != 0 {
-        return DRAFT_SHAPE;
+    if records::parent_rule(node, i, count, parent_tag).is_err() {
+        return Err(Refusal::DraftShape);
     }
     if node_entries_right(nodes, children, named, strings, node, i, source) {
-        0
+        Ok(())
     } else {
-        DRAFT_SHAPE
+        Err(Refusal::DraftShape)
     }
 }
 
@@ -256,30 +251,25 @@ fn relations_rule(
     named: &[u32],
     strings: &[u8],
     source: Source,
-) -> u32
+) -> Result<(), Refusal>
     requires { TreePassed (draft_of source.version nodes.now children.now named.now [] [] [] strings.now) }
     ensures { let s = draft_of source.version nodes.now children.now named.now [] [] [] strings.now in
-        result ≡ first_of (node_count s) (relation_rule s) }
+        refusal_in result ≡ first_of (node_count s) (relation_rule s) }
 {
     let count = source::node_count(nodes, source);
-    let mut i = 0;
-    while i < count {
-        let refused = relation_rule(nodes, children, named, strings, i, source);
-        if refused != 0 {
-            return refused;
-        }
-        i += 1;
+    for i in 0..count {
+        relation_rule(nodes, children, named, strings, i, source)?;
     }
-    0
+    Ok(())
 }
 
 // The order of definition `d` and of its items.
-fn order_rule(definitions: &[u32], items: &[u32], strings: &[u8], d: usize) -> u32
+fn order_rule(definitions: &[u32], items: &[u32], strings: &[u8], d: usize) -> Result<(), Refusal>
     requires { let s = draft_of 0 [] [] [] definitions.now items.now [] strings.now in ListsPassed s × (d < definition_count s) }
-    ensures { let s = draft_of 0 [] [] [] definitions.now items.now [] strings.now in result ≡ order_rule s d }
+    ensures { let s = draft_of 0 [] [] [] definitions.now items.now [] strings.now in refusal_in result ≡ order_rule s d }
 {
     if !definition_rises(definitions, strings, d) {
-        return DRAFT_SHAPE;
+        return Err(Refusal::DraftShape);
     }
     let definition = source::definition_at(definitions, d);
     if items_rise(
@@ -288,53 +278,40 @@ fn order_rule(definitions: &[u32], items: &[u32], strings: &[u8], d: usize) -> u
         definition.first as usize,
         definition.count as usize,
     ) {
-        0
+        Ok(())
     } else {
-        DRAFT_SHAPE
+        Err(Refusal::DraftShape)
     }
 }
 
 // The order of every definition and of its items.
-pub fn orders_rule(definitions: &[u32], items: &[u32], strings: &[u8]) -> u32
+pub fn orders_rule(definitions: &[u32], items: &[u32], strings: &[u8]) -> Result<(), Refusal>
     requires { ListsPassed (draft_of 0 [] [] [] definitions.now items.now [] strings.now) }
     ensures { let s = draft_of 0 [] [] [] definitions.now items.now [] strings.now in
-        result ≡ first_of (definition_count s) (order_rule s) }
+        refusal_in result ≡ first_of (definition_count s) (order_rule s) }
 {
     let count = definitions.len() / ImageView::DEFINITION_WORDS;
-    let mut d = 0;
-    while d < count {
-        let refused = order_rule(definitions, items, strings, d);
-        if refused != 0 {
-            return refused;
-        }
-        d += 1;
+    for d in 0..count {
+        order_rule(definitions, items, strings, d)?;
     }
-    0
+    Ok(())
 }
 
-// Row 21, or 0, of a draft of which row 19 has shown what the rules here need.
-pub fn shape_rule(
-    nodes: &[u32],
-    children: &[u32],
-    named: &[u32],
-    definitions: &[u32],
-    items: &[u32],
-    payload: &[u8],
-    strings: &[u8],
-    source: Source,
-) -> u32
-    requires { TablesPassed (draft_of source.version nodes.now children.now named.now definitions.now items.now
-        payload.now strings.now) }
-    ensures { let s = draft_of source.version nodes.now children.now named.now definitions.now
-        items.now payload.now strings.now in
-        result ≡ shape_rule s }
+// Row 21 of a draft of which row 19 has shown what the rules here need.
+pub fn shape_rule(draft: Draft, source: Source) -> Result<(), Refusal>
+    requires { TablesPassed (drafted source.version draft) }
+    ensures { let s = drafted source.version draft.entry in
+        refusal_in result ≡ shape_rule s }
 {
-    if !records::root_right(source::node_at(nodes, 0, source)) {
-        return DRAFT_SHAPE;
+    if !records::root_right(source::node_at(draft.nodes, 0, source)) {
+        return Err(Refusal::DraftShape);
     }
-    let refused = relations_rule(nodes, children, named, strings, source);
-    if refused != 0 {
-        return refused;
-    }
-    orders_rule(definitions, items, strings)
+    relations_rule(
+        draft.nodes,
+        draft.children,
+        draft.named,
+        draft.strings,
+        source,
+    )?;
+    orders_rule(draft.definitions, draft.items, draft.strings)
 }

@@ -14,6 +14,18 @@ pub struct Source {
     pub version: u32,
 }
 
+// A draft, as it is lent: the words of its nodes, ordered children, named children, definitions and items, then payload and strings.
+#[derive(Clone, Copy)]
+pub struct Draft<'d> {
+    pub nodes: &'d [u32],
+    pub children: &'d [u32],
+    pub named: &'d [u32],
+    pub definitions: &'d [u32],
+    pub items: &'d [u32],
+    pub payload: &'d [u8],
+    pub strings: &'d [u8],
+}
+
 // A word: 0 past the end.
 pub fn word(words: &[u32], i: usize) -> u32
     ensures { result ≡ get_or words.now i 0 }

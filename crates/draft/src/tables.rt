@@ -2,21 +2,22 @@
 // a whole first: `whole` says that they are good, and the texts of nodes and named entries are then tested by their ends.
 ghost use Rattle.std.specs.Prelude.{◌≡◌, [], true, ◌||◌, eqb};
 ghost use Rattle.laws.specs.Refusal.{unless, ◌▸◌, first_of};
+ghost use Rattle.image.specs.Refusals.{refusal_in};
 ghost use Rattle.image.specs.Sections.{inside_among, node_count, child_count, named_count, definition_count, item_count, good_bytes, good_in};
 ghost use Rattle.image.specs.Refusals.{bad_draft};
 ghost use Rattle.records.specs.Fields.{kind_of};
 ghost use Rattle.records.specs.Records.{target_in, used_up};
 ghost use Rattle.records.specs.Shown.{tag_in, starts_next, fields_by};
 ghost use Rattle.definitions.specs.Definitions.{items_used_up};
-ghost use Rattle.draft.specs.Source.{draft_of};
+ghost use Rattle.draft.specs.Source.{drafted, draft_of};
 ghost use Rattle.draft.specs.Draft.{whole_entries, draft_child_rule, draft_named_rule, draft_definition_rule, draft_item_rule, tables_rule};
 ghost use Rattle.draft.specs.PathList.{path_node_rule, path_tables_rule};
 ghost use Rattle.draft.specs.PathEntries.{follower_right, record_right};
 
 use crate::path_list::WINDOW_WORDS;
-use crate::source::Source;
+use crate::source::{Draft, Source};
 use crate::{entry_counts, path_list, source};
-use image::refusal::{BAD_DRAFT, BAD_TAG};
+use image::refusal::Refusal;
 use image::{Definition, EntryCounts, ImageView, NodeRecord, TextEntry, tag};
 use records::Sums;
 
@@ -80,9 +81,9 @@ fn own_rule(
     node: NodeRecord,
     source: Source,
     whole: bool,
-) -> u32
+) -> Result<(), Refusal>
     requires { whole ≡ true → good_bytes strings.now ≡ true }
-    ensures { result ≡ fields_by (kind_of node.tag) node counts sums
+    ensures { refusal_in result ≡ fields_by (kind_of node.tag) node counts sums
         (tag_in (draft_of source.version nodes.now [] [] [] [] [] []) (target_in node (kind_of node.tag)))
         payload.now strings.now }
 {
@@ -97,13 +98,13 @@ fn own_rule(
             whole,
         ),
         tag::DIVERT => records::divert(node, counts.nodes, strings, whole),
-        tag::GLUE | tag::VOID => 0,
+        tag::GLUE | tag::VOID => Ok(()),
         tag::COMMAND | tag::STRING_VALUE | tag::POINTER_VALUE => {
             records::text_only(node_tag, node.f0, node.f1, strings, whole)
         }
         tag::OPERATOR..=tag::TAG => records::text_only(node_tag, node.f0, node.f1, strings, whole),
         tag::BOOL_VALUE => records::at_most(node.f0, 1),
-        tag::INT_VALUE..=tag::FLOAT_VALUE => 0,
+        tag::INT_VALUE..=tag::FLOAT_VALUE => Ok(()),
         tag::LIST_VALUE => records::list_value(node, sums, payload, strings),
         tag::TARGET_VALUE => records::target_value(node, counts.nodes, strings, whole),
         tag::ASSIGNMENT => records::assignment(node, strings, whole),
@@ -114,7 +115,7 @@ fn own_rule(
             strings,
             whole,
         ),
-        _ => BAD_TAG,
+        _ => Err(Refusal::BadTag),
     }
 }
 
@@ -138,7 +139,7 @@ fn fields_right(
     if follow {
         return follower_right(node, strings, whole);
     }
-    own_rule(nodes, payload, strings, counts, sums, node, source, whole) == 0
+    own_rule(nodes, payload, strings, counts, sums, node, source, whole).is_ok()
 }
 
 // The rules of node `i`: those of its fields, the target aside if it follows a path, and that its parent is a node, the root aside.
@@ -153,9 +154,9 @@ fn node_rule(
     follow: bool,
     source: Source,
     whole: bool,
-) -> u32
+) -> Result<(), Refusal>
     requires { whole ≡ true → good_bytes strings.now ≡ true }
-    ensures { result ≡ (unless (record_right follow node counts sums
+    ensures { refusal_in result ≡ (unless (record_right follow node counts sums
         (tag_in (draft_of source.version nodes.now [] [] [] [] [] []) (target_in node (kind_of node.tag)))
         payload.now strings.now) bad_draft
         ▸ unless (eqb i 0 || inside_among counts.nodes node.parent) bad_draft) }
@@ -163,37 +164,25 @@ fn node_rule(
     if !fields_right(
         nodes, payload, strings, counts, sums, node, follow, source, whole,
     ) {
-        return BAD_DRAFT;
+        return Err(Refusal::BadDraft);
     }
     if i == 0 {
-        return 0;
+        return Ok(());
     }
     if image::is_inside(counts.nodes, node.parent) {
-        0
+        Ok(())
     } else {
-        BAD_DRAFT
+        Err(Refusal::BadDraft)
     }
 }
 
 // The rules of every node, and that they use up the ordered children, the named ones and the payload.
-fn nodes_rule(
-    nodes: &[u32],
-    children: &[u32],
-    named: &[u32],
-    definitions: &[u32],
-    items: &[u32],
-    payload: &[u8],
-    strings: &[u8],
-    paths: &[u32],
-    source: Source,
-    whole: bool,
-) -> u32
-    requires { whole ≡ true → good_bytes strings.now ≡ true }
-    ensures { let s = draft_of source.version nodes.now children.now named.now definitions.now
-        items.now payload.now strings.now in
-        result ≡ (first_of (node_count s) (path_node_rule s paths.now) ▸ unless (used_up s) bad_draft) }
+fn nodes_rule(draft: Draft, paths: &[u32], source: Source, whole: bool) -> Result<(), Refusal>
+    requires { whole ≡ true → good_bytes draft.strings.now ≡ true }
+    ensures { let s = drafted source.version draft.entry in
+        refusal_in result ≡ (first_of (node_count s) (path_node_rule s paths.now) ▸ unless (used_up s) bad_draft) }
 {
-    let counts = entry_counts(nodes, children, named, definitions, items, payload, source);
+    let counts = entry_counts(draft, source);
     let mut sums = Sums {
         children: 0,
         named: 0,
@@ -202,206 +191,168 @@ fn nodes_rule(
     };
     let mut hint = path_list::first_hint(paths);
     let mut window = [0; WINDOW_WORDS];
-    let mut i = 0;
-    while i < counts.nodes {
+    for i in 0..counts.nodes {
         path_list::window_for(paths, i, hint.rises, &mut window);
-        let node = source::node_at(nodes, i, source);
+        let node = source::node_at(draft.nodes, i, source);
         let follow = path_list::follows(paths, i, hint, &window, node);
-        if node_rule(
-            nodes, payload, strings, counts, sums, i, node, follow, source, whole,
-        ) != 0
-        {
-            return BAD_DRAFT;
-        }
+        node_rule(
+            draft.nodes,
+            draft.payload,
+            draft.strings,
+            counts,
+            sums,
+            i,
+            node,
+            follow,
+            source,
+            whole,
+        )?;
         sums = records::add(sums, node);
         let next = path_list::next_hint(paths, i, hint);
         hint.next = next;
-        i += 1;
     }
     if records::used_up(sums, counts) {
-        0
+        Ok(())
     } else {
-        BAD_DRAFT
+        Err(Refusal::BadDraft)
     }
 }
 
 // Every ordered child is a node.
-fn children_rule(nodes: &[u32], children: &[u32], source: Source) -> u32
+fn children_rule(nodes: &[u32], children: &[u32], source: Source) -> Result<(), Refusal>
     ensures { let s = draft_of source.version nodes.now children.now [] [] [] [] [] in
-        result ≡ first_of (child_count s) (draft_child_rule s) }
+        refusal_in result ≡ first_of (child_count s) (draft_child_rule s) }
 {
     let count = source::node_count(nodes, source);
-    let mut j = 0;
-    while j < children.len() {
-        if !image::is_inside(count, source::word(children, j)) {
-            return BAD_DRAFT;
+    for child in children {
+        if !image::is_inside(count, *child) {
+            return Err(Refusal::BadDraft);
         }
-        j += 1;
     }
-    0
+    Ok(())
 }
 
 // A named entry, where there are so many nodes: its text is good, and it names a node.
-fn entry_rule(entry: TextEntry, nodes: usize, strings: &[u8], whole: bool) -> u32
+fn entry_rule(entry: TextEntry, nodes: usize, strings: &[u8], whole: bool) -> Result<(), Refusal>
     requires { whole ≡ true → good_bytes strings.now ≡ true }
-    ensures { result ≡ (unless (good_in strings.now entry.offset entry.len) bad_draft
+    ensures { refusal_in result ≡ (unless (good_in strings.now entry.offset entry.len) bad_draft
         ▸ unless (inside_among nodes entry.value) bad_draft) }
 {
     if !image::good_within(strings, entry.offset, entry.len, whole) {
-        return BAD_DRAFT;
+        return Err(Refusal::BadDraft);
     }
     if image::is_inside(nodes, entry.value) {
-        0
+        Ok(())
     } else {
-        BAD_DRAFT
+        Err(Refusal::BadDraft)
     }
 }
 
 // The rules of every named entry.
-fn named_rule(nodes: &[u32], named: &[u32], strings: &[u8], source: Source, whole: bool) -> u32
+fn named_rule(
+    nodes: &[u32],
+    named: &[u32],
+    strings: &[u8],
+    source: Source,
+    whole: bool,
+) -> Result<(), Refusal>
     requires { whole ≡ true → good_bytes strings.now ≡ true }
     ensures { let s = draft_of source.version nodes.now [] named.now [] [] [] strings.now in
-        result ≡ first_of (named_count s) (draft_named_rule s) }
+        refusal_in result ≡ first_of (named_count s) (draft_named_rule s) }
 {
     let nodes = source::node_count(nodes, source);
     let count = named.len() / ImageView::TEXT_ENTRY_WORDS;
-    let mut j = 0;
-    while j < count {
-        let refused = entry_rule(source::entry_at(named, j), nodes, strings, whole);
-        if refused != 0 {
-            return refused;
-        }
-        j += 1;
+    for j in 0..count {
+        entry_rule(source::entry_at(named, j), nodes, strings, whole)?;
     }
-    0
+    Ok(())
 }
 
 // A definition, where the ones before it use so many of all the items: its text is good, and its items follow theirs.
-fn definition_rule(definition: Definition, used: usize, items: usize, strings: &[u8]) -> u32
-    ensures { result ≡ (unless (good_in strings.now definition.offset definition.len) bad_draft
+fn definition_rule(
+    definition: Definition,
+    used: usize,
+    items: usize,
+    strings: &[u8],
+) -> Result<(), Refusal>
+    ensures { refusal_in result ≡ (unless (good_in strings.now definition.offset definition.len) bad_draft
         ▸ unless (starts_next definition.first definition.count used items) bad_draft) }
 {
     if !image::good_text(strings, definition.offset, definition.len) {
-        return BAD_DRAFT;
+        return Err(Refusal::BadDraft);
     }
     let first = definition.first as usize;
     if items < first + definition.count as usize {
-        return BAD_DRAFT;
+        return Err(Refusal::BadDraft);
     }
-    if first == used { 0 } else { BAD_DRAFT }
+    if first == used {
+        Ok(())
+    } else {
+        Err(Refusal::BadDraft)
+    }
 }
 
 // The rules of every definition, and that they use up the items.
-fn definitions_rule(definitions: &[u32], items: &[u32], strings: &[u8]) -> u32
+fn definitions_rule(definitions: &[u32], items: &[u32], strings: &[u8]) -> Result<(), Refusal>
     ensures { let s = draft_of 0 [] [] [] definitions.now items.now [] strings.now in
-        result ≡ (first_of (definition_count s) (draft_definition_rule s) ▸ unless (items_used_up s) bad_draft) }
+        refusal_in result ≡ (first_of (definition_count s) (draft_definition_rule s) ▸ unless (items_used_up s) bad_draft) }
 {
     let count = definitions.len() / ImageView::DEFINITION_WORDS;
     let all = items.len() / ImageView::TEXT_ENTRY_WORDS;
     let mut used = 0;
-    let mut d = 0;
-    while d < count {
+    for d in 0..count {
         let definition = source::definition_at(definitions, d);
-        if definition_rule(definition, used, all, strings) != 0 {
-            return BAD_DRAFT;
-        }
+        definition_rule(definition, used, all, strings)?;
         used = definition.first as usize + definition.count as usize;
-        d += 1;
     }
-    if used == all { 0 } else { BAD_DRAFT }
+    if used == all {
+        Ok(())
+    } else {
+        Err(Refusal::BadDraft)
+    }
 }
 
 // The text of every item is good.
-fn items_rule(items: &[u32], strings: &[u8]) -> u32
-    ensures { let s = draft_of 0 [] [] [] [] items.now [] strings.now in result ≡ first_of (item_count s) (draft_item_rule s) }
+fn items_rule(items: &[u32], strings: &[u8]) -> Result<(), Refusal>
+    ensures { let s = draft_of 0 [] [] [] [] items.now [] strings.now in refusal_in result ≡ first_of (item_count s) (draft_item_rule s) }
 {
     let count = items.len() / ImageView::TEXT_ENTRY_WORDS;
-    let mut j = 0;
-    while j < count {
+    for j in 0..count {
         let item = source::entry_at(items, j);
         if !image::good_text(strings, item.offset, item.len) {
-            return BAD_DRAFT;
+            return Err(Refusal::BadDraft);
         }
-        j += 1;
     }
-    0
+    Ok(())
 }
 
-// Row 19, or 0; of the nodes that follow a path of the list, the target is not tested.
-pub fn tables_rule(
-    nodes: &[u32],
-    children: &[u32],
-    named: &[u32],
-    definitions: &[u32],
-    items: &[u32],
-    payload: &[u8],
-    strings: &[u8],
-    paths: &[u32],
-    source: Source,
-) -> u32
-    ensures { let s = draft_of source.version nodes.now children.now named.now definitions.now
-        items.now payload.now strings.now in
-        result ≡ path_tables_rule s paths.now }
+// Row 19; of the nodes that follow a path of the list, the target is not tested.
+pub fn tables_rule(draft: Draft, paths: &[u32], source: Source) -> Result<(), Refusal>
+    ensures { let s = drafted source.version draft.entry in
+        refusal_in result ≡ path_tables_rule s paths.now }
 {
-    if !whole_entries(nodes, named, definitions, items, source) {
-        return BAD_DRAFT;
-    }
-    let whole = image::good_bytes(strings);
-    let refused = nodes_rule(
-        nodes,
-        children,
-        named,
-        definitions,
-        items,
-        payload,
-        strings,
-        paths,
+    if !whole_entries(
+        draft.nodes,
+        draft.named,
+        draft.definitions,
+        draft.items,
         source,
-        whole,
-    );
-    if refused != 0 {
-        return refused;
+    ) {
+        return Err(Refusal::BadDraft);
     }
-    let refused = children_rule(nodes, children, source);
-    if refused != 0 {
-        return refused;
-    }
-    let refused = named_rule(nodes, named, strings, source, whole);
-    if refused != 0 {
-        return refused;
-    }
-    let refused = definitions_rule(definitions, items, strings);
-    if refused != 0 {
-        return refused;
-    }
-    items_rule(items, strings)
+    let whole = image::good_bytes(draft.strings);
+    nodes_rule(draft, paths, source, whole)?;
+    children_rule(draft.nodes, draft.children, source)?;
+    named_rule(draft.nodes, draft.named, draft.strings, source, whole)?;
+    definitions_rule(draft.definitions, draft.items, draft.strings)?;
+    items_rule(draft.items, draft.strings)
 }
 
-// Row 19 of a draft with no list of paths, or 0.
-pub fn plain_tables_rule(
-    nodes: &[u32],
-    children: &[u32],
-    named: &[u32],
-    definitions: &[u32],
-    items: &[u32],
-    payload: &[u8],
-    strings: &[u8],
-    source: Source,
-) -> u32
+// Row 19 of a draft with no list of paths.
+pub fn plain_tables_rule(draft: Draft, source: Source) -> Result<(), Refusal>
     ensures { let s =
-        draft_of source.version nodes.now children.now named.now definitions.now
-        items.now payload.now strings.now in
-        result ≡ tables_rule s }
+        drafted source.version draft.entry in
+        refusal_in result ≡ tables_rule s }
 {
-    tables_rule(
-        nodes,
-        children,
-        named,
-        definitions,
-        items,
-        payload,
-        strings,
-        &nodes[..0],
-        source,
-    )
+    tables_rule(draft, &draft.nodes[..0], source)
 }

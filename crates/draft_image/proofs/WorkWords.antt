@@ -1,4 +1,5 @@
 -- The work words lent for a call on a draft, and given back cleared.
+use Rattle.std.specs.Prelude.{None, Option, Some, ℕ}
 use Prim.Native.Nat.{ℕ, ◌≤◌, ◌<◌}
 use mathlib.Core.Path.{◌≡◌, refl, sym, ap, ◌∙◌}
 use mathlib.Core.List.{List, ◌++◌}
@@ -8,29 +9,27 @@ use lib.ListN.{length, take, drop, replicate, length-append}
 use lib.Dec.{leb}
 use borrow.Author.Tests.{leb-false}
 use lib.Seq.{length-take-le, drop_at}
-use Rattle.draft.specs.declared.Needed.{Needed}
-use Rattle.draft.specs.declared.Needed.TheVariants.{Words, TooMany}
 use Rattle.draft.specs.Needs.{needed_of}
 use Rattle.draft.proofs.WorkWords.{needed-words}
 
 -- ---- how many are needed
 
-tag : Needed → ℕ
-tag (Words n) = 0
-tag TooMany = 1
+tag : Option ℕ → ℕ
+tag (Some n) = 0
+tag None = 1
 
-pub few_words : (needed work : ℕ) (a : Needed) → a ≡ needed_of needed work → a ≡ TooMany → work < needed
+pub few_words : (needed work : ℕ) (a : Option ℕ) → a ≡ needed_of needed work → a ≡ None → work < needed
 unfolding needed_of tag
 few_words needed work a e q = go (leb needed work) refl (sym q ∙ e)
   where
-    go : (b : Bool) → leb needed work ≡ b → TooMany ≡ cond b (Words needed) TooMany → work < needed
+    go : (b : Bool) → leb needed work ≡ b → None ≡ cond b (Some needed) None → work < needed
     go true h f = let z : ◌≡◌ {A = ℕ} 1 0 = ap {B = ℕ} tag f in absurd (omega arith)
     go false h f = leb-false needed work h
 
 pub no_rule : (k r : ℕ) → k ≡ r → k ≡ 0 → r ≡ 0
 no_rule k r e z = sym e ∙ z
 
-module _ (needed n : ℕ) (work₀ : List ℕ) (a : Needed) (e : a ≡ needed_of needed (length work₀)) (q : a ≡ Words n) where
+module _ (needed n : ℕ) (work₀ : List ℕ) (a : Option ℕ) (e : a ≡ needed_of needed (length work₀)) (q : a ≡ Some n) where
   pub lent : (n ≡ needed) × (needed ≤ length work₀)
   lent = needed-words needed (length work₀) n (sym e ∙ q)
 

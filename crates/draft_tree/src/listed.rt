@@ -17,10 +17,8 @@ fn mark_children(children: &[u32], work: &mut [u32])
     requires { (j : ℕ) → j < length children.now → get_or children.now j 0 < length work.old }
     ensures { let xs = children.now in MarkedAmong (length xs) (λ j. get_or xs j 0) work.old work.new }
 {
-    let mut j = 0;
-    while j < children.len() {
-        work[children[j] as usize] = LISTED;
-        j += 1;
+    for child in children {
+        work[*child as usize] = LISTED;
     }
 }
 
@@ -31,10 +29,8 @@ fn mark_named(named: &[u32], work: &mut [u32])
         MarkedAmong (length xs / text_entry_words) (λ j. get_or xs (j * text_entry_words + 2) 0) work.old work.new }
 {
     let count = named.len() / ImageView::TEXT_ENTRY_WORDS;
-    let mut j = 0;
-    while j < count {
+    for j in 0..count {
         work[named[j * ImageView::TEXT_ENTRY_WORDS + 2] as usize] = LISTED;
-        j += 1;
     }
 }
 
@@ -43,12 +39,10 @@ fn all_ones(work: &[u32], count: usize) -> bool
     requires { count ≤ length work.now }
     ensures { (result ≡ true) ↔ ((i : ℕ) → 0 < i → i < count → get_or work.now i 0 ≡ 1) }
 {
-    let mut i = 1;
-    while i < count {
+    for i in 1..count {
         if work[i] != LISTED {
             return false;
         }
-        i += 1;
     }
     true
 }

@@ -14,6 +14,7 @@ use image::{NONE, NodeRecord};
 
 // Climbs by parents from node `i` to the first node that is not marked 1, and marks the nodes on the way with a number of its own. Whether that
 // node was known to lead to the root: it is not where it has the climb's own mark, for then the parents turn in a circle.
+// A `while`: the way goes up the tree.
 fn climb(nodes: &[u32], work: &mut [u32], i: usize, source: Source) -> bool
     requires fact { let s = draft_of source.version nodes.now [] [] [] [] [] [] in Climbable s i work.old × (i < node_count s) }
     requires i_nonzero { (0 < i) × (i < NONE) }
@@ -53,14 +54,12 @@ pub fn all_rooted(nodes: &[u32], work: &mut [u32], source: Source) -> bool
         return false;
     }
     work[0] = 0;
-    let mut i = 0;
-    while i < count {
+    for i in 0..count {
         if is_open(nodes, work, i, source) {
             if !climb(nodes, work, i, source) {
                 return false;
             }
         }
-        i += 1;
     }
     true
 }

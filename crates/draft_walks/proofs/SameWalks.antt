@@ -1,4 +1,5 @@
 -- A walk over a draft: where it begins, and that it reads its nodes, entries and strings alone, so that the other sections may be any.
+use Rattle.std.specs.Prelude.{None, Option, Some, ℕ}
 use Prim.Native.Nat.{ℕ}
 use mathlib.Core.Path.{◌≡◌, refl, sym, ap, ◌∙◌}
 use mathlib.Core.List.{List}
@@ -6,23 +7,19 @@ use mathlib.Core.Bool.{Bool}
 use lib.ListN.{drop}
 use Rattle.image.specs.Sections.{Sections, node_word, child_word}
 use Rattle.draft.specs.Source.{draft_of}
-use Rattle.views.specs.declared.Found.{Found}
-use Rattle.views.specs.declared.Found.TheVariants.{Node, NotFound}
 use Rattle.views.specs.Children.{child_query}
 use Rattle.lookups.specs.Lookup.{find_named}
 use Rattle.walks.specs.Walk.{Component, Parent, Index, Name, Broken, components, parent_query, step, steps, resolve}
 use Rattle.walks.proofs.SameWalks.{SameSteps, same_walks}
-use Rattle.draft_walks.specs.declared.Start.{Start}
-use Rattle.draft_walks.specs.declared.Start.TheVariants.{At, Nowhere}
 use Rattle.draft_walks.specs.Walked.{walked, walk_from}
 
 -- the walk that begins there answers r
-module _ (s : Sections) (names path : List ℕ) (x : Start) (r : Found) (e : walk_from s x names path ≡ r) where
-  pub walk-missing : x ≡ Nowhere → NotFound ≡ r
-  walk-missing h = ap (λ (y : Start). walk_from s y names path) (sym h) ∙ e
+module _ (s : Sections) (names path : List ℕ) (x : Option (ℕ × ℕ)) (r : Option ℕ) (e : walk_from s x names path ≡ r) where
+  pub walk-missing : x ≡ None → None ≡ r
+  walk-missing h = ap (λ (y : Option (ℕ × ℕ)). walk_from s y names path) (sym h) ∙ e
 
-  pub walk-begun : (from first : ℕ) → x ≡ At from first → (a : Found) → a ≡ steps s (Node from) (components names (drop first path)) → a ≡ r
-  walk-begun from first h a g = g ∙ ap (λ (y : Start). walk_from s y names path) (sym h) ∙ e
+  pub walk-begun : (from first : ℕ) → x ≡ Some (from, first) → (a : Option ℕ) → a ≡ steps s (Some from) (components names (drop first path)) → a ≡ r
+  walk-begun from first h a g = g ∙ ap (λ (y : Option (ℕ × ℕ)). walk_from s y names path) (sym h) ∙ e
 
 module _ (version : ℕ) (nodes children named definitions items payload strings : List ℕ) where
   abbrev part : Sections
@@ -42,5 +39,5 @@ module _ (version : ℕ) (nodes children named definitions items payload strings
   unfolding node_word
   same = record { nodes = λ i. refl; containers = λ i. refl; steps = same_step }
 
-  pub same-walk : (relative : Bool) (origin : ℕ) (cs : List Component) (a : Found) → a ≡ resolve part relative origin cs → a ≡ resolve whole relative origin cs
+  pub same-walk : (relative : Bool) (origin : ℕ) (cs : List Component) (a : Option ℕ) → a ≡ resolve part relative origin cs → a ≡ resolve whole relative origin cs
   same-walk relative origin cs a h = h ∙ same_walks part whole same relative origin cs

@@ -4,41 +4,29 @@
 ghost use Rattle.std.specs.Prelude.{◌≡◌, length, take, drop};
 ghost use Rattle.draft_words.specs.Slices.{BeginWith, lengths_in, behind_words, behind_nodes, behind_children, behind_named, behind_definitions, behind_items};
 
+use draft::source::Draft;
+
 // The bytes behind the first n; none where there are no more.
 pub fn after(bytes: &[u8], n: usize) -> &[u8]
     ensures { result.now ≡ drop n bytes.now }
 {
-    if n <= bytes.len() {
-        &bytes[n..]
-    } else {
-        &bytes[..0]
-    }
+    &bytes[n.min(bytes.len())..]
 }
 
-// The first so many bytes; all where there are no more.
-pub fn front(bytes: &[u8], count: u32) -> &[u8]
-    ensures { result.now ≡ take count bytes.now }
+// The first so many, of bytes or of words; all where there are no more.
+pub fn first<T>(items: &[T], count: u32) -> &[T]
+    ensures { result.now ≡ take count items.now }
 {
-    let n = count as usize;
-    if n <= bytes.len() { &bytes[..n] } else { bytes }
-}
-
-// The first so many words; all where there are no more.
-pub fn first(words: &[u32], count: u32) -> &[u32]
-    ensures { result.now ≡ take count words.now }
-{
-    let n = count as usize;
-    if n <= words.len() { &words[..n] } else { words }
+    &items[..items.len().min(count as usize)]
 }
 
 // Fills the words with those that the bytes begin with; a word that is not there is 0.
+#[tactic(auto, unfolding(crate::specs::Slices::BeginWith))]
 pub fn read_words(bytes: &[u8], to: &mut [u32])
     ensures { BeginWith (length to.old) bytes.now to.new }
 {
-    let mut i = 0;
-    while i < to.len() {
-        to[i] = words::get(bytes, 4 * i);
-        i += 1;
+    for (i, word) in to.iter_mut().enumerate() {
+        *word = words::get(bytes, 4 * i);
     }
 }
 
@@ -76,31 +64,96 @@ pub fn after_words(bytes: &[u8], count: u32) -> &[u8]
     after(bytes, 4 * count as usize)
 }
 
-// Fills the tables with the words that a draft's bytes begin with, and gives the bytes behind them: the payload and what follows.
-pub fn read_tables<'b, 't>(
-    bytes: &'b [u8],
-    lengths: Lengths,
-    nodes: &'t mut [u32],
-    children: &'t mut [u32],
-    named: &'t mut [u32],
-    definitions: &'t mut [u32],
-    items: &'t mut [u32],
-) -> &'b [u8]
-    ensures first { BeginWith (length nodes.old) bytes.now nodes.new }
-    ensures second { BeginWith (length children.old) (behind_nodes lengths bytes.now) children.new }
-    ensures third { BeginWith (length named.old) (behind_children lengths bytes.now) named.new }
-    ensures fourth { BeginWith (length definitions.old) (behind_named lengths bytes.now) definitions.new }
-    ensures last { BeginWith (length items.old) (behind_definitions lengths bytes.now) items.new }
-    ensures rest { result.now ≡ behind_items lengths bytes.now }
-{
-    read_words(bytes, nodes);
-    let from_children = after_words(bytes, lengths.nodes);
-    read_words(from_children, children);
-    let from_named = after_words(from_children, lengths.children);
-    read_words(from_named, named);
-    let from_definitions = after_words(from_named, lengths.named);
-    read_words(from_definitions, definitions);
-    let from_items = after_words(from_definitions, lengths.definitions);
-    read_words(from_items, items);
-    after_words(from_items, lengths.items)
+// The tables of a draft behind its nodes, with room for so many words in each.
+#[derive(Clone, Copy)]
+pub struct Tables<const N: usize> {
+    pub children: [u32; N],
+    pub named: [u32; N],
+    pub definitions: [u32; N],
+    pub items: [u32; N],
+}
+
+// The slices of a draft besides its nodes, which calls may change.
+#[derive(Clone, Copy)]
+pub struct Slices<'d> {
+    pub children: &'d [u32],
+    pub named: &'d [u32],
+    pub definitions: &'d [u32],
+    pub items: &'d [u32],
+    pub payload: &'d [u8],
+    pub strings: &'d [u8],
+}
+
+impl<'d> Slices<'d> {
+    // The whole draft, with these nodes.
+    pub fn with_nodes(self, nodes: &'d [u32]) -> Draft<'d>
+        ensures nodes { result.nodes.now ≡ nodes.now }
+        ensures children { result.children.now ≡ self.entry.children.now }
+        ensures named { result.named.now ≡ self.entry.named.now }
+        ensures definitions { result.definitions.now ≡ self.entry.definitions.now }
+        ensures items { result.items.now ≡ self.entry.items.now }
+        ensures payload { result.payload.now ≡ self.entry.payload.now }
+        ensures strings { result.strings.now ≡ self.entry.strings.now }
+    {
+        Draft {
+            nodes,
+            children: self.children,
+            named: self.named,
+            definitions: self.definitions,
+            items: self.items,
+            payload: self.payload,
+            strings: self.strings,
+        }
+    }
+}
+
+impl<const N: usize> Tables<N> {
+    // The tables of the draft that bytes begin with, and the bytes behind them: the payload and what follows.
+    pub fn read(bytes: &[u8], lengths: Lengths) -> (Tables<N>, &[u8])
+        ensures second { BeginWith N (behind_nodes lengths bytes.now) result.0.children }
+        ensures third { BeginWith N (behind_children lengths bytes.now) result.0.named }
+        ensures fourth { BeginWith N (behind_named lengths bytes.now) result.0.definitions }
+        ensures last { BeginWith N (behind_definitions lengths bytes.now) result.0.items }
+        ensures rest { result.1.now ≡ behind_items lengths bytes.now }
+    {
+        let mut tables = Tables {
+            children: [0; N],
+            named: [0; N],
+            definitions: [0; N],
+            items: [0; N],
+        };
+        let from_children = after_words(bytes, lengths.nodes);
+        read_words(from_children, &mut tables.children);
+        let from_named = after_words(from_children, lengths.children);
+        read_words(from_named, &mut tables.named);
+        let from_definitions = after_words(from_named, lengths.named);
+        read_words(from_definitions, &mut tables.definitions);
+        let from_items = after_words(from_definitions, lengths.definitions);
+        read_words(from_items, &mut tables.items);
+        (tables, after_words(from_items, lengths.items))
+    }
+
+    // A draft's slices: of each table as many words as it has, or all that are there.
+    pub fn slices<'d>(
+        &'d self,
+        lengths: Lengths,
+        payload: &'d [u8],
+        strings: &'d [u8],
+    ) -> Slices<'d>
+        ensures children { result.children.now ≡ take lengths.children self.now.children }
+        ensures named { result.named.now ≡ take lengths.named self.now.named }
+        ensures definitions { result.definitions.now ≡ take lengths.definitions self.now.definitions }
+        ensures items { result.items.now ≡ take lengths.items self.now.items }
+        ensures payload { result.payload.now ≡ payload.now }
+        ensures strings { result.strings.now ≡ strings.now }
+    {
+        Slices {
+            children: first(&self.children, lengths.children),
+            named: first(&self.named, lengths.named),
+            definitions: first(&self.definitions, lengths.definitions),
+            items: first(&self.items, lengths.items),
+            payload,
+            strings,
+        }
+    }
 }

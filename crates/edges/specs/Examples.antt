@@ -1,5 +1,5 @@
 -- Small images and drafts that the tables speak of.
-use Rattle.std.specs.Prelude.{ℕ, zero, suc, ◌+◌, ◌*◌, List, [], ◌∷◌, ◌++◌, length, take, replicate}
+use Rattle.std.specs.Prelude.{ℕ, List, [], ◌∷◌, ◌++◌, length, take, replicate}
 use Rattle.words.specs.Words.{NONE}
 use Rattle.texts.specs.Text.{ascii}
 use Rattle.image.specs.Sections.{Sections}

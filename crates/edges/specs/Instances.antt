@@ -1,5 +1,5 @@
 -- What is promised of numbers, of the base's rule and of drafts with paths, at the examples and at numbers that are never given.
-use Rattle.std.specs.Prelude.{ℕ, ◌<◌, ◌≡◌, refl, ◌≢◌, List, false}
+use Rattle.std.specs.Prelude.{ℕ, ◌<◌, ◌≡◌, refl, ◌≢◌, List, false, Option}
 use Rattle.std.proofs.Common.{sym, ap, ◌∙◌, inl, true≢false, arith}
 use Rattle.laws.specs.Lists.{has}
 use Rattle.words.specs.Words.{NONE}
@@ -13,7 +13,6 @@ use Rattle.load.specs.Load.{load_rule}
 use Rattle.draft.specs.PathList.{path_lists}
 use Rattle.draft_image.specs.Encode.{encode_rule}
 use Rattle.pages.specs.Page.{page_rule}
-use Rattle.views.specs.declared.NodeAnswer.{NodeAnswer}
 use Rattle.promises.specs.Answers.{of_node}
 use Rattle.target_finding.specs.Targets.{PathList, resolve_rule}
 use Rattle.target_counts.specs.Summary.{summary_rule, draft_count_rule}
@@ -31,6 +30,7 @@ use Rattle.resolver_rules.proofs.DivertEnds.{never_of_divert}
 use Rattle.edges.specs.Examples.{smallest_image, with_place3, with_a, alone_without_place, examples}
 use Rattle.edges.specs.Table.{edges}
 use Rattle.edges.specs.Targets.{guide, one, whole, path_examples, target_lines}
+use Rattle.views.specs.declared.NodeView.{NodeView}
 
 -- ---- numbers that a call never gives
 
@@ -43,7 +43,7 @@ pub record NeverLines : Type 0 where
   pub encode : (ink : ℕ) (s : Sections) (work room : ℕ) → encode_rule ink s work room ≢ no_target
   pub resolve : (ink : ℕ) (s : Sections) (p : PathList) (work : ℕ) → resolve_rule ink s p work ≢ draft_paths
   pub page : (numbers room : ℕ) → page_rule numbers room ≢ not_found
-  pub node : (a : NodeAnswer) → (of_node a).number ≢ bad_draft
+  pub node : (a : Option NodeView) → (of_node a).number ≢ bad_draft
   pub count : (s : Sections) (words : ℕ) → summary_rule s words ≢ bad_draft
   pub draft-count : (s : Sections) (words : ℕ) → draft_count_rule s words ≢ not_found
   pub set-target : (s : Sections) (summary : List ℕ) (node target : ℕ) → set_target_rule s summary node target ≢ draft_paths

@@ -1,5 +1,5 @@
 -- The small example of each row of FORMAT.md's table of numbers, as one theorem.
-use Rattle.std.specs.Prelude.{ℕ, zero, suc, ◌+◌, ◌≡◌, refl, List, [], ◌∷◌, ◌++◌, Bool, true, false, length, take, set, get_or, replicate}
+use Rattle.std.specs.Prelude.{◌+◌, ◌≡◌, refl, [], ◌∷◌, ◌++◌, take, set, get_or, replicate}
 use Rattle.words.specs.Words.{NONE}
 use Rattle.texts.specs.Text.{ascii}
 use Rattle.image.specs.Sections.{Sections}

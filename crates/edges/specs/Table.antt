@@ -1,5 +1,5 @@
 -- The lines that FORMAT.md marks P, as one theorem.
-use Rattle.std.specs.Prelude.{ℕ, ◌≡◌, refl, [], ◌∷◌, true, false, pos, length}
+use Rattle.std.specs.Prelude.{ℕ, ◌≡◌, refl, [], ◌∷◌, true, false, pos, length, None, Option, Some}
 use Rattle.words.specs.Words.{NONE}
 use Rattle.texts.specs.Text.{ascii}
 use Rattle.image.specs.Sections.{text_at}
@@ -9,24 +9,19 @@ use Rattle.load.specs.Load.{load_rule, loads}
 use Rattle.views.specs.View.{node_view, views}
 use Rattle.lookups.specs.Lookup.{list_item, lookups}
 use Rattle.walks.specs.Walk.{resolve, walks}
-use Rattle.views.specs.declared.Found.TheVariants.{Node}
-use Rattle.lookups.specs.declared.ListItemAnswer.TheVariants.{Item, NotFound}
 use Rattle.list_items.specs.declared.ItemSearch.{ItemSearch}
 use Rattle.list_items.specs.Search.{list_search, list_searches}
 use Rattle.list_items.specs.Plain.{SearchCount}
 use Rattle.promises.specs.Answers.{of_list_item}
 use Rattle.draft_image.specs.Encode.{encode_rule, image_for, encodes}
-use Rattle.views.specs.declared.OptionalText.TheVariants.{Present, Absent}
-use Rattle.views.specs.declared.OptionalText.{OptionalText}
-use Rattle.views.specs.declared.OptionalWord.TheVariants as word
 use Rattle.views.specs.declared.NodeKindView.TheVariants as kind
-use Rattle.views.specs.declared.NodeAnswer.{NodeAnswer}
-use Rattle.views.specs.declared.NodeAnswer.TheVariants as node
 use Rattle.edges.specs.Examples.{smallest_image, header_alone, container_words, plain_sections, root_named, root_draft, with_child, with_divert, with_place3, with_a, with_two_places, alone_without_place, below_without_place, below_filed_first, with_lists, two_reds, items_outside, examples}
+use Rattle.views.specs.declared.NodeView.{NodeView}
+use Rattle.views.specs.declared.Span.{Span}
 
 -- the view of a root: no parent, no place, flags 0, and the name
-abbrev root_view : OptionalText → NodeAnswer
-root_view name = node.View (record { parent = word.Absent; child_index = word.Absent; kind = kind.Container (pos 0) name })
+abbrev root_view : Option Span → Option NodeView
+root_view name = Some (record { parent = None; child_index = None; kind = kind.Container (pos 0) name })
 
 -- the smallest image and its draft; 88 bytes with no sections
 pub record SmallestLines : Type 0 where
@@ -68,10 +63,10 @@ field_lines =
 
 -- name words (0, 0) and (NONE, NONE), as the root's view has them
 pub record NameLines : Type 0 where
-  pub name-empty : node_view (root_named 0 0) 0 ≡ root_view (Present (record { offset = 0; len = 0 }))
+  pub name-empty : node_view (root_named 0 0) 0 ≡ root_view (Some (record { offset = 0; len = 0 }))
   pub name-empty-text : text_at (root_named 0 0) 0 0 ≡ []
   pub name-empty-image : load_rule (image_of 21 (root_named 0 0)) 2 ≡ 0
-  pub name-absent : node_view (root_named NONE NONE) 0 ≡ root_view Absent
+  pub name-absent : node_view (root_named NONE NONE) 0 ≡ root_view None
 
 name_lines : NameLines
 unfolding examples encodes encodings walks lookups views loads
@@ -174,9 +169,9 @@ no_place_lines =
 -- an item in two definitions; a relative walk of no components
 pub record QueryLines : Type 0 where
   pub lists-image : load_rule (image_of 21 with_lists) 2 ≡ 0
-  pub low : list_item with_lists (ascii "low") ≡ Item (record { definition = 1; item = 1; value = pos 2 })
-  pub red_low : list_item with_lists (ascii "red.low") ≡ Item (record { definition = 0; item = 0; value = pos 1 })
-  pub from_glue : resolve (with_child 5 []) true 1 [] ≡ Node 0
+  pub low : list_item with_lists (ascii "low") ≡ Some (record { definition = 1; item = 1; value = pos 2 })
+  pub red_low : list_item with_lists (ascii "red.low") ≡ Some (record { definition = 0; item = 0; value = pos 1 })
+  pub from_glue : resolve (with_child 5 []) true 1 [] ≡ Some 0
 
 query_lines : QueryLines
 unfolding examples encodes encodings walks lookups views loads
@@ -190,10 +185,10 @@ query_lines =
 
 -- what a search says: the item of a definition and its value, or nothing, and how many definitions' items were searched
 abbrev found_by : ℕ → ℕ → ℕ → ℕ → ItemSearch
-found_by d item value searched = record { answer = Item (record { definition = d; item = item; value = pos value }); searched = searched }
+found_by d item value searched = record { answer = Some (record { definition = d; item = item; value = pos value }); searched = searched }
 
 abbrev nothing_by : ℕ → ItemSearch
-nothing_by searched = record { answer = NotFound; searched = searched }
+nothing_by searched = record { answer = None; searched = searched }
 
 -- the same items by the search from the last definition on, and names that give none: no such origin, no such item, a space, U+3000 and
 -- a tab, nothing, a dot with nothing on one side

@@ -16,7 +16,10 @@ use Rattle.words.specs.Words.{NONE, word_at}
 use Rattle.texts.specs.Text.{same}
 use Rattle.image.specs.declared.Section.{Section}
 use Rattle.image.specs.declared.ImageView.{ImageView}
-use Rattle.image.specs.declared.Opened.TheVariants.{View, Refused}
+use Rattle.std.specs.Prelude.{ℕ, suc, pred, Result, Ok, Err, IsErrAnd}
+use Rattle.image.specs.declared.refusal.Refusal.{Refusal}
+use Rattle.image.specs.Refusals.{refusal_number, refusal_in, numbered}
+use Rattle.image.proofs.Refused.{not-zero, handed-on, passed-zero}
 use Rattle.image.specs.Header.{magic, header_length, version_at, ink_version_at, length_at, version_right, section_at, view_of, sizes, start_by, section_right, laid_out, ink_right, headed, header_rule, opened_by, opened_of}
 use Rattle.image.specs.Sections.{node_words, most_node_size}
 use Rattle.image.proofs.Widths.{width}
@@ -165,11 +168,13 @@ module _ (bs : List ℕ) where
 
 -- ---- the answer of the constructor
 
-pub opened-refused : (bs : List ℕ) (r : ℕ) → r ≡ header_rule bs → (r ≡ 0 → ⊥) → Refused r ≡ opened_of bs
-unfolding opened_of opened_by
-opened-refused bs zero e n = absurd (n refl)
-opened-refused bs (suc r) e n = rw (sym e)
+module _ (bs : List ℕ) {A : Type 0} (r : Result A Refusal) (is : refusal_in r ≡ header_rule bs) where
+  pub opened-refused : (e : Refusal) (q : Result ImageView Refusal) → r ≡ Err e → IsErrAnd q (λ x. x ≡ e) → numbered q ≡ opened_of bs
+  unfolding opened_of opened_by
+  opened-refused e q refused given =
+      let n : header_rule bs ≡ suc (pred (refusal_number e)) = sym is ∙ ap refusal_in refused ∙ not-zero e in
+      rw n (ap numbered (handed-on r e q refused given) ∙ ap Err (not-zero e))
 
-pub opened_view : (bs : List ℕ) (v : ImageView) (r : ℕ) → v ≡ view_of bs → r ≡ header_rule bs → r ≡ 0 → View v ≡ opened_of bs
-unfolding opened_of opened_by
-opened_view bs v r q e z = rw (sym e ∙ z, q)
+  pub opened_view : (x : A) (v : ImageView) → r ≡ Ok x → v ≡ view_of bs → Ok v ≡ opened_of bs
+  unfolding opened_of opened_by
+  opened_view x v passed q = rw (passed-zero r x passed (header_rule bs) is, q)

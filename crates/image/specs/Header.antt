@@ -1,5 +1,5 @@
 -- The header: the view that it gives, the sections that a view bounds in bytes, and rows 1 to 5.
-use Rattle.std.specs.Prelude.{ℕ, zero, suc, ◌+◌, ◌*◌, List, [], ◌∷◌, Bool, cond, ◌&&◌, not, length, get_or, take, leb, eqb}
+use Rattle.std.specs.Prelude.{ℕ, zero, suc, ◌+◌, ◌*◌, List, [], ◌∷◌, Bool, cond, ◌&&◌, not, length, get_or, take, leb, eqb, Result, Ok, Err}
 use Rattle.laws.specs.Refusal.{unless, ◌▸◌, refusals}
 use Rattle.laws.specs.Counted.{sum_of, all_of, counted}
 use Rattle.words.specs.Words.{word_at, words_of, words}
@@ -8,8 +8,6 @@ use Rattle.texts.specs.Text.{ascii, same, texts}
 use Rattle.image.specs.Refusals.{bad_header, bad_version, bad_ink_version, bad_length, bad_sections}
 use Rattle.image.specs.declared.Section.{Section}
 use Rattle.image.specs.declared.ImageView.{ImageView}
-use Rattle.image.specs.declared.Opened.{Opened}
-use Rattle.image.specs.declared.Opened.TheVariants.{View, Refused}
 use Rattle.image.specs.Sections.{Sections, node_size, child_size, text_entry_size, definition_size, part_at, sections}
 
 unfoldable pub magic : List ℕ
@@ -131,11 +129,11 @@ header_rule bs =
 -- ---- opening an image
 
 -- the view where nothing was refused
-unfoldable pub opened_by : ℕ → ImageView → Opened
-opened_by zero v = View v
-opened_by (suc r) v = Refused (suc r)
+unfoldable pub opened_by : ℕ → ImageView → Result ImageView ℕ
+opened_by zero v = Ok v
+opened_by (suc r) v = Err (suc r)
 
-unfoldable pub opened_of : List ℕ → Opened
+unfoldable pub opened_of : List ℕ → Result ImageView ℕ
 opened_of bs = opened_by (header_rule bs) (view_of bs)
 
 -- names on an `unfolding` line what a computation with this module needs

@@ -1,5 +1,7 @@
--- The numbers of FORMAT.md's table of refusals, by the names of the code's constants. 0, which is none of them, says that nothing was refused.
-use Rattle.std.specs.Prelude.{ℕ}
+-- The numbers of FORMAT.md's table of refusals. 0, which is none of them, says that nothing was refused.
+use Rattle.std.specs.Prelude.{ℕ, Result, Ok, Err}
+use Rattle.image.specs.declared.refusal.Refusal.{Refusal}
+use Rattle.image.specs.declared.refusal.Refusal.TheVariants as row
 
 -- fewer than 88 bytes, or another magic
 abbrev pub bad_header : ℕ
@@ -108,3 +110,49 @@ no_container = 26
 -- a summary of targets with fewer words than there are nodes, or a word of it that cannot take its step
 abbrev pub bad_summary : ℕ
 bad_summary = 27
+
+-- ---- the code's refusals
+
+abbrev pub refusal_number : Refusal → ℕ
+refusal_number row.BadHeader = bad_header
+refusal_number row.BadVersion = bad_version
+refusal_number row.BadInkVersion = bad_ink_version
+refusal_number row.BadLength = bad_length
+refusal_number row.BadSections = bad_sections
+refusal_number row.BadChecksum = bad_checksum
+refusal_number row.TooFewWords = too_few_words
+refusal_number row.BadRoot = bad_root
+refusal_number row.BadNode = bad_node
+refusal_number row.BadText = bad_text
+refusal_number row.BadRange = bad_range
+refusal_number row.BadTag = bad_tag
+refusal_number row.LeftOver = left_over
+refusal_number row.BadChild = bad_child
+refusal_number row.Unreached = unreached
+refusal_number row.BadIndex = bad_index
+refusal_number row.BadDefinition = bad_definition
+refusal_number row.NotFound = not_found
+refusal_number row.BadDraft = bad_draft
+refusal_number row.DraftUnreached = draft_unreached
+refusal_number row.DraftShape = draft_shape
+refusal_number row.DraftPaths = draft_paths
+refusal_number row.NoRoom = no_room
+refusal_number row.TooFewSlots = too_few_slots
+refusal_number row.NoTarget = no_target
+refusal_number row.NoContainer = no_container
+refusal_number row.BadSummary = bad_summary
+
+-- the number in an answer, 0 if nothing was refused
+abbrev pub refusal_in : {A : Type 0} → Result A Refusal → ℕ
+refusal_in (Ok x) = 0
+refusal_in (Err r) = refusal_number r
+
+-- the number that was answered, 0 if it was refused
+abbrev pub value_in : Result ℕ Refusal → ℕ
+value_in (Ok n) = n
+value_in (Err r) = 0
+
+-- an answer with the refusal's number
+abbrev pub numbered : {A : Type 0} → Result A Refusal → Result A ℕ
+numbered (Ok x) = Ok x
+numbered (Err r) = Err (refusal_number r)

@@ -8,7 +8,7 @@ ghost use Rattle.words.specs.Output.{over};
 ghost use Rattle.image.specs.Counted.{length_by, CountsOf};
 
 use crate::{EntryCounts, ImageView, node_size};
-use words::output::put_words;
+use words::output::{put_bytes, put_words};
 use words::put_word;
 
 // Writes the magic at the start of the output.
@@ -16,12 +16,7 @@ fn put_magic(out: &mut [u8])
     requires { header_length ≤ length out.old }
     ensures { out.new ≡ over magic out.old }
 {
-    let magic = ImageView::MAGIC;
-    let mut i = 0;
-    while i < 8 {
-        out[i] = magic[i];
-        i += 1;
-    }
+    put_bytes(&ImageView::MAGIC, out);
 }
 
 // Bytes of `count` nodes.

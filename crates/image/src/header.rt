@@ -1,8 +1,10 @@
 // The header of an image: what it says, and rows 1 to 5 of the refusals.
 ghost use Rattle.std.specs.Prelude.{◌≡◌, ◌≤◌, ◌<◌, length};
+ghost use Rattle.image.specs.Refusals.{refusal_in};
 ghost use Rattle.image.specs.Header.{header_length, section_at, view_of, version_right, ink_right, laid_out, header_rule};
 
-use crate::{ImageView, Section, refusal};
+use crate::refusal::Refusal;
+use crate::{ImageView, Section};
 
 // A section's count stands behind its offset.
 const COUNTS_AT: usize = ImageView::SECTIONS_AT + ImageView::WORD_BYTES;
@@ -67,8 +69,7 @@ fn laid_out(bytes: &[u8]) -> bool
 {
     let sizes = crate::section_sizes(words::word(bytes, ImageView::VERSION_AT));
     let mut end = ImageView::HEADER_LENGTH;
-    let mut k = 0;
-    while k < 8 {
+    for k in 0..8 {
         let section = section_at(bytes, k);
         let offset = section.offset as usize;
         if offset != end {
@@ -78,7 +79,6 @@ fn laid_out(bytes: &[u8]) -> bool
         if bytes.len() < end {
             return false;
         }
-        k += 1;
     }
     if end != bytes.len() {
         return false;
@@ -87,29 +87,29 @@ fn laid_out(bytes: &[u8]) -> bool
     if nodes.count == 0 { false } else { true }
 }
 
-// The first of rows 1 to 5 that the header breaks, or 0.
-pub fn refusal_of(bytes: &[u8]) -> u32
-    ensures { result ≡ header_rule bytes.now }
+// Whether the header keeps rows 1 to 5, or the first that it breaks.
+pub fn header_rule(bytes: &[u8]) -> Result<(), Refusal>
+    ensures { refusal_in result ≡ header_rule bytes.now }
 {
     if bytes.len() < ImageView::HEADER_LENGTH {
-        return refusal::BAD_HEADER;
+        return Err(Refusal::BadHeader);
     }
     let magic = ImageView::MAGIC;
     if !texts::equal(&bytes[..8], &magic) {
-        return refusal::BAD_HEADER;
+        return Err(Refusal::BadHeader);
     }
     if !version_right(words::word(bytes, ImageView::VERSION_AT)) {
-        return refusal::BAD_VERSION;
+        return Err(Refusal::BadVersion);
     }
     if !ink_right(words::word(bytes, ImageView::INK_VERSION_AT)) {
-        return refusal::BAD_INK_VERSION;
+        return Err(Refusal::BadInkVersion);
     }
     if words::word(bytes, ImageView::LENGTH_AT) as usize != bytes.len() {
-        return refusal::BAD_LENGTH;
+        return Err(Refusal::BadLength);
     }
     if laid_out(bytes) {
-        0
+        Ok(())
     } else {
-        refusal::BAD_SECTIONS
+        Err(Refusal::BadSections)
     }
 }

@@ -6,6 +6,7 @@ ghost use Rattle.words.specs.Words.{words_of};
 ghost use Rattle.image.specs.Sections.{node_words, node_size, text_entry_size, definition_size};
 ghost use Rattle.image.specs.Sections.{good_in, good_bytes, inside_among, optional_in, part_at, text_or_empty};
 ghost use Rattle.image.specs.Header.{section_bytes, sizes, opened_of};
+ghost use Rattle.image.specs.Refusals.{numbered};
 ghost use Rattle.image.specs.Entries.{record_of, text_entry_of, definition_of};
 
 pub mod encoding;
@@ -14,6 +15,8 @@ pub mod order;
 pub mod payload;
 pub mod refusal;
 pub mod tag;
+
+use crate::refusal::Refusal;
 
 // Where a section begins, in bytes, and how many entries it has.
 #[derive(Clone, Copy)]
@@ -48,13 +51,6 @@ pub struct ImageView {
     pub index: Section,
     pub payload: Section,
     pub strings: Section,
-}
-
-// What a constructor of a view answers: the view, or the number of the row of refusals that the header falls under.
-#[derive(Clone, Copy)]
-pub enum Opened {
-    View(ImageView),
-    Refused(u32),
 }
 
 impl ImageView {
@@ -115,14 +111,11 @@ impl ImageView {
     pub const STRINGS_SIZE: u32 = 1;
 
     // The view that the header gives, if the header breaks none of rows 1 to 5. The checksum is not asked.
-    pub fn new(bytes: &[u8]) -> Opened
-        ensures { result ≡ opened_of bytes.now }
+    pub fn new(bytes: &[u8]) -> Result<ImageView, Refusal>
+        ensures { numbered result ≡ opened_of bytes.now }
     {
-        let refusal = header::refusal_of(bytes);
-        if refusal != 0 {
-            return Opened::Refused(refusal);
-        }
-        Opened::View(header::view_at(bytes))
+        header::header_rule(bytes)?;
+        Ok(header::view_at(bytes))
     }
 }
 

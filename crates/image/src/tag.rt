@@ -1,4 +1,6 @@
 // The tags of FORMAT.md's kinds of nodes.
+// Numbers: any word may stand in an image or a draft, and `records::fields_rule` answers for each; an enum would add a conversion that can
+// fail wherever a node is read.
 
 pub const CONTAINER: u32 = 1;
 

@@ -1,4 +1,5 @@
 -- The work words suffice for every image that is read, so that a load answers by the image alone.
+use Rattle.std.specs.Prelude.{Result, Ok, Err}
 use Prim.Native.Nat.{ℕ, zero, suc, ◌≤◌, ◌<◌}
 use mathlib.Core.Path.{◌≡◌, refl, sym, ap, ◌∙◌}
 use mathlib.Core.List.{List}
@@ -14,7 +15,6 @@ use Rattle.image.specs.Header.{header_rule, view_of, sections_of}
 use Rattle.image.proofs.OpenedHeader.{opens}
 use Rattle.load.proofs.FirstSections.{first-sections}
 use Rattle.load.specs.Load.{checksum_rule, sections_rule, load_rule, load_words, loaded_by, loaded_of}
-use Rattle.load.specs.declared.Loaded.{Loaded}
 use Rattle.load.proofs.Answers.{needed_is}
 use Rattle.image_answer.specs.declared.Answer.TheVariants.{Accepted, Refused, Long}
 use Rattle.image_answer.specs.Answer.{limit, most_work_words, image_rule, answer_by, answer_of}
@@ -56,20 +56,20 @@ pub long : (bs : List ℕ) → limit < length bs → Long ≡ answer_of bs
 unfolding answer_of
 long bs l = sym (ap (λ (b : Bool). cond b (answer_by (image_rule bs) (view_of bs)) Long) (lt-leb (length bs) limit l))
 
-viewed_by : (r : ℕ) (u v : ImageView) → loaded_by r v ≡ Loaded.View u → Accepted u.ink_version u.nodes.count ≡ answer_by r v
+viewed_by : (r : ℕ) (u v : ImageView) → loaded_by r v ≡ Ok u → Accepted u.ink_version u.nodes.count ≡ answer_by r v
 viewed_by zero u v e = let q : v ≡ u = cc in rw q refl
 viewed_by (suc r) u v e = let z : ◌≡◌ {A = ℕ} 0 1 = cc in absurd (omega arith)
 
-refused_by : (r k : ℕ) (v : ImageView) → loaded_by r v ≡ Loaded.Refused k → Refused k ≡ answer_by r v
+refused_by : (r k : ℕ) (v : ImageView) → loaded_by r v ≡ Err k → Refused k ≡ answer_by r v
 refused_by zero k v e = let z : ◌≡◌ {A = ℕ} 0 1 = cc in absurd (omega arith)
 refused_by (suc r) k v e = let q : suc r ≡ k = cc in rw q refl
 
-by_image : (bs : List ℕ) (work : ℕ) (a : Loaded) → length bs ≤ limit → most_work_words ≤ work → a ≡ loaded_of bs work → loaded_by (image_rule bs) (view_of bs) ≡ a
+by_image : (bs : List ℕ) (work : ℕ) (a : Result ImageView ℕ) → length bs ≤ limit → most_work_words ≤ work → a ≡ loaded_of bs work → loaded_by (image_rule bs) (view_of bs) ≡ a
 unfolding loaded_of
 by_image bs work a l w e = ap (λ (r : ℕ). loaded_by r (view_of bs)) (sym (enough bs work l w)) ∙ sym e
 
-pub viewed : (bs : List ℕ) (work : ℕ) (a : Loaded) (u : ImageView) → length bs ≤ limit → most_work_words ≤ work → a ≡ loaded_of bs work → a ≡ Loaded.View u → Accepted u.ink_version u.nodes.count ≡ answer_of bs
+pub viewed : (bs : List ℕ) (work : ℕ) (a : Result ImageView ℕ) (u : ImageView) → length bs ≤ limit → most_work_words ≤ work → a ≡ loaded_of bs work → a ≡ Ok u → Accepted u.ink_version u.nodes.count ≡ answer_of bs
 viewed bs work a u l w e q = viewed_by (image_rule bs) u (view_of bs) (by_image bs work a l w e ∙ q) ∙ sym (short bs l)
 
-pub refused : (bs : List ℕ) (work : ℕ) (a : Loaded) (k : ℕ) → length bs ≤ limit → most_work_words ≤ work → a ≡ loaded_of bs work → a ≡ Loaded.Refused k → Refused k ≡ answer_of bs
+pub refused : (bs : List ℕ) (work : ℕ) (a : Result ImageView ℕ) (k : ℕ) → length bs ≤ limit → most_work_words ≤ work → a ≡ loaded_of bs work → a ≡ Err k → Refused k ≡ answer_of bs
 refused bs work a k l w e q = refused_by (image_rule bs) k (view_of bs) (by_image bs work a l w e ∙ q) ∙ sym (short bs l)

@@ -1,52 +1,25 @@
--- Texts and numbers written one behind the other make the line.
-use Prim.Native.Nat.{ℕ, ◌+◌, ◌≤◌, ◌<◌}
-use mathlib.Core.Path.{◌≡◌, refl, ap, ◌∙◌}
-use mathlib.Core.List.{List, [], ◌++◌}
-use native.Mathlib.Omega.{arith}
-use native.Mathlib.Numerals.{add-one}
-use lib.ListN.{length, get_or, set, length-append}
-use lib.Seq.{paste, paste-suc, length-paste}
-use Rattle.words.specs.Output.{over}
-use Rattle.words.proofs.FilledOutput.{Filled, start, more, front_is}
-use Rattle.image_answer.specs.Answer.{put_bytes}
+-- The lines of answers, as formatting writes them.
+use Rattle.std.proofs.Common.{ℕ, ◌<◌, ◌^◌, ◌≡◌, [], ◌∷◌, ◌++◌, refl, sym, arith, append_assoc}
+use Rattle.std.specs.Fmt as fmt
+use Rattle.std.proofs.lemmas.Fmt.{decimal_by_steps}
+use Rattle.texts.specs.Text.{ascii}
+use Rattle.texts.specs.Decimal.{decimal}
+use Rattle.texts.proofs.Decimal.{decimal_one, decimal-more}
+use Rattle.image_answer.specs.Answer.{accepted_line, refused_line, long_line}
 
--- ---- a text, byte by byte: the first i are written
+formatted : (n : ℕ) → n < 2 ^ 32 → fmt.decimal n ≡ decimal n
+formatted n h =
+    decimal_by_steps (λ m ds. ds ≡ decimal m) (λ m l. sym (decimal_one m l)) (λ m ds l e. rw e (sym (decimal-more m l))) n (omega arith)
 
-pub record Pasted (out₀ text out : List ℕ) (at i : ℕ) : Type 0 where
-  pub within : i ≤ length text
-  pub room : at + length text ≤ length out₀
-  pub long : length out ≡ length out₀
-  pub is : out ≡ paste out₀ at text i
+pub accepted-written : (version nodes : ℕ) → version < 2 ^ 32 → nodes < 2 ^ 32
+    → 111 ∷ 107 ∷ 32 ∷ (fmt.decimal version ++ (32 ∷ (fmt.decimal nodes ++ (10 ∷ [])))) ≡ accepted_line version nodes
+unfolding accepted_line ascii
+accepted-written version nodes v n = rw (formatted version v, formatted nodes n) (simp append_assoc refl)
 
-pub paste_more : (out₀ text : List ℕ) (at : ℕ) (out : List ℕ) (i : ℕ) → i < length text → Pasted out₀ text out at i → Pasted out₀ text (set out (at + i) (get_or text i 0)) at (i + 1)
-paste_more out₀ text at out i l p =
-    let step : set out (at + i) (get_or text i 0) ≡ paste out₀ at text (i + 1) = rw (p.is, add-one i) (paste-suc out₀ at text i 0 (omega arith) l) in
-    let size = length-paste out₀ at text (i + 1) (omega arith) (omega arith) in
-    record { within = omega arith; room = p.room; long = ap length step ∙ size; is = step }
+pub refused-written : (number : ℕ) → number < 2 ^ 32 → 110 ∷ 111 ∷ 32 ∷ (fmt.decimal number ++ (10 ∷ [])) ≡ refused_line number
+unfolding refused_line ascii
+refused-written number n = rw (formatted number n) refl
 
--- ---- what is written behind what is there
-
--- the output begins with these bytes, of which there are r, and is otherwise as it was
-pub record Begun (bs out₀ out : List ℕ) (r : ℕ) : Type 0 where
-  pub count : r ≡ length bs
-  pub filled : Filled 0 bs out₀ out
-
--- the first text; the next text or number
-module _ (out₀ : List ℕ) where
-  pub begin : (out bs : List ℕ) (r : ℕ) → length bs ≤ 25 → 25 ≤ length out₀ → r ≡ 0 + length bs → out ≡ put_bytes out₀ 0 bs → Begun bs out₀ out r
-  begin out bs r h k p e =
-      record {
-        count = omega arith;
-        filled = more 0 [] out₀ out₀ (start 0 out₀ (omega arith)) bs 0 (0 + length bs) out refl refl (omega arith) e;
-      }
-
-  pub onward : (out out' done bs : List ℕ) (at r : ℕ) → Begun done out₀ out at → at + length bs ≤ length out → r ≡ at + length bs
-      → out' ≡ put_bytes out at bs → Begun (done ++ bs) out₀ out' r
-  onward out out' done bs at r b h p e =
-      let size = b.filled.long in
-      let both = length-append done bs in
-      let place = b.count in
-      record { count = omega arith; filled = more 0 done out₀ out b.filled bs at (at + length bs) out' (omega arith) refl (omega arith) e }
-
-  pub line_is : (out bs : List ℕ) (r : ℕ) → Begun bs out₀ out r → (r ≡ length bs) × (out ≡ over bs out₀)
-  line_is out bs r b = (b.count, front_is bs out₀ out b.filled)
+pub long-written : 108 ∷ 111 ∷ 110 ∷ 103 ∷ 10 ∷ [] ≡ long_line
+unfolding long_line ascii
+long-written = refl

@@ -1,20 +1,20 @@
 // What the program image_check says of an image, and the line that it prints: proved of every reader whose bytes are known.
 #![tactic(auto)]
 
-ghost use Rattle.std.specs.Prelude.{◌≡◌, ◌+◌, ◌≤◌, ◌<◌, length, take, IfOk, OnOk, IfSome};
-ghost use Rattle.std.specs.Io.KnownBytes.{Appends, Consumes, IsAtEnd};
+ghost use Rattle.std.specs.Prelude.{◌≡◌, ◌+◌, ◌≤◌, length, Some, OnOk, IfSome};
+ghost use Rattle.std.specs.Io.KnownBytes.{Appends};
 ghost use Rattle.words.specs.Output.{over};
 ghost use Rattle.texts.specs.Decimal.{decimal};
-ghost use Rattle.image_answer.specs.Answer.{answer_of, most_work_words, put_bytes, accepted_line, refused_line, long_line, line_of};
+ghost use Rattle.image_answer.specs.Answer.{answer_of, put_bytes, accepted_line, refused_line, long_line, line_of};
 
-use load::Loaded;
-use std::io;
 use std::io::{Read, Write};
+use std::{fmt, io};
 use texts::{decimal_len, put_decimal};
 
 // The longest image that is read, in bytes.
 const LIMIT: usize = 65536;
 
+// No Result: there are three cases, each a line of its own, and of a refusal the number is what is printed.
 #[derive(Clone, Copy)]
 pub enum Answer {
     Accepted(u32, u32),
@@ -22,33 +22,17 @@ pub enum Answer {
     Long,
 }
 
-// Work words for any image of at most so many bytes.
-fn work_words() -> [u32; 16354]
-    ensures { 16354 ≡ length result }
-{
-    [0; 16354]
-}
+// The line of an answer: `ok V N`, `no K` or `long`.
+impl fmt::Display for Answer {
+    ghost output = { λ answer. Some (line_of answer) };
 
-// The answer of a load that is lent these work words.
-fn answer_with(bytes: &[u8], work: &mut [u32]) -> Answer
-    requires { most_work_words ≤ length work.old }
-    ensures { result ≡ answer_of bytes.now }
-{
-    if bytes.len() > LIMIT {
-        return Answer::Long;
+    fn fmt<W: fmt::Write>(&self, f: &mut fmt::Formatter<W>) -> fmt::Result {
+        match *self {
+            Answer::Accepted(version, nodes) => write!(f, "ok {version} {nodes}\n"),
+            Answer::Refused(number) => write!(f, "no {number}\n"),
+            Answer::Long => write!(f, "long\n"),
+        }
     }
-    match load::load(bytes, work) {
-        Loaded::View(view) => Answer::Accepted(view.ink_version, view.nodes.count),
-        Loaded::Refused(number) => Answer::Refused(number),
-    }
-}
-
-// What is said of these bytes.
-pub fn answer_of(bytes: &[u8]) -> Answer
-    ensures { result ≡ answer_of bytes.now }
-{
-    let mut work = work_words();
-    answer_with(bytes, &mut work)
 }
 
 // Writes a text into the output; answers the place behind it.
@@ -57,12 +41,9 @@ fn put_text(out: &mut [u8], at: usize, text: &[u8]) -> usize
     ensures value { result ≡ at + length text.now }
     ensures out_after { out.new ≡ put_bytes out.old at text.now }
 {
-    let mut i = 0;
-    while i < text.len() {
-        out[at + i] = text[i];
-        i += 1;
-    }
-    at + i
+    let end = at + text.len();
+    out[at..end].copy_from_slice(text);
+    end
 }
 
 // Writes a number in decimal, of at most ten digits; answers the place behind it.
@@ -120,36 +101,20 @@ pub fn answer_text(answer: Answer, out: &mut [u8; 25]) -> usize
     }
 }
 
-// Room for one byte more than is read, which tells a longer input.
-fn input_buffer() -> [u8; 65537]
-    ensures { 65537 ≡ length result }
-{
-    [0; 65537]
-}
+// Work words for any image that is read.
+const WORK_WORDS: usize = 16354;
 
-fn print_answer<W: Write>(answer: Answer, writer: &mut W) -> io::Result<()>
-    ensures { OnOk result (Appends (W.contents writer.old) (W.contents writer.new) (line_of answer)) }
+// What is said of these bytes.
+pub fn answer_of(bytes: &[u8]) -> Answer
+    ensures { result ≡ answer_of bytes.now }
 {
-    let mut line = [0u8; 25];
-    let n = answer_text(answer, &mut line);
-    writer.write_all(&line[..n])
-}
-
-// Reads until the buffer is full or the input ends; answers how many bytes.
-fn read_full<R: Read>(reader: &mut R, buffer: &mut [u8]) -> io::Result<usize>
-    ensures bound { IfOk result (λ n. n ≤ length buffer.new) }
-    ensures bytes { IfOk result (λ n. Consumes (R.remaining reader.old) (R.remaining reader.new) (take n buffer.new)) }
-    ensures end { IfOk result (λ n. n < length buffer.new → IsAtEnd (R.remaining reader.new)) }
-{
-    let mut filled = 0;
-    while filled < buffer.len() {
-        let n = reader.read(&mut buffer[filled..])?;
-        if n == 0 {
-            break;
-        }
-        filled += n;
+    if bytes.len() > LIMIT {
+        return Answer::Long;
     }
-    Ok(filled)
+    match load::load(bytes, &mut [0; WORK_WORDS]) {
+        Ok(view) => Answer::Accepted(view.ink_version, view.nodes.count),
+        Err(refusal) => Answer::Refused(refusal.number()),
+    }
 }
 
 // Prints the line of the image that the reader gives. A read or a write that fails is the error that is returned.
@@ -157,7 +122,9 @@ pub fn print_answer_of<R: Read, W: Write>(reader: &mut R, writer: &mut W) -> io:
     ensures { OnOk result (IfSome (R.remaining reader.old)
         (λ bs. Appends (W.contents writer.old) (W.contents writer.new) (line_of (answer_of bs)))) }
 {
-    let mut buffer = input_buffer();
-    let n = read_full(reader, &mut buffer)?;
-    print_answer(answer_of(&buffer[..n]), writer)
+    // one byte more than is read tells a longer input
+    let mut buffer = [0; LIMIT + 1];
+    let n = input::read_full(reader, &mut buffer)?;
+    let answer = answer_of(&buffer[..n]);
+    write!(writer, "{answer}")
 }

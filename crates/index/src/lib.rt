@@ -1,7 +1,9 @@
 // Canonical paths and the path index.
+// The work words are lent by C's caller: no heap is used.
 #![tactic(auto)]
 
 ghost use Rattle.std.specs.Prelude.{◌≡◌, [], ℕ, ◌+◌, ◌*◌, ◌≤◌, ◌<◌, length, drop};
+ghost use Rattle.image.specs.Refusals.{refusal_in};
 ghost use Rattle.texts.specs.Text.{same};
 ghost use Rattle.words.specs.Words.{words_of};
 ghost use Rattle.image.specs.Sections.{text_entry_size, node_count};
@@ -12,7 +14,8 @@ ghost use Rattle.index.specs.Index.{index_entry_rule, index_rule};
 ghost use Rattle.index.specs.Parts.{index_parts, path_node_of};
 ghost use Rattle.index.specs.Extended.{Tested, word_values, Filed, parent_entry, extends_by, extended_entry};
 
-use image::{ImageView, NodeRecord, TextEntry, order, refusal};
+use image::refusal::Refusal;
+use image::{ImageView, NodeRecord, TextEntry, order};
 
 // How many values a word has.
 const WORD_VALUES: usize = 4294967296;
@@ -85,6 +88,7 @@ fn has_name_or_place(nodes: &[u8], at: u32, version: u32) -> bool
 
 // Whether the text is the canonical path of a node, and the node and all on the way to it, the root excepted, have a name or a place.
 // It is compared from its end on, up to the root, so no path is built.
+// A `while`: the way goes up the tree.
 fn matches_canonical_path(nodes: &[u8], strings: &[u8], id: u32, text: &[u8], version: u32) -> bool
     ensures { result ≡ fits (index_parts version nodes.now [] strings.now) id text.now }
 {
@@ -123,20 +127,26 @@ fn matches_canonical_path(nodes: &[u8], strings: &[u8], id: u32, text: &[u8], ve
     end == 0
 }
 
-// The refusal of index entry `j`, or 0.
-fn index_entry_rule(nodes: &[u8], index: &[u8], strings: &[u8], j: usize, version: u32) -> u32
+// The refusal of index entry `j`.
+fn index_entry_rule(
+    nodes: &[u8],
+    index: &[u8],
+    strings: &[u8],
+    j: usize,
+    version: u32,
+) -> Result<(), Refusal>
     requires { text_entry_size * j + text_entry_size ≤ length index.now }
-    ensures { result ≡ index_entry_rule (index_parts version nodes.now index.now strings.now) j }
+    ensures { refusal_in result ≡ index_entry_rule (index_parts version nodes.now index.now strings.now) j }
 {
     let entry = image::text_entry(index, j);
     if !image::good_text(strings, entry.offset, entry.len) {
-        return refusal::BAD_TEXT;
+        return Err(Refusal::BadText);
     }
     if !tree::is_container(nodes, entry.value, version) {
-        return refusal::BAD_NODE;
+        return Err(Refusal::BadNode);
     }
     if !order::entry_rises(index, strings, 0, j) {
-        return refusal::BAD_INDEX;
+        return Err(Refusal::BadIndex);
     }
     if matches_canonical_path(
         nodes,
@@ -145,9 +155,9 @@ fn index_entry_rule(nodes: &[u8], index: &[u8], strings: &[u8], j: usize, versio
         image::text_bytes(strings, entry.offset, entry.len),
         version,
     ) {
-        0
+        Ok(())
     } else {
-        refusal::BAD_INDEX
+        Err(Refusal::BadIndex)
     }
 }
 
@@ -244,7 +254,7 @@ fn extended_entry(
     }
 }
 
-// The refusal of index entry `j`, or 0, where no entry before it is refused. Its text is compared with that of its target's parent, if the work
+// The refusal of index entry `j`, where no entry before it is refused. Its text is compared with that of its target's parent, if the work
 // words hold the number of the parent's entry.
 fn next_entry_rule(
     nodes: &[u8],
@@ -253,44 +263,45 @@ fn next_entry_rule(
     work: &[u32],
     j: usize,
     version: u32,
-) -> u32
+) -> Result<(), Refusal>
     requires text_entry_size_in_bounds { text_entry_size * j + text_entry_size ≤ length index.now }
     requires tested { Tested (index_parts version nodes.now index.now strings.now) j }
     requires filed { Filed (words_of index.now) work.now j }
-    ensures { result ≡ index_entry_rule (index_parts version nodes.now index.now strings.now) j }
+    ensures { refusal_in result ≡ index_entry_rule (index_parts version nodes.now index.now strings.now) j }
 {
     let k = extended_entry(nodes, index, strings, work, j, version);
     if j <= k {
         return index_entry_rule(nodes, index, strings, j, version);
     }
     if k + 1 == j {
-        return 0;
+        return Ok(());
     }
     if order::entry_rises(index, strings, 0, j) {
-        0
+        Ok(())
     } else {
-        refusal::BAD_INDEX
+        Err(Refusal::BadIndex)
     }
 }
 
-// The first refusal of an entry of the index, or 0. The work words of the nodes serve to find a parent's entry; what they hold afterwards is open.
-pub fn index_rule(nodes: &[u8], index: &[u8], strings: &[u8], work: &mut [u32], version: u32) -> u32
+// The first refusal of an entry of the index. The work words of the nodes serve to find a parent's entry; what they hold afterwards is open.
+pub fn index_rule(
+    nodes: &[u8],
+    index: &[u8],
+    strings: &[u8],
+    work: &mut [u32],
+    version: u32,
+) -> Result<(), Refusal>
     requires all_climb { AllClimb (index_parts version nodes.now [] []) }
     requires nodes_in_bounds { node_count (index_parts version nodes.now [] []) ≤ length work.old }
-    ensures answer { result ≡ index_rule (index_parts version nodes.now index.now strings.now) }
+    ensures answer { refusal_in result ≡ index_rule (index_parts version nodes.now index.now strings.now) }
     ensures rest { let n = node_count (index_parts version nodes.now [] []) in
         drop n work.new ≡ drop n work.old }
 {
     let count = index.len() / ImageView::TEXT_ENTRY_BYTES;
-    let mut j = 0;
-    while j < count {
-        let refused = next_entry_rule(nodes, index, strings, work, j, version);
-        if refused != 0 {
-            return refused;
-        }
+    for j in 0..count {
+        next_entry_rule(nodes, index, strings, work, j, version)?;
         let entry = image::text_entry(index, j);
         work[entry.value as usize] = (j % WORD_VALUES) as u32;
-        j += 1;
     }
-    0
+    Ok(())
 }

@@ -1,6 +1,5 @@
 -- Sums, tests and lists over the numbers below a count: one turn of a loop adds one term at the end.
-use Rattle.std.specs.Prelude.{ℕ, zero, suc, ◌+◌, Bool, true, cond, ◌&&◌, List, [], ◌∷◌, ◌++◌}
-use Rattle.std.proofs.Math.Option.{Option, none, some}
+use Rattle.std.specs.Prelude.{ℕ, zero, suc, ◌+◌, Bool, true, cond, ◌&&◌, List, [], ◌∷◌, ◌++◌, None, Option, Some}
 
 -- f 0 + .. + f (n - 1)
 unfoldable pub sum_of : ℕ → (ℕ → ℕ) → ℕ
@@ -24,8 +23,8 @@ those (suc n) f = those n f ++ cond (f n) (n ∷ []) []
 
 -- the last number below n that passes the test
 unfoldable pub last_of : ℕ → (ℕ → Bool) → Option ℕ
-last_of zero t = none
-last_of (suc n) t = let r = last_of n t in cond (t n) (some n) r
+last_of zero t = None
+last_of (suc n) t = let r = last_of n t in cond (t n) (Some n) r
 
 -- names on an `unfolding` line what a computation with this module needs
 unfoldable pub counted : Unit {0}

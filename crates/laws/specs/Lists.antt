@@ -1,7 +1,6 @@
 -- Lists: joined images, membership, the place of an element; a number that may be missing.
-use Rattle.std.specs.Prelude.{ℕ, suc, ◌<◌, Bool, true, false, cond, ◌||◌, eqb}
+use Rattle.std.specs.Prelude.{ℕ, suc, ◌<◌, Bool, true, false, cond, ◌||◌, eqb, None, Option, Some}
 use mathlib.Core.List.{List, [], ◌∷◌, ◌++◌, Memᴰ}
-use Rattle.std.proofs.Math.Option.{Option, none, some}
 
 unfoldable pub flat_map : {X Y : Type 0} → (X → List Y) → List X → List Y
 flat_map f [] = []
@@ -15,11 +14,6 @@ has n (x ∷ xs) = eqb n x || has n xs
 unfoldable pub place_in : List ℕ → ℕ → ℕ
 place_in [] n = 0
 place_in (x ∷ xs) n = let r = place_in xs n in cond (eqb n x) 0 (suc r)
-
--- there is a number
-abbrev pub is_some : Option ℕ → Bool
-is_some none = false
-is_some (some n) = true
 
 -- every element is below n: what a slice of bytes (256) or words (2 ^ 32) holds
 abbrev pub Below : ℕ → List ℕ → Type 0

@@ -1,9 +1,9 @@
 -- What the loops over definitions keep, by the tests that the code makes.
+use Rattle.std.specs.Prelude.{None, Option, Some, ℕ, is_some}
 use Prim.Native.Nat.{ℕ, suc, ◌+◌, ◌*◌, ◌-◌, ◌/◌, ◌≤◌, ◌<◌}
 use mathlib.Core.Path.{◌≡◌, refl, sym, ap, ◌∙◌}
 use mathlib.Core.List.{List, []}
 use mathlib.Core.Bool.{Bool, true, false, cond}
-use mathlib.Core.Option.{Option, none, some}
 use native.Mathlib.Omega.{arith}
 use native.Mathlib.Numerals.{add-one}
 use lib.ListN.{length, take, drop}
@@ -11,7 +11,6 @@ use lib.Dec.{leb}
 use lib.IntN.{ℤ}
 use borrow.Author.Tests.{lt-ltb, le-ltb, le-leb, lt-leb, leb-true}
 use Rattle.laws.specs.Counted.{last_of}
-use Rattle.laws.specs.Lists.{is_some}
 use Rattle.laws.proofs.Lists.{to_end}
 use Rattle.words.specs.Words.{words_of}
 use Rattle.texts.specs.Text.{same}
@@ -28,12 +27,12 @@ use Rattle.image.proofs.Parts.{part_length, text-entry-count, definition-count}
 use Rattle.definitions.specs.Definitions.{first_item, number_of_items}
 use Rattle.definitions.specs.Parts.{definition_parts}
 use Rattle.views.specs.View.{signed}
-use Rattle.lookups.specs.declared.ListItemAnswer.{ListItemAnswer}
-use Rattle.lookups.specs.declared.ListItemAnswer.TheVariants as answer
-use Rattle.lookups.specs.Lookup.{searched, halving, item_place, definition_name, list_item_at}
+use Rattle.lookups.specs.Lookup.{found_place, searched, halving, item_place, definition_name, list_item_at}
+use Rattle.lookups.proofs.Lookups.{place-below}
 use Rattle.lookups.proofs.Plain.{last_some}
 use Rattle.list_items.specs.declared.ItemSearch.{ItemSearch}
 use Rattle.list_items.specs.Search.{items_inside, found_item, among_at, search_among, no_search, origin_of, search_in, list_search}
+use Rattle.lookups.specs.declared.ListItem.{ListItem}
 
 -- ---- how many items there are to search
 
@@ -46,9 +45,20 @@ inside_all all first count = by (leb (first + count) all) refl
     by true e h = leb-true (first + count) all e
     by false e h = absurd (omega arith)
 
--- so does the range that is left to search
-pub inside-range : (all first count hi₀ lo hi : ℕ) → hi₀ ≡ items_inside all first count → lo < hi → hi ≤ hi₀ → first + hi ≤ all
-inside-range all first count hi₀ lo hi e h l = let r = inside_all all first count (omega arith) in omega arith
+-- so does one that is found
+pub item-inside : (all first count : ℕ) (words strings name : List ℕ) (j : ℕ) → Some j ≡ searched words strings first (items_inside all first count) name → first + j < all
+item-inside all first count words strings name j e =
+    let l = place-below words strings first (items_inside all first count) name j (sym e) in
+    omega (arith, inside_all all first count (omega arith))
+
+-- a place that is none
+pub nowhere : (p : Option ℕ) → ((j : ℕ) → p ≡ Some j → ⊥) → None ≡ found_place p
+nowhere (Some j) d = absurd (d j refl)
+nowhere None d = refl
+
+-- and those that are compared
+pub items-within : (all first count n k : ℕ) → n ≡ items_inside all first count → k < n → first + k < all
+items-within all first count n k e h = omega (arith, inside_all all first count (omega arith))
 
 pub inside_yes : (all first count : ℕ) → first + count ≤ all → count ≡ items_inside all first count
 unfolding items_inside
@@ -60,13 +70,10 @@ inside_no all first count h = rw (lt-leb (first + count) all h)
 
 -- ---- the item that is answered
 
-pub found-made : (d item w : ℕ) (z : ℤ) → z ≡ signed w → answer.Item (record { definition = d; item = item; value = z }) ≡ found_item d item w
+pub found-made : (d item w : ℕ) (z : ℤ) → z ≡ signed w → Some (record { definition = d; item = item; value = z }) ≡ found_item d item w
 found-made d item w z e = rw e
 
 -- ---- the loop over definitions
-
-pub one_less : (n : ℕ) → 0 < n → n ≡ suc (n - 1)
-one_less n h = omega arith
 
 module _ (ds is ss : List ℕ) (first all : ℕ) (name : List ℕ) where
   abbrev parts : Sections
@@ -78,40 +85,32 @@ module _ (ds is ss : List ℕ) (first all : ℕ) (name : List ℕ) where
   abbrev whole : ItemSearch
   whole = search_among parts first all name
 
-  -- the first `left` definitions are left to search, and nothing is found yet
-  pub record Sought (a : ListItemAnswer) (count left : ℕ) : Type 0 where
-    pub counted : count + left ≡ all
-    pub rest : whole ≡ among_at parts first all name (last_of left holds)
-    pub nothing : a ≡ answer.NotFound
+  -- the first `left` definitions are left to search
+  abbrev pub Sought : ℕ → Type 0
+  Sought left = whole ≡ among_at parts first all name (last_of left holds)
 
-  pub sought_start : Sought answer.NotFound 0 all
+  pub sought_start : (n : ℕ) → n ≡ all → Sought n
   unfolding search_among
-  sought_start = record { counted = omega arith; rest = refl; nothing = refl }
+  sought_start n z = ap (λ (m : ℕ). among_at parts first all name (last_of m holds)) (sym z)
 
-  pub sought_end : (a : ListItemAnswer) (count left : ℕ) → left ≤ 0 → Sought a count left → ◌≡◌ {A = ItemSearch} (record { answer = a; searched = count }) whole
-  sought_end a count left h k =
-      let z : left ≡ 0 = omega arith in
-      let n : count ≡ all = omega (arith, k.counted) in
-      (λ j. record { answer = k.nothing j; searched = n j })
-      ∙ sym (k.rest ∙ ap (λ (m : ℕ). among_at parts first all name (last_of m holds)) z ∙ empty)
-    where
-      empty : among_at parts first all name (last_of 0 holds) ≡ record { answer = answer.NotFound; searched = all }
-      empty = unfold last_of in refl
+  pub sought_end : (left : ℕ) → left ≡ 0 → Sought left → ◌≡◌ {A = ItemSearch} (record { answer = None; searched = all }) whole
+  unfolding last_of
+  sought_end left z k = sym (k ∙ ap (λ (m : ℕ). among_at parts first all name (last_of m holds)) z)
 
   -- the last definition that is left has been read
-  module _ (n left count : ℕ) (a : ListItemAnswer) (up : n ≡ suc left) (k : Sought a count n) (x : Definition) (e : x ≡ definition_of (words_of ds) (first + left)) where
+  module _ (n left d : ℕ) (up : n ≡ suc left) (at : d ≡ first + left) (k : Sought n) (x : Definition) (e : x ≡ definition_of (words_of ds) d) where
     told : x ≡ definition_in parts (first + left)
-    told = e ∙ definition-entry parts (words_of ds) (first + left) refl
+    told = e ∙ ap (definition_of (words_of ds)) at ∙ definition-entry parts (words_of ds) (first + left) refl
 
     turned : whole ≡ among_at parts first all name (last_of (suc left) holds)
-    turned = k.rest ∙ ap (λ (m : ℕ). among_at parts first all name (last_of m holds)) up
+    turned = k ∙ ap (λ (m : ℕ). among_at parts first all name (last_of m holds)) up
 
     -- it is passed over, or is where the search ends
     passed : holds left ≡ false → whole ≡ among_at parts first all name (last_of left holds)
     unfolding last_of
     passed h = rw h at turned
 
-    ended : holds left ≡ true → whole ≡ among_at parts first all name (some left)
+    ended : holds left ≡ true → whole ≡ among_at parts first all name (Some left)
     unfolding last_of
     ended h = rw h at turned
 
@@ -126,46 +125,34 @@ module _ (ds is ss : List ℕ) (first all : ℕ) (name : List ℕ) where
         (λ (m : ℕ).
         cond (leb (first_item parts (first + left) + number_of_items parts (first + left)) m)
         (searched (words_of is) ss (first_item parts (first + left)) (number_of_items parts (first + left)) name)
-        none)
+        None)
         (text-entry-count is)
-        ∙ (λ j. cond (leb ((sym told j).first + (sym told j).count) (length is / text_entry_size)) (searched (words_of is) ss (sym told j).first (sym told j).count name) none)
+        ∙ (λ j. cond (leb ((sym told j).first + (sym told j).count) (length is / text_entry_size)) (searched (words_of is) ss (sym told j).first (sym told j).count name) None)
         ∙ by (leb (x.first + x.count) (length is / text_entry_size))
       where
-        by : (c : Bool) → cond c (searched (words_of is) ss x.first x.count name) none ≡ searched (words_of is) ss x.first (cond c x.count 0) name
+        by : (c : Bool) → cond c (searched (words_of is) ss x.first x.count name) None ≡ searched (words_of is) ss x.first (cond c x.count 0) name
         by true = refl
         by false = unfold searched halving in refl
 
-    module _ (hi : ℕ) (hf : hi ≡ few) where
-      range_is : item_place parts (first + left) name ≡ searched (words_of is) ss x.first hi name
-      range_is = range ∙ ap (λ (m : ℕ). searched (words_of is) ss x.first m name) (sym hf)
+    -- it does not hold the item
+    pub sought_next : None ≡ searched (words_of is) ss x.first few name → Sought left
+    sought_next miss = passed (ap is_some (range ∙ sym miss))
 
-      -- it does not hold the item
-      pub sought_next : none ≡ searched (words_of is) ss x.first hi name → (a' : ListItemAnswer) → a' ≡ a → Sought a' (count + 1) left
-      sought_next miss a' q =
-          record {
-            counted = omega (arith, k.counted);
-            rest = passed (ap is_some (range_is ∙ sym miss));
-            nothing = q ∙ k.nothing;
-          }
+    -- its j-th item is the one
+    pub sought_found : (j : ℕ) → Some j ≡ searched (words_of is) ss x.first few name → (t : TextEntry) → t ≡ text_entry_of (words_of is) (x.first + j)
+        → (r : Option ListItem) → r ≡ found_item d (x.first + j) t.value → (m : ℕ) → m ≡ all - left
+        → ◌≡◌ {A = ItemSearch} (record { answer = r; searched = m }) whole
+    sought_found j hit t ht r hr m hm =
+        (λ q. record { answer = (hr ∙ ap (λ (i : ℕ). found_item i (x.first + j) t.value) at ∙ made ∙ sym (ap (list_item_at parts (first + left)) there)) q; searched = hm q })
+        ∙ sym (ended (ap is_some there))
+      where
+        there : item_place parts (first + left) name ≡ Some j
+        there = range ∙ sym hit
 
-      -- its j-th item is the one
-      pub sought_found : (j : ℕ) → some j ≡ searched (words_of is) ss x.first hi name → (t : TextEntry) → t ≡ text_entry_of (words_of is) (x.first + j)
-          → (r : ListItemAnswer) → r ≡ found_item (first + left) (x.first + j) t.value
-          → ◌≡◌ {A = ItemSearch} (record { answer = r; searched = count + 1 }) whole
-      sought_found j hit t ht r hr =
-          (λ q. record { answer = (hr ∙ made ∙ sym (ap (list_item_at parts (first + left)) there)) q; searched = upto q })
-          ∙ sym (ended (ap is_some there))
-        where
-          there : item_place parts (first + left) name ≡ some j
-          there = range_is ∙ sym hit
-
-          upto : count + 1 ≡ all - left
-          upto = omega (arith, k.counted)
-
-          made : found_item (first + left) (x.first + j) t.value ≡ list_item_at parts (first + left) (some j)
-          made = unfold text_entry_of item_word in
-              (λ q. found_item (first + left) (x.first + j) (ht q).value)
-              ∙ (λ q. found_item (first + left) ((told q).first + j) (item_word parts ((told q).first + j) 2))
+        made : found_item (first + left) (x.first + j) t.value ≡ list_item_at parts (first + left) (Some j)
+        made = unfold text_entry_of item_word in
+            (λ q. found_item (first + left) (x.first + j) (ht q).value)
+            ∙ (λ q. found_item (first + left) ((told q).first + j) (item_word parts ((told q).first + j) 2))
 
 -- ---- the loop for the origin
 
@@ -185,7 +172,7 @@ module _ (ds ss origin : List ℕ) where
   unfolding origin_of
   unnamed-start = record { inside = omega arith; rest = ap (λ (n : ℕ). last_of n is_origin) (definition-count ds) }
 
-  pub unnamed_end : (d : ℕ) → d ≤ 0 → Unnamed d → none ≡ origin_of named origin
+  pub unnamed_end : (d : ℕ) → d ≤ 0 → Unnamed d → None ≡ origin_of named origin
   unnamed_end d h k = let z : d ≡ 0 = omega arith in sym (k.rest ∙ ap (λ (n : ℕ). last_of n is_origin) z ∙ unfold last_of in refl)
 
   module _ (n d : ℕ) (up : n ≡ suc d) (k : Unnamed n) (x : Definition) (e : x ≡ definition_of (words_of ds) d) (p : List ℕ)
@@ -202,12 +189,12 @@ module _ (ds ss origin : List ℕ) where
     unfolding last_of
     unnamed-next h = record { inside = omega (arith, k.inside); rest = rw (name-told ∙ h) at asked }
 
-    pub unnamed-found : b ≡ true → some d ≡ origin_of named origin
+    pub unnamed-found : b ≡ true → Some d ≡ origin_of named origin
     unfolding last_of
     unnamed-found h = sym (rw (name-told ∙ h) at asked)
 
 -- an origin that is found is a definition
-pub origin-below : (ds ss origin : List ℕ) (d : ℕ) → origin_of (definition_parts ds [] ss) origin ≡ some d → d < length ds / definition_size
+pub origin-below : (ds ss origin : List ℕ) (d : ℕ) → origin_of (definition_parts ds [] ss) origin ≡ Some d → d < length ds / definition_size
 unfolding origin_of
 origin-below ds ss origin d e =
     let l = last_some (λ c. same origin (definition_name (definition_parts ds [] ss) c)) (definition_count (definition_parts ds [] ss)) d e in
@@ -221,14 +208,14 @@ module _ (bs : List ℕ) (v : ImageView) where
 
   item_by : (d : ℕ) (x : Option ℕ) → list_item_at lent d x ≡ list_item_at (sections_by bs v) d x
   unfolding definition_word item_word sections_by
-  item_by d none = refl
-  item_by d (some j) = refl
+  item_by d None = refl
+  item_by d (Some j) = refl
 
   module _ (first count : ℕ) (name : List ℕ) where
     among_by : (x : Option ℕ) → among_at lent first count name x ≡ among_at (sections_by bs v) first count name x
     unfolding item_place definition_word item_word sections_by
-    among_by none = refl
-    among_by (some j) = λ q. record { answer = item_by (first + j) (item_place (sections_by bs v) (first + j) name) q; searched = count - j }
+    among_by None = refl
+    among_by (Some j) = λ q. record { answer = item_by (first + j) (item_place (sections_by bs v) (first + j) name) q; searched = count - j }
 
     search_by : search_among lent first count name ≡ search_among (sections_by bs v) first count name
     unfolding search_among item_place definition_word item_word sections_by
@@ -267,11 +254,11 @@ module _ (bs : List ℕ) (v : ImageView) (h : v.definitions.count ≡ 0) where
       let e : no_search ≡ search_among (sections_by bs v) 0 0 name = unfold search_among last_of in refl in
       e ∙ ap (λ (n : ℕ). search_among (sections_by bs v) 0 n name) (sym none-there)
 
-  origin-none : (origin : List ℕ) → none ≡ origin_of (sections_by bs v) origin
+  origin-none : (origin : List ℕ) → None ≡ origin_of (sections_by bs v) origin
   unfolding origin_of
   origin-none origin =
       let tests : (ℕ → Bool) = λ d. same origin (definition_name (sections_by bs v) d) in
-      let e : none ≡ last_of 0 tests = unfold last_of in refl in
+      let e : None ≡ last_of 0 tests = unfold last_of in refl in
       e ∙ ap (λ (n : ℕ). last_of n tests) (sym none-there)
 
   pub search_none : (name : List ℕ) → no_search ≡ list_search (sections_by bs v) name
@@ -319,10 +306,10 @@ module _ (bs : List ℕ) (v : ImageView) (name : List ℕ) (b : Bool) (hb : b �
       dotted a g =
           rw (← hb, n, ← k, lt-ltb dot (length name) l) (g ∙ ap (search_in (sections_by bs v) (drop (suc dot) name)) origin_is)
 
-      pub search_no_origin : o ≡ none → no_search ≡ list_search (sections_by bs v) name
+      pub search_no_origin : o ≡ None → no_search ≡ list_search (sections_by bs v) name
       search_no_origin h = dotted no_search (sym (ap (search_in (sections_by bs v) (drop (suc dot) name)) h))
 
-      pub search_origin : (d : ℕ) → o ≡ some d → (a : ItemSearch)
+      pub search_origin : (d : ℕ) → o ≡ Some d → (a : ItemSearch)
           → a ≡ search_among (definition_parts ds is ss) d 1 (take (length name - (dot + 1)) (drop (dot + 1) name))
           → a ≡ list_search (sections_by bs v) name
       search_origin d h a g =

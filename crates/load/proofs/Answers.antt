@@ -1,4 +1,5 @@
 -- The whole load, put together: the answer, and the work words on return.
+use Rattle.std.specs.Prelude.{Err, Ok, Result, ℕ}
 use Prim.Native.Nat.{ℕ, zero, suc, ◌+◌, ◌≤◌, ◌<◌}
 use mathlib.Core.Path.{◌≡◌, refl, sym, ap, ◌∙◌}
 use mathlib.Core.List.{List, ◌++◌}
@@ -13,26 +14,24 @@ use Rattle.laws.proofs.Chains.{refused}
 use Rattle.words.specs.Words.{word_at}
 use Rattle.checksum.specs.Crc.{checksum_of}
 use Rattle.image.specs.declared.ImageView.{ImageView}
-use Rattle.image.specs.declared.Opened.{Opened}
 use Rattle.image.specs.Header.{header_rule, opened_by, opened_of, view_of, sections_by, sections_of, checksum_at}
 use Rattle.image.proofs.OpenedHeader.{opens, view-counts}
-use Rattle.load.specs.declared.Loaded.TheVariants.{View, Refused}
 use Rattle.load.specs.Load.{checksum_rule, sections_rule, load_rule, load_words, loaded_by, loaded_of, work_after, early}
 use Rattle.load.proofs.NumbersFrom8.{late-not-early, late-sections}
 
 -- ---- the answer
 
-loaded_by_lem : (r : ℕ) (v : ImageView) → (r ≡ 0 → ⊥) → Refused r ≡ loaded_by r v
+loaded_by_lem : (r : ℕ) (v : ImageView) → (r ≡ 0 → ⊥) → Err r ≡ loaded_by r v
 loaded_by_lem zero v d = absurd (d refl)
 loaded_by_lem (suc r) v d = refl
 
-pub refused-load : (bs : List ℕ) (work r : ℕ) → r ≡ load_rule bs work → (r ≡ 0 → ⊥) → Refused r ≡ loaded_of bs work
+pub refused-load : (bs : List ℕ) (work r : ℕ) → r ≡ load_rule bs work → (r ≡ 0 → ⊥) → Err r ≡ loaded_of bs work
 unfolding loaded_of
 refused-load bs work r e d = loaded_by_lem r (view_of bs) d ∙ ap (λ (x : ℕ). loaded_by x (view_of bs)) e
 
-pub accepted-load : (bs : List ℕ) (work : ℕ) (v : ImageView) → v ≡ view_of bs → 0 ≡ load_rule bs work → View v ≡ loaded_of bs work
+pub accepted-load : (bs : List ℕ) (work : ℕ) (v : ImageView) → v ≡ view_of bs → 0 ≡ load_rule bs work → Ok v ≡ loaded_of bs work
 unfolding loaded_of
-accepted-load bs work v q e = ap View q ∙ ap (λ (x : ℕ). loaded_by x (view_of bs)) e
+accepted-load bs work v q e = ap Ok q ∙ ap (λ (x : ℕ). loaded_by x (view_of bs)) e
 
 -- ---- the work words
 
@@ -82,21 +81,21 @@ header-early bs r e d =
     rw (le-leb 1 r (omega arith), le-leb r 7 (omega arith))
 
 -- what opening an image answers
-opened_by_lem : (n r : ℕ) (v : ImageView) → opened_by n v ≡ Opened.Refused r → (r ≡ n) × (r ≡ 0 → ⊥)
+opened_by_lem : (n r : ℕ) (v : ImageView) → opened_by n v ≡ Err r → (r ≡ n) × (r ≡ 0 → ⊥)
 unfolding opened_by
 opened_by_lem zero r v e = let z : ◌≡◌ {A = ℕ} 0 1 = cc in absurd (omega arith)
 opened_by_lem (suc n) r v e = let q : r ≡ suc n = cc in (q, λ p. omega arith)
 
-viewed_by : (n : ℕ) (u v : ImageView) → opened_by n v ≡ Opened.View u → (n ≡ 0) × (u ≡ v)
+viewed_by : (n : ℕ) (u v : ImageView) → opened_by n v ≡ Ok u → (n ≡ 0) × (u ≡ v)
 unfolding opened_by
 viewed_by zero u v e = (refl, cc)
 viewed_by (suc n) u v e = let z : ◌≡◌ {A = ℕ} 0 1 = cc in absurd (omega arith)
 
-pub header-broken : (bs : List ℕ) (a : Opened) (r : ℕ) → a ≡ opened_of bs → a ≡ Opened.Refused r → (r ≡ header_rule bs) × (r ≡ 0 → ⊥)
+pub header-broken : (bs : List ℕ) (a : Result ImageView ℕ) (r : ℕ) → a ≡ opened_of bs → a ≡ Err r → (r ≡ header_rule bs) × (r ≡ 0 → ⊥)
 unfolding opened_of
 header-broken bs a r e q = opened_by_lem (header_rule bs) r (view_of bs) (sym e ∙ q)
 
-pub header-kept : (bs : List ℕ) (a : Opened) (v : ImageView) → a ≡ opened_of bs → a ≡ Opened.View v → (header_rule bs ≡ 0) × (v ≡ view_of bs)
+pub header-kept : (bs : List ℕ) (a : Result ImageView ℕ) (v : ImageView) → a ≡ opened_of bs → a ≡ Ok v → (header_rule bs ≡ 0) × (v ≡ view_of bs)
 unfolding opened_of
 header-kept bs a v e q = viewed_by (header_rule bs) v (view_of bs) (sym e ∙ q)
 

@@ -1,4 +1,5 @@
 -- The loop over the nodes: what it is told of each node, and what it has shown when it has passed some.
+use Rattle.std.specs.Prelude.{Err, Ok, ℕ}
 use Prim.Native.Nat.{ℕ, zero, suc, ◌+◌, ◌/◌, ◌≤◌, ◌<◌}
 use mathlib.Core.Path.{◌≡◌, refl, sym, ap, ◌∙◌}
 use mathlib.Core.List.{List, []}
@@ -24,7 +25,6 @@ use Rattle.records.specs.Records.{target_in, node_rule, parent_rule, fields_rule
 use Rattle.records.specs.Shown.{Shows, ShowsParent, tag_in, counts_of, sums_before, parent_by, fields_by}
 use Rattle.laws.proofs.Chains.{refused, first-broken, first_done}
 use Rattle.records.proofs.PassedRules.{first-sums}
-use Rattle.load.specs.declared.nodes.Nodes.TheVariants.{Passed, Refused}
 use Rattle.tree.specs.Parts.{parts_of}
 use Rattle.records.proofs.ByKind.{counts-kept, shown-parent, shown-fields}
 use Rattle.load.specs.Nodes.{ReadFrom, node_by, nodes_by, nodes_of}
@@ -123,19 +123,19 @@ module _ (s : Sections) (i : ℕ) (sums : Sums) (p : Passing s i sums) where
         summed = rw (add-one i) u;
       }
 
-  refused_by : (r : ℕ) → (r ≡ 0 → ⊥) → Refused r ≡ nodes_by r s
+  refused_by : (r : ℕ) → (r ≡ 0 → ⊥) → Err r ≡ nodes_by r s
   refused_by zero d = absurd (d refl)
   refused_by (suc r) d = refl
 
-  pub refused-here : (r : ℕ) → i < node_count s → r ≡ node_rule s i → (r ≡ 0 → ⊥) → Refused r ≡ nodes_of s
+  pub refused-here : (r : ℕ) → i < node_count s → r ≡ node_rule s i → (r ≡ 0 → ⊥) → Err r ≡ nodes_of s
   unfolding nodes_of
   refused-here r h e d = refused_by r d ∙ ap (λ (x : ℕ). nodes_by x s) (first-broken (node_count s) i r (node_rule s) h p.none e d)
 
-  pub all_passed : i ≤ node_count s → node_count s ≤ i → Passed sums ≡ nodes_of s
+  pub all_passed : i ≤ node_count s → node_count s ≤ i → Ok sums ≡ nodes_of s
   unfolding nodes_of
   all_passed h k =
       let e : i ≡ node_count s = omega arith in
-      ap Passed (p.summed ∙ ap (sums_before s) e) ∙ ap (λ (x : ℕ). nodes_by x s) (first_done (node_count s) i (node_rule s) h k p.none)
+      ap Ok (p.summed ∙ ap (sums_before s) e) ∙ ap (λ (x : ℕ). nodes_by x s) (first_done (node_count s) i (node_rule s) h k p.none)
 
 -- where a node's rules pass, so do those of its fields
 pub fields-pass : (s : Sections) (i : ℕ) → node_rule s i ≡ 0 → fields_rule s i ≡ 0

@@ -1,4 +1,5 @@
 -- What a load answers, as a number; and a load without work words, which answers a number from 1 to 7.
+use Rattle.std.specs.Prelude.{Err, Ok, Result, ℕ}
 use Prim.Native.Nat.{ℕ, zero, suc}
 use mathlib.Core.Path.{◌≡◌, refl, sym, ap, ◌∙◌}
 use mathlib.Core.List.{List}
@@ -10,25 +11,23 @@ use Rattle.laws.specs.Refusal.{unless, ◌▸◌}
 use Rattle.laws.proofs.First.{first, second}
 use Rattle.image.specs.declared.ImageView.{ImageView}
 use Rattle.image.specs.Header.{header_rule, view_of, sections_of}
-use Rattle.load.specs.declared.Loaded.{Loaded}
-use Rattle.load.specs.declared.Loaded.TheVariants.{View, Refused}
 use Rattle.load.specs.Load.{checksum_rule, sections_rule, load_rule, load_words, loaded_by, loaded_of, early}
 use Rattle.load.proofs.Answers.{header-early}
 
-pub viewed_by : (r : ℕ) (u v : ImageView) → View u ≡ loaded_by r v → (0 ≡ r) × (u ≡ v)
+pub viewed_by : (r : ℕ) (u v : ImageView) → Ok u ≡ loaded_by r v → (0 ≡ r) × (u ≡ v)
 viewed_by zero u v e = (refl, cc)
 viewed_by (suc r) u v e = let z : ◌≡◌ {A = ℕ} 0 1 = cc in absurd (omega arith)
 
-pub refused_by : (r k : ℕ) (v : ImageView) → Refused k ≡ loaded_by r v → (k ≡ r) × (k ≡ 0 → ⊥)
+pub refused_by : (r k : ℕ) (v : ImageView) → Err k ≡ loaded_by r v → (k ≡ r) × (k ≡ 0 → ⊥)
 refused_by zero k v e = let z : ◌≡◌ {A = ℕ} 0 1 = cc in absurd (omega arith)
 refused_by (suc r) k v e = let q : k ≡ suc r = cc in (q, λ z. omega arith)
 
-module _ (bs : List ℕ) (work : ℕ) (a : Loaded) (e : a ≡ loaded_of bs work) where
-  pub viewed : (u : ImageView) → a ≡ View u → (0 ≡ load_rule bs work) × (u ≡ view_of bs)
+module _ (bs : List ℕ) (work : ℕ) (a : Result ImageView ℕ) (e : a ≡ loaded_of bs work) where
+  pub viewed : (u : ImageView) → a ≡ Ok u → (0 ≡ load_rule bs work) × (u ≡ view_of bs)
   unfolding loaded_of
   viewed u q = viewed_by (load_rule bs work) u (view_of bs) (sym q ∙ e)
 
-  pub refused : (k : ℕ) → a ≡ Refused k → (k ≡ load_rule bs work) × (k ≡ 0 → ⊥)
+  pub refused : (k : ℕ) → a ≡ Err k → (k ≡ load_rule bs work) × (k ≡ 0 → ⊥)
   unfolding loaded_of
   refused k q = refused_by (load_rule bs work) k (view_of bs) (sym q ∙ e)
 

@@ -1,4 +1,5 @@
 -- Rows 8 to 17 put together out of what the functions answer.
+use Rattle.std.specs.Prelude.{Err, Ok, Result, ℕ}
 use Prim.Native.Nat.{ℕ, zero, suc, ◌+◌, ◌*◌, ◌/◌, ◌≤◌, ◌<◌}
 use mathlib.Core.Path.{◌≡◌, refl, sym, ap, ◌∙◌}
 use mathlib.Core.Logic.{◌⊎◌, inl, inr, ⊎_elim}
@@ -31,8 +32,6 @@ use Rattle.tree.specs.Parts.{Fit, parts_of}
 use Rattle.tree.specs.Work.{tree_words}
 use Rattle.tree.proofs.Entries.{fit}
 use Rattle.tree.proofs.Parts.{parts-words, parts_fit, parts-rule}
-use Rattle.load.specs.declared.nodes.Nodes.{Nodes}
-use Rattle.load.specs.declared.nodes.Nodes.TheVariants.{Passed, Refused}
 use Rattle.load.specs.Nodes.{nodes_by, nodes_of}
 use Rattle.load.specs.Load.{leftover_rule, records_rule, sections_rule, load_words}
 
@@ -116,27 +115,27 @@ module _ (s : Sections) where
   after-root e = second (unless (root_right s) 8) (first_of (node_count s) (node_rule s) ▸ leftover_rule s) (pass (root_right s) 8 e)
 
   -- what the nodes' answer says
-  by_refused : (n r : ℕ) → nodes_by n s ≡ Refused r → (r ≡ n) × (r ≡ 0 → ⊥)
+  by_refused : (n r : ℕ) → nodes_by n s ≡ Err r → (r ≡ n) × (r ≡ 0 → ⊥)
   by_refused zero r e = let z : ◌≡◌ {A = ℕ} 0 1 = cc in absurd (omega arith)
   by_refused (suc n) r e = let q : r ≡ suc n = cc in (q, λ p. omega arith)
 
-  by_passed : (n : ℕ) (u : Sums) → nodes_by n s ≡ Passed u → (n ≡ 0) × (u ≡ sums_before s (node_count s))
+  by_passed : (n : ℕ) (u : Sums) → nodes_by n s ≡ Ok u → (n ≡ 0) × (u ≡ sums_before s (node_count s))
   by_passed zero u e = (refl, cc)
   by_passed (suc n) u e = let z : ◌≡◌ {A = ℕ} 0 1 = cc in absurd (omega arith)
 
-  pub nodes-refused : (a : Nodes) (r : ℕ) → root_right s ≡ true → a ≡ nodes_of s → a ≡ Refused r → r ≡ records_rule s
+  pub nodes-refused : (a : Result Sums ℕ) (r : ℕ) → root_right s ≡ true → a ≡ nodes_of s → a ≡ Err r → r ≡ records_rule s
   unfolding nodes_of
   nodes-refused a r t e q =
       let p = by_refused (first_of (node_count s) (node_rule s)) r (sym e ∙ q) in
       refused (first_of (node_count s) (node_rule s)) (leftover_rule s) r p.0 p.1 ∙ sym (after-root t)
 
-  pub nodes-passed : (a : Nodes) (u : Sums) (r : ℕ) → root_right s ≡ true → a ≡ nodes_of s → a ≡ Passed u → r ≡ leftover_rule s → r ≡ records_rule s
+  pub nodes-passed : (a : Result Sums ℕ) (u : Sums) (r : ℕ) → root_right s ≡ true → a ≡ nodes_of s → a ≡ Ok u → r ≡ leftover_rule s → r ≡ records_rule s
   unfolding nodes_of
   nodes-passed a u r t e q l =
       let p = by_passed (first_of (node_count s) (node_rule s)) u (sym e ∙ q) in
       l ∙ sym (second (first_of (node_count s) (node_rule s)) (leftover_rule s) p.0) ∙ sym (after-root t)
 
-  pub passed-sums : (a : Nodes) (u : Sums) → a ≡ nodes_of s → a ≡ Passed u → u ≡ sums_before s (node_count s)
+  pub passed-sums : (a : Result Sums ℕ) (u : Sums) → a ≡ nodes_of s → a ≡ Ok u → u ≡ sums_before s (node_count s)
   unfolding nodes_of
   passed-sums a u e q = (by_passed (first_of (node_count s) (node_rule s)) u (sym e ∙ q)).1
 

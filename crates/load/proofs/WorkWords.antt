@@ -1,4 +1,5 @@
 -- How many work words suffice to load.
+use Rattle.std.specs.Prelude.{Err, Ok, Result, ℕ}
 use Prim.Native.Nat.{ℕ, zero, suc, ◌+◌, ◌/◌, ◌≤◌}
 use mathlib.Core.Path.{◌≡◌, refl, sym, ap, ◌∙◌}
 use mathlib.Core.List.{List}
@@ -10,8 +11,6 @@ use lib.Dec.{leb}
 use borrow.Author.Tests.{le-leb, eq-eqb, ne_eqb}
 use Rattle.laws.specs.Refusal.{unless, counts_as, ◌▸◌, first_of}
 use Rattle.image.specs.declared.ImageView.{ImageView}
-use Rattle.image.specs.declared.Opened.{Opened}
-use Rattle.image.specs.declared.Opened.TheVariants as opened
 use Rattle.image.specs.Sections.{Sections}
 use Rattle.image.specs.Header.{header_rule, view_of, sections_of, opened_of}
 use Rattle.image.proofs.OpenedHeader.{opens}
@@ -21,14 +20,14 @@ use Rattle.load.proofs.NumbersFrom8.{late-sections, late-not-early}
 use Rattle.load.proofs.Answers.{header-broken, header-kept, needed_is}
 use Rattle.load.proofs.FirstSections.{first-sections}
 
-module _ (bs : List ℕ) (a : Opened) (e : a ≡ opened_of bs) where
-  pub none_to_load : (r : ℕ) → a ≡ opened.Refused r → 0 ≡ words_to_load bs
+module _ (bs : List ℕ) (a : Result ImageView ℕ) (e : a ≡ opened_of bs) where
+  pub none_to_load : (r : ℕ) → a ≡ Err r → 0 ≡ words_to_load bs
   unfolding words_to_load
   none_to_load r h =
       let broken = header-broken bs a r e h in
       rw (ne_eqb (header_rule bs) 0 (λ z. broken.1 (broken.0 ∙ z)))
 
-  pub some_to_load : (v : ImageView) → a ≡ opened.View v → v.nodes.count + v.children.count + v.named.count + 1 ≡ words_to_load bs
+  pub some_to_load : (v : ImageView) → a ≡ Ok v → v.nodes.count + v.children.count + v.named.count + 1 ≡ words_to_load bs
   unfolding words_to_load
   some_to_load v h =
       let kept = header-kept bs a v e h in

@@ -1,5 +1,5 @@
 -- What a load answers: 0, or the number of the first rule that is broken; and the work words on return.
-use Rattle.std.specs.Prelude.{ℕ, zero, suc, List, ◌++◌, Bool, cond, ◌&&◌, ◌≡◌, drop, replicate, leb, eqb}
+use Rattle.std.specs.Prelude.{ℕ, zero, suc, List, ◌++◌, Bool, cond, ◌&&◌, ◌≡◌, drop, replicate, leb, eqb, Err, Ok, Result}
 use Rattle.laws.specs.Refusal.{unless, ◌▸◌, first_of, refusals}
 use Rattle.words.specs.Words.{word_at}
 use Rattle.checksum.specs.Crc.{checksum_of, crcs}
@@ -12,8 +12,6 @@ use Rattle.tree.specs.Work.{tree_words}
 use Rattle.tree.specs.Tree.{tree_rule, trees}
 use Rattle.index.specs.Index.{index_rule, indexes}
 use Rattle.definitions.specs.Definitions.{definitions_rule, definitions}
-use Rattle.load.specs.declared.Loaded.{Loaded}
-use Rattle.load.specs.declared.Loaded.TheVariants.{View, Refused}
 
 -- row 6
 unfoldable pub checksum_rule : List ℕ → ℕ
@@ -40,11 +38,11 @@ unfoldable pub load_rule : List ℕ → ℕ → ℕ
 load_rule bs work = header_rule bs ▸ checksum_rule bs ▸ unless (leb (load_words (sections_of bs)) work) too_few_words ▸ sections_rule (sections_of bs)
 
 -- the answer: the view that the header gives, or the number
-abbrev pub loaded_by : ℕ → ImageView → Loaded
-loaded_by zero v = View v
-loaded_by (suc r) v = Refused (suc r)
+abbrev pub loaded_by : ℕ → ImageView → Result ImageView ℕ
+loaded_by zero v = Ok v
+loaded_by (suc r) v = Err (suc r)
 
-unfoldable pub loaded_of : List ℕ → ℕ → Loaded
+unfoldable pub loaded_of : List ℕ → ℕ → Result ImageView ℕ
 loaded_of bs work = loaded_by (load_rule bs work) (view_of bs)
 
 -- the bytes break none of the rules

@@ -1,5 +1,5 @@
 -- What the loop over the nodes is told and gives.
-use Rattle.std.specs.Prelude.{ℕ, zero, suc, ◌≡◌, List, []}
+use Rattle.std.specs.Prelude.{ℕ, zero, suc, ◌≡◌, List, [], Err, Ok, Result}
 use Rattle.laws.specs.Refusal.{first_of, ◌▸◌}
 use Rattle.words.specs.Words.{words_of}
 use Rattle.image.specs.Sections.{Sections, node_count}
@@ -10,8 +10,6 @@ use Rattle.records.specs.Fields.{kind_of}
 use Rattle.records.specs.Records.{target_in, node_rule}
 use Rattle.records.specs.Shown.{counts_of, sums_before, tag_in, parent_by, fields_by}
 use Rattle.tree.specs.Parts.{parts_of}
-use Rattle.load.specs.declared.nodes.Nodes.{Nodes}
-use Rattle.load.specs.declared.nodes.Nodes.TheVariants.{Passed, Refused}
 
 -- the sections of a version whose nodes, payload and strings have these bytes
 pub record ReadFrom (s : Sections) (version : ℕ) (nodes payload strings : List ℕ) (c : EntryCounts) : Type 0 where
@@ -29,9 +27,9 @@ node_by version nodes payload strings c u i r =
     ▸ fields_by (kind_of r.tag) r c u (tag (target_in r (kind_of r.tag))) payload strings
 
 -- the sums of all nodes, or the first refusal
-abbrev pub nodes_by : ℕ → Sections → Nodes
-nodes_by zero s = Passed (sums_before s (node_count s))
-nodes_by (suc r) s = Refused (suc r)
+abbrev pub nodes_by : ℕ → Sections → Result Sums ℕ
+nodes_by zero s = Ok (sums_before s (node_count s))
+nodes_by (suc r) s = Err (suc r)
 
-unfoldable pub nodes_of : Sections → Nodes
+unfoldable pub nodes_of : Sections → Result Sums ℕ
 nodes_of s = nodes_by (first_of (node_count s) (node_rule s)) s

@@ -1,5 +1,6 @@
 // The record rules, node by node, with the sums of the counts before each; what is left over.
 ghost use Rattle.std.specs.Prelude.{◌≡◌, []};
+ghost use Rattle.image.specs.Refusals.{numbered, refusal_in};
 ghost use Rattle.image.specs.Sections.{Sections, node_count};
 ghost use Rattle.image.specs.Header.{sections_by};
 ghost use Rattle.records.specs.Shown.{tag_in, counts_of, sums_before};
@@ -7,16 +8,9 @@ ghost use Rattle.load.specs.Load.{leftover_rule, records_rule};
 ghost use Rattle.tree.specs.Parts.{parts_of};
 ghost use Rattle.load.specs.Nodes.{node_by, nodes_of};
 
-use image::refusal::{BAD_ROOT, LEFT_OVER};
+use image::refusal::Refusal;
 use image::{EntryCounts, ImageView, NodeRecord};
 use records::Sums;
-
-// What the nodes give: the sums of their counts, or the first refusal.
-#[derive(Clone, Copy)]
-pub enum Nodes {
-    Passed(Sums),
-    Refused(u32),
-}
 
 // The tag of node `n`, 0 where there is no such node.
 fn tag_at(nodes: &[u8], n: u32, version: u32) -> u32
@@ -39,13 +33,10 @@ fn node_rule(
     i: usize,
     node: NodeRecord,
     version: u32,
-) -> u32
-    ensures { result ≡ node_by version nodes.now payload.now strings.now counts sums i node }
+) -> Result<(), Refusal>
+    ensures { refusal_in result ≡ node_by version nodes.now payload.now strings.now counts sums i node }
 {
-    let wrong = records::parent_rule(node, i, counts.nodes, tag_at(nodes, node.parent, version));
-    if wrong != 0 {
-        return wrong;
-    }
+    records::parent_rule(node, i, counts.nodes, tag_at(nodes, node.parent, version))?;
     records::fields_rule(
         node,
         counts,
@@ -81,9 +72,9 @@ fn counts_of(bytes: &[u8], view: ImageView) -> EntryCounts
 }
 
 // The rules of every node, in order.
-fn nodes_rule(bytes: &[u8], view: ImageView, counts: EntryCounts) -> Nodes
+fn nodes_rule(bytes: &[u8], view: ImageView, counts: EntryCounts) -> Result<Sums, Refusal>
     requires { counts ≡ counts_of (sections_by bytes.now view) }
-    ensures { result ≡ nodes_of (sections_by bytes.now view) }
+    ensures { numbered result ≡ nodes_of (sections_by bytes.now view) }
 {
     let nodes = image::nodes_part(bytes, view);
     let payload = image::section_part(bytes, view.payload, ImageView::PAYLOAD_SIZE);
@@ -94,47 +85,39 @@ fn nodes_rule(bytes: &[u8], view: ImageView, counts: EntryCounts) -> Nodes
         payload: 0,
         containers: 0,
     };
-    let mut i = 0;
-    while i < counts.nodes {
+    for i in 0..counts.nodes {
         let node = image::node_record(nodes, view.version, i);
-        let wrong = node_rule(nodes, payload, strings, counts, sums, i, node, view.version);
-        if wrong != 0 {
-            return Nodes::Refused(wrong);
-        }
+        node_rule(nodes, payload, strings, counts, sums, i, node, view.version)?;
         sums = records::add(sums, node);
-        i += 1;
     }
-    Nodes::Passed(sums)
+    Ok(sums)
 }
 
 // Row 13, of sections that have these counts and whose nodes have these sums.
-fn left_over(counts: EntryCounts, sums: Sums) -> u32
-    ensures { (s : Sections) → counts ≡ counts_of s → sums ≡ sums_before s (node_count s) → result ≡ leftover_rule s }
+fn left_over(counts: EntryCounts, sums: Sums) -> Result<(), Refusal>
+    ensures { (s : Sections) → counts ≡ counts_of s → sums ≡ sums_before s (node_count s) → refusal_in result ≡ leftover_rule s }
 {
     if !records::used_up(sums, counts) {
-        return LEFT_OVER;
+        return Err(Refusal::LeftOver);
     }
     if sums.containers == counts.index {
-        0
+        Ok(())
     } else {
-        LEFT_OVER
+        Err(Refusal::LeftOver)
     }
 }
 
 // Rows 8 to 13.
-pub fn records_rule(bytes: &[u8], view: ImageView) -> u32
-    ensures { result ≡ records_rule (sections_by bytes.now view) }
+pub fn records_rule(bytes: &[u8], view: ImageView) -> Result<(), Refusal>
+    ensures { refusal_in result ≡ records_rule (sections_by bytes.now view) }
 {
     let nodes = image::nodes_part(bytes, view);
     if image::node_count(nodes, view.version) == 0 {
-        return BAD_ROOT;
+        return Err(Refusal::BadRoot);
     }
     if !records::root_right(image::node_record(nodes, view.version, 0)) {
-        return BAD_ROOT;
+        return Err(Refusal::BadRoot);
     }
     let counts = counts_of(bytes, view);
-    match nodes_rule(bytes, view, counts) {
-        Nodes::Refused(wrong) => wrong,
-        Nodes::Passed(sums) => left_over(counts, sums),
-    }
+    left_over(counts, nodes_rule(bytes, view, counts)?)
 }

@@ -1,14 +1,14 @@
 -- Laws of the halving search: its turns, its bounds, and the plain reading on texts that rise.
+use Rattle.std.specs.Prelude.{None, Option, Some}
 use Prim.Native.Nat.{ℕ, zero, suc, ◌+◌, ◌-◌, ◌/◌, ◌≤◌, ◌<◌}
 use mathlib.Core.Path.{◌≡◌, refl, sym, ap, ◌∙◌, subst}
 use mathlib.Core.List.{List}
 use mathlib.Core.Bool.{true}
-use mathlib.Core.Option.{Option, none, some}
 use native.Mathlib.Omega.{arith}
 use native.Mathlib.Decide.{dec_lt}
 use borrow.Author.Tests.{lt-ltb, le-ltb}
-use Rattle.texts.specs.declared.Order.{Order}
-use Rattle.texts.specs.declared.Order.TheVariants.{Less, Equal, Greater}
+use Rattle.std.specs.declared.cmp.Ordering.{Ordering}
+use Rattle.std.specs.declared.cmp.Ordering.TheVariants.{Less, Equal, Greater}
 use Rattle.texts.specs.Text.{order_of, before}
 use Rattle.texts.proofs.Text.{order-self, order-equal, before-less, before_greater}
 use Rattle.lookups.specs.Lookup.{towards, halving}
@@ -24,7 +24,7 @@ module _ (t : ℕ → List ℕ) (name : List ℕ) where
   unfolding halving
   turn n lo hi h = rw (lt-ltb lo hi h)
 
-  over : (n lo hi : ℕ) → hi ≤ lo → halving t name n lo hi ≡ none
+  over : (n lo hi : ℕ) → hi ≤ lo → halving t name n lo hi ≡ None
   unfolding halving
   over zero lo hi h = refl
   over (suc n) lo hi h = rw (le-ltb lo hi h)
@@ -70,10 +70,10 @@ module _ (t : ℕ → List ℕ) (name : List ℕ) where
         rw at
         (step count lo hi h e ∙ rw (← at, o) (rw at (enough (hi - lo) (middle_of lo hi - lo) lo (middle_of lo hi) (omega arith) (omega arith))))
 
-    pub search_here : order_of (t m) name ≡ Equal → halving t name count 0 count ≡ some m
+    pub search_here : order_of (t m) name ≡ Equal → halving t name count 0 count ≡ Some m
     search_here o = step count lo hi h e ∙ rw (← at, o)
 
-  pub search_end : (count lo hi : ℕ) → hi ≤ lo → Searching count lo hi → halving t name count 0 count ≡ none
+  pub search_end : (count lo hi : ℕ) → hi ≤ lo → Searching count lo hi → halving t name count 0 count ≡ None
   search_end count lo hi h e = e ∙ over (hi - lo) lo hi h
 
   -- ---- what is found is there
@@ -83,15 +83,15 @@ module _ (t : ℕ → List ℕ) (name : List ℕ) where
     pub below : j < hi
     pub same : t j ≡ name
 
-  some_same : (i j : ℕ) → ◌≡◌ {A = Option ℕ} (some i) (some j) → i ≡ j
+  some_same : (i j : ℕ) → ◌≡◌ {A = Option ℕ} (Some i) (Some j) → i ≡ j
   some_same i j e = cc
 
-  none-some : (j : ℕ) → ◌≡◌ {A = Option ℕ} none (some j) → ⊥
+  none-some : (j : ℕ) → ◌≡◌ {A = Option ℕ} None (Some j) → ⊥
   none-some j e = let z : ◌≡◌ {A = ℕ} 0 1 = cc in omega arith
 
-  there_by : (n lo hi j : ℕ) → lo < hi → ((a b : ℕ) → halving t name n a b ≡ some j → There a b j)
-      → (o : Order) → order_of (t (middle_of lo hi)) name ≡ o
-      → towards t name o (middle_of lo hi) (halving t name n (middle_of lo hi + 1) hi) (halving t name n lo (middle_of lo hi)) ≡ some j → There lo hi j
+  there_by : (n lo hi j : ℕ) → lo < hi → ((a b : ℕ) → halving t name n a b ≡ Some j → There a b j)
+      → (o : Ordering) → order_of (t (middle_of lo hi)) name ≡ o
+      → towards t name o (middle_of lo hi) (halving t name n (middle_of lo hi + 1) hi) (halving t name n lo (middle_of lo hi)) ≡ Some j → There lo hi j
   there_by n lo hi j l next Less q e =
       let r = next (middle_of lo hi + 1) hi e in
       record { from = omega arith; below = r.below; same = r.same }
@@ -102,11 +102,11 @@ module _ (t : ℕ → List ℕ) (name : List ℕ) where
       let r = next lo (middle_of lo hi) e in
       record { from = r.from; below = omega arith; same = r.same }
 
-  there_in : (n lo hi j : ℕ) → ((a b : ℕ) → halving t name n a b ≡ some j → There a b j) → Dec (lo < hi) → halving t name (suc n) lo hi ≡ some j → There lo hi j
+  there_in : (n lo hi j : ℕ) → ((a b : ℕ) → halving t name n a b ≡ Some j → There a b j) → Dec (lo < hi) → halving t name (suc n) lo hi ≡ Some j → There lo hi j
   there_in n lo hi j next (yes l) e = there_by n lo hi j l next (order_of (t (middle_of lo hi)) name) refl (sym (turn n lo hi l) ∙ e)
   there_in n lo hi j next (no l) e = absurd (none-some j (sym (over (suc n) lo hi (omega arith)) ∙ e))
 
-  pub found-there : (n lo hi j : ℕ) → halving t name n lo hi ≡ some j → There lo hi j
+  pub found-there : (n lo hi j : ℕ) → halving t name n lo hi ≡ Some j → There lo hi j
   found-there zero lo hi j e = absurd (none-some j (unfold halving in e))
   found-there (suc n) lo hi j e = there_in n lo hi j (λ a b. found-there n a b j) (dec_lt lo hi) e
 
@@ -127,8 +127,8 @@ module _ (t : ℕ → List ℕ) (name : List ℕ) where
     lies-here e = rw (e, th.same) (order-self name)
 
   lies : (n lo hi j : ℕ) → lo < hi → hi ≤ lo + suc n → Rising lo hi → There lo hi j
-      → ((a b : ℕ) → b ≤ a + n → Rising a b → There a b j → halving t name n a b ≡ some j)
-      → Dec (j < middle_of lo hi) → Dec (middle_of lo hi < j) → halving t name (suc n) lo hi ≡ some j
+      → ((a b : ℕ) → b ≤ a + n → Rising a b → There a b j → halving t name n a b ≡ Some j)
+      → Dec (j < middle_of lo hi) → Dec (middle_of lo hi < j) → halving t name (suc n) lo hi ≡ Some j
   lies n lo hi j l h up th next (yes p) q =
       turn n lo hi l
       ∙ rw (lies-below lo hi j up th (middle_of lo hi) (omega arith) (omega arith) p)
@@ -141,9 +141,9 @@ module _ (t : ℕ → List ℕ) (name : List ℕ) where
       (record { from = omega arith; below = th.below; same = th.same }))
   lies n lo hi j l h up th next (no p) (no q) =
       let e : middle_of lo hi ≡ j = omega arith in
-      turn n lo hi l ∙ rw (lies-here lo hi j up th (middle_of lo hi) (omega arith) (omega arith) e) (ap some e)
+      turn n lo hi l ∙ rw (lies-here lo hi j up th (middle_of lo hi) (omega arith) (omega arith) e) (ap Some e)
 
-  pub there-found : (n lo hi j : ℕ) → hi ≤ lo + n → Rising lo hi → There lo hi j → halving t name n lo hi ≡ some j
+  pub there-found : (n lo hi j : ℕ) → hi ≤ lo + n → Rising lo hi → There lo hi j → halving t name n lo hi ≡ Some j
   there-found zero lo hi j h up th = absurd (omega arith)
   there-found (suc n) lo hi j h up th =
       lies n lo hi j (omega arith) h up th (λ a b. there-found n a b j) (dec_lt j (middle_of lo hi)) (dec_lt (middle_of lo hi) j)

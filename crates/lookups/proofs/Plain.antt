@@ -1,9 +1,10 @@
 -- On sections whose rules passed, the look-ups by name have their plain reading.
+use Rattle.std.specs.Prelude.{None, Option, Some, is_some}
 use Prim.Native.Nat.{ℕ, zero, suc, ◌+◌, ◌*◌, ◌≤◌, ◌<◌}
 use mathlib.Core.Path.{◌≡◌, refl, sym, ap, ◌∙◌, subst}
 use mathlib.Core.List.{List}
 use mathlib.Core.Bool.{Bool, true, false, cond, ◌||◌, not, true≢false}
-use mathlib.Core.Option.{Option, none, some, none-ne-some}
+use Rattle.std.proofs.lemmas.Option.{none-some}
 use native.Mathlib.Omega.{arith}
 use native.Mathlib.Nat.{add-zero, not-suc-le-zero}
 use native.Mathlib.Decide.{ℕ_discrete}
@@ -22,10 +23,7 @@ use Rattle.tree.proofs.PlainTree.{tree-right}
 use Rattle.definitions.specs.Definitions.{definition_text, first_item, number_of_items, item_text_of, definitions_rule}
 use Rattle.image.proofs.RisingTexts.{rising-before}
 use Rattle.definitions.proofs.Definitions.{Definition, Definitions, definitions-passed}
-use Rattle.views.specs.declared.Found.TheVariants as found
-use Rattle.laws.specs.Lists.{is_some}
 use Rattle.lookups.specs.declared.ListItem.{ListItem}
-use Rattle.lookups.specs.declared.ListItemAnswer.TheVariants as answer
 use Rattle.views.specs.View.{signed}
 use Rattle.lookups.specs.Lookup.{entry_text, searched, found_at, named_by, find_named, item_place, definition_name, answering_place, answers, list_item_at, list_item_in, last_item}
 use Rattle.lookups.specs.Plain.{HasName, NodeNamed, NamedLookup, Holds, LastHolds, ItemLookup}
@@ -38,7 +36,7 @@ module _ (words strings : List ℕ) (from count : ℕ) (u : ℕ → List ℕ) (l
   abbrev t : ℕ → List ℕ
   t j = entry_text words strings (from + j)
 
-  pub search_found : (j : ℕ) → searched words strings from count name ≡ some j → (j < count) × (u j ≡ name)
+  pub search_found : (j : ℕ) → searched words strings from count name ≡ Some j → (j < count) × (u j ≡ name)
   unfolding searched
   search_found j e =
       let r = found-there t name count 0 count j e in
@@ -47,7 +45,7 @@ module _ (words strings : List ℕ) (from count : ℕ) (u : ℕ → List ℕ) (l
   rises : Rising t name 0 count
   rises = record { rises = λ i j a l h. rw (like i (omega arith), like j h) (rising-before u count up i j l h) }
 
-  pub search_there : (j : ℕ) → j < count → u j ≡ name → searched words strings from count name ≡ some j
+  pub search_there : (j : ℕ) → j < count → u j ≡ name → searched words strings from count name ≡ Some j
   unfolding searched
   search_there j h e = there-found t name count 0 count j (omega arith) rises (record { from = omega arith; below = h; same = like j h ∙ e })
 
@@ -57,10 +55,10 @@ named-entry-text : (s : Sections) (k : ℕ) → entry_text s.named s.strings k �
 unfolding named_word
 named-entry-text s k = rw (add-zero (k * text_entry_words))
 
-node-apart : (n : ℕ) → found.Node n ≡ found.NotFound → ⊥
+node-apart : (n : ℕ) → Some n ≡ None → ⊥
 node-apart n h = let z : ◌≡◌ {A = ℕ} 0 1 = cc in omega arith
 
-node-equal : (m n : ℕ) → found.Node m ≡ found.Node n → m ≡ n
+node-equal : (m n : ℕ) → Some m ≡ Some n → m ≡ n
 node-equal m n h = cc
 
 module _ (s : Sections) (i : ℕ) (box : inside_container s i ≡ true) (range : f s i 5 + f s i 6 ≤ named_count s) (passed : entries_rule s i ≡ 0) where
@@ -82,20 +80,20 @@ module _ (s : Sections) (i : ℕ) (box : inside_container s i ≡ true) (range :
     unfolding find_named named_by named_word
     by_place = rw (box, le-leb (f s i 5 + f s i 6) (named_count s) range)
 
-    found_at_lem : (x : Option ℕ) (n : ℕ) → place ≡ x → found_at (λ j. named_at s i j 2) x ≡ found.Node n → NodeNamed s i name n
-    found_at_lem none n e h = absurd (node-apart n (sym h))
-    found_at_lem (some j) n e h =
+    found_at_lem : (x : Option ℕ) (n : ℕ) → place ≡ x → found_at (λ j. named_at s i j 2) x ≡ Some n → NodeNamed s i name n
+    found_at_lem None n e h = absurd (node-apart n (sym h))
+    found_at_lem (Some j) n e h =
         let r = search_found s.named s.strings (f s i 5) (f s i 6) (named_text s i) like order name j e in
         record { entry = j; bears = record { place = r.0; text = r.1 }; node = node-equal (named_at s i j 2) n h }
 
-    there_at : (j : ℕ) → HasName s i name j → find_named s i name ≡ found.Node (named_at s i j 2)
+    there_at : (j : ℕ) → HasName s i name j → find_named s i name ≡ Some (named_at s i j 2)
     there_at j b =
         by_place
         ∙ ap (found_at (λ k. named_at s i k 2)) (search_there s.named s.strings (f s i 5) (f s i 6) (named_text s i) like order name j b.place b.text)
 
-    nowhere : (x : Option ℕ) → place ≡ x → ((j : ℕ) → HasName s i name j → ⊥) → found_at (λ j. named_at s i j 2) x ≡ found.NotFound
-    nowhere none e h = refl
-    nowhere (some j) e h =
+    nowhere : (x : Option ℕ) → place ≡ x → ((j : ℕ) → HasName s i name j → ⊥) → found_at (λ j. named_at s i j 2) x ≡ None
+    nowhere None e h = refl
+    nowhere (Some j) e h =
         let r = search_found s.named s.strings (f s i 5) (f s i 6) (named_text s i) like order name j e in
         absurd (h j (record { place = r.0; text = r.1 }))
 
@@ -103,7 +101,7 @@ module _ (s : Sections) (i : ℕ) (box : inside_container s i ≡ true) (range :
   named-read =
       record {
         answered = λ name n h. found_at_lem name (place name) n refl (sym (by_place name) ∙ h);
-        borne = λ name n b. there_at name b.entry b.bears ∙ ap found.Node b.node;
+        borne = λ name n b. there_at name b.entry b.bears ∙ ap Some b.node;
         missed = λ name h j b. node-apart (named_at s i j 2) (sym (there_at name j b) ∙ h);
         missing = λ name h. by_place name ∙ nowhere name (place name) refl h;
       }
@@ -121,7 +119,7 @@ pub record Last (n : ℕ) (t : ℕ → Bool) (d : ℕ) : Type 0 where
   pub last : (e : ℕ) → d < e → e < n → t e ≡ false
 
 module _ (t : ℕ → Bool) where
-  last_step : (n d : ℕ) (b : Bool) → t n ≡ b → (last_of n t ≡ some d → Last n t d) → cond b (some n) (last_of n t) ≡ some d → Last (suc n) t d
+  last_step : (n d : ℕ) (b : Bool) → t n ≡ b → (last_of n t ≡ Some d → Last n t d) → cond b (Some n) (last_of n t) ≡ Some d → Last (suc n) t d
   last_step n d true q next e =
       let z : n ≡ d = cc in
       record { below = omega arith; passes = ap t (sym z) ∙ q; last = λ x a b. absurd (omega arith) }
@@ -133,12 +131,12 @@ module _ (t : ℕ → Bool) where
       end x (yes e) l a b = ap t e ∙ q
       end x (no e) l a b = l x a (omega arith)
 
-  pub last_some : (n d : ℕ) → last_of n t ≡ some d → Last n t d
+  pub last_some : (n d : ℕ) → last_of n t ≡ Some d → Last n t d
   unfolding last_of
   last_some zero d e = absurd (let z : ◌≡◌ {A = ℕ} 0 1 = cc in omega arith)
   last_some (suc n) d e = last_step n d (t n) refl (last_some n d) e
 
-  none-step : (n d : ℕ) (b : Bool) → t n ≡ b → (last_of n t ≡ none → d < n → t d ≡ false) → cond b (some n) (last_of n t) ≡ none → d < suc n → t d ≡ false
+  none-step : (n d : ℕ) (b : Bool) → t n ≡ b → (last_of n t ≡ None → d < n → t d ≡ false) → cond b (Some n) (last_of n t) ≡ None → d < suc n → t d ≡ false
   none-step n d true q next e h = absurd (let z : ◌≡◌ {A = ℕ} 0 1 = cc in omega arith)
   none-step n d false q next e h =
       elim (ℕ_discrete d n) [
@@ -146,7 +144,7 @@ module _ (t : ℕ → Bool) where
         | no z ↦ next e (omega arith)
       ]
 
-  pub last_none : (n d : ℕ) → last_of n t ≡ none → d < n → t d ≡ false
+  pub last_none : (n d : ℕ) → last_of n t ≡ None → d < n → t d ≡ false
   unfolding last_of
   last_none zero d e h = absurd (not-suc-le-zero h)
   last_none (suc n) d e h = none-step n d (t n) refl (last_none n d) e h
@@ -158,36 +156,36 @@ last-like zero t u h = refl
 last-like (suc n) t u h = rw (h n (omega arith), last-like n t u (λ d l. h d (omega arith)))
 
 -- where none passes, and where one is known to be the last
-pub last-none_of : (n : ℕ) (t : ℕ → Bool) → ((d : ℕ) → d < n → t d ≡ false) → last_of n t ≡ none
+pub last-none_of : (n : ℕ) (t : ℕ → Bool) → ((d : ℕ) → d < n → t d ≡ false) → last_of n t ≡ None
 unfolding last_of
 last-none_of zero t h = refl
 last-none_of (suc n) t h = rw (h n (omega arith)) (last-none_of n t (λ d l. h d (omega arith)))
 
-pub last_is : (n : ℕ) (t : ℕ → Bool) (d : ℕ) → Last n t d → last_of n t ≡ some d
+pub last_is : (n : ℕ) (t : ℕ → Bool) (d : ℕ) → Last n t d → last_of n t ≡ Some d
 unfolding last_of
 last_is zero t d l = absurd (omega (arith, l.below))
 last_is (suc n) t d l = by (ℕ_discrete d n) (λ k. last_is n t d k)
   where
-    by : Dec (d ≡ n) → (Last n t d → last_of n t ≡ some d) → cond (t n) (some n) (last_of n t) ≡ some d
-    by (yes e) next = rw (ap t (sym e) ∙ l.passes) (ap some (sym e))
+    by : Dec (d ≡ n) → (Last n t d → last_of n t ≡ Some d) → cond (t n) (Some n) (last_of n t) ≡ Some d
+    by (yes e) next = rw (ap t (sym e) ∙ l.passes) (ap Some (sym e))
     by (no e) next =
         rw (l.last n (omega (arith, l.below)) (omega arith))
         (next (record { below = omega (arith, l.below); passes = l.passes; last = λ x a b. l.last x a (omega arith) }))
 
 -- ---- a list item
 
-chosen : (b : Bool) (x : Option ℕ) (j : ℕ) → cond b x none ≡ some j → (b ≡ true) × (x ≡ some j)
+chosen : (b : Bool) (x : Option ℕ) (j : ℕ) → cond b x None ≡ Some j → (b ≡ true) × (x ≡ Some j)
 chosen true x j e = (refl, e)
-chosen false x j e = absurd (none-ne-some j e)
+chosen false x j e = absurd (none-some j e)
 
 item-entry-text : (s : Sections) (k : ℕ) → entry_text s.items s.strings k ≡ text_or_empty s.strings (item_word s k 0) (item_word s k 1)
 unfolding item_word
 item-entry-text s k = rw (add-zero (k * text_entry_words))
 
-item-apart : (a : ListItem) → answer.Item a ≡ answer.NotFound → ⊥
+item-apart : (a : ListItem) → Some a ≡ None → ⊥
 item-apart a h = let z : ◌≡◌ {A = ℕ} 0 1 = cc in omega arith
 
-item-equal : (a b : ListItem) → answer.Item a ≡ answer.Item b → a ≡ b
+item-equal : (a b : ListItem) → Some a ≡ Some b → a ≡ b
 item-equal a b h = cc
 
 module _ (s : Sections) (passed : Definitions s) (given : Bool) (origin name : List ℕ) where
@@ -219,14 +217,14 @@ module _ (s : Sections) (passed : Definitions s) (given : Bool) (origin name : L
     might true g = rw name-plain (equal-same origin (definition_text s d) (sym (g refl)))
     might false g = refl
 
-    pub place-holds : (j : ℕ) → answering_place s given origin name d ≡ some j → Holds s given origin name d j
+    pub place-holds : (j : ℕ) → answering_place s given origin name d ≡ Some j → Holds s given origin name d j
     unfolding answering_place
     place-holds j e =
         let r = chosen (not given || same origin (definition_name s d)) (item_place s d name) j e in
         let q = search_found s.items s.strings (first_item s d) (number_of_items s d) (item_text_of s d) item-like item-order name j (sym in_plain ∙ r.1) in
         record { definition = h; origin-text = may given r.0; place = q.0; text = q.1 }
 
-    pub holds-place : (j : ℕ) → Holds s given origin name d j → answering_place s given origin name d ≡ some j
+    pub holds-place : (j : ℕ) → Holds s given origin name d j → answering_place s given origin name d ≡ Some j
     unfolding answering_place
     holds-place j k =
         rw (might given k.origin-text)
@@ -236,9 +234,9 @@ module _ (s : Sections) (passed : Definitions s) (given : Bool) (origin name : L
   holds-answers d j k = rw (holds-place d k.definition j k)
 
   answered_at : (d : ℕ) → Last (definition_count s) (answers s given origin name) d → (x : Option ℕ) → answering_place s given origin name d ≡ x
-      → (a : ListItem) → list_item_at s d x ≡ answer.Item a → LastHolds s given origin name a
-  answered_at d l none e a h = absurd (item-apart a (sym h))
-  answered_at d l (some j) e a h =
+      → (a : ListItem) → list_item_at s d x ≡ Some a → LastHolds s given origin name a
+  answered_at d l None e a h = absurd (item-apart a (sym h))
+  answered_at d l (Some j) e a h =
       let q = item-equal (record { definition = d; item = first_item s d + j; value = _ }) a h in
       held a q
     where
@@ -259,29 +257,29 @@ module _ (s : Sections) (passed : Definitions s) (given : Bool) (origin name : L
   abbrev chosen_last : Option ℕ
   chosen_last = last_of (definition_count s) (answers s given origin name)
 
-  answered_in : (x : Option ℕ) → chosen_last ≡ x → (a : ListItem) → list_item_in s given origin name x ≡ answer.Item a → LastHolds s given origin name a
-  answered_in none e a h = absurd (item-apart a (sym h))
-  answered_in (some d) e a h =
+  answered_in : (x : Option ℕ) → chosen_last ≡ x → (a : ListItem) → list_item_in s given origin name x ≡ Some a → LastHolds s given origin name a
+  answered_in None e a h = absurd (item-apart a (sym h))
+  answered_in (Some d) e a h =
       answered_at d (last_some (answers s given origin name) (definition_count s) d e) (answering_place s given origin name d) refl a h
 
   -- a definition that answers has an item
-  some-place : (x : Option ℕ) (d : ℕ) → is_some x ≡ true → list_item_at s d x ≡ answer.NotFound → ⊥
-  some-place none d y h = true≢false (sym y)
-  some-place (some j) d y h = item-apart _ h
+  some-place : (x : Option ℕ) (d : ℕ) → is_some x ≡ true → list_item_at s d x ≡ None → ⊥
+  some-place None d y h = true≢false (sym y)
+  some-place (Some j) d y h = item-apart _ h
 
-  missed_in : (x : Option ℕ) → chosen_last ≡ x → list_item_in s given origin name x ≡ answer.NotFound → (d j : ℕ) → Holds s given origin name d j → ⊥
-  missed_in none e h d j k =
+  missed_in : (x : Option ℕ) → chosen_last ≡ x → list_item_in s given origin name x ≡ None → (d j : ℕ) → Holds s given origin name d j → ⊥
+  missed_in None e h d j k =
       true≢false (sym (holds-answers d j k) ∙ last_none (answers s given origin name) (definition_count s) d e k.definition)
-  missed_in (some c) e h d j k =
+  missed_in (Some c) e h d j k =
       some-place (answering_place s given origin name c) c (last_some (answers s given origin name) (definition_count s) c e).passes h
 
-  missing_in : (x : Option ℕ) → chosen_last ≡ x → ((d j : ℕ) → Holds s given origin name d j → ⊥) → list_item_in s given origin name x ≡ answer.NotFound
-  missing_in none e h = refl
-  missing_in (some d) e h = at (answering_place s given origin name d) refl
+  missing_in : (x : Option ℕ) → chosen_last ≡ x → ((d j : ℕ) → Holds s given origin name d j → ⊥) → list_item_in s given origin name x ≡ None
+  missing_in None e h = refl
+  missing_in (Some d) e h = at (answering_place s given origin name d) refl
     where
-      at : (y : Option ℕ) → answering_place s given origin name d ≡ y → list_item_at s d y ≡ answer.NotFound
-      at none q = refl
-      at (some j) q = absurd (h d j (place-holds d (last_some (answers s given origin name) (definition_count s) d e).below j q))
+      at : (y : Option ℕ) → answering_place s given origin name d ≡ y → list_item_at s d y ≡ None
+      at None q = refl
+      at (Some j) q = absurd (h d j (place-holds d (last_some (answers s given origin name) (definition_count s) d e).below j q))
 
   pub items-read : ItemLookup s given origin name
   unfolding last_item

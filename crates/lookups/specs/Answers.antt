@@ -1,10 +1,9 @@
 -- The number and the value of a list item's answer: 0 and the item, or 18.
+use Rattle.std.specs.Prelude.{None, Option, Some}
 use Rattle.image.specs.Refusals.{not_found}
 use Rattle.views.specs.Answers.{Answer, given, refused}
 use Rattle.lookups.specs.declared.ListItem.{ListItem}
-use Rattle.lookups.specs.declared.ListItemAnswer.{ListItemAnswer}
-use Rattle.lookups.specs.declared.ListItemAnswer.TheVariants as listed
 
-abbrev pub of_list_item : ListItemAnswer → Answer ListItem
-of_list_item (listed.Item i) = given i
-of_list_item listed.NotFound = refused not_found
+abbrev pub of_list_item : Option ListItem → Answer ListItem
+of_list_item (Some i) = given i
+of_list_item None = refused not_found

@@ -1,11 +1,9 @@
 -- The plain reading of the look-ups by name, as types.
-use Rattle.std.specs.Prelude.{ℕ, ◌+◌, ◌<◌, ◌≡◌, List, Bool, true}
+use Rattle.std.specs.Prelude.{ℕ, ◌+◌, ◌<◌, ◌≡◌, List, Bool, true, None, Some}
 use Rattle.image.specs.Sections.{Sections, definition_count, f, item_word}
 use Rattle.tree.specs.Tree.{named_at, named_text}
 use Rattle.definitions.specs.Definitions.{definition_text, first_item, number_of_items, item_text_of}
-use Rattle.views.specs.declared.Found.TheVariants as found
 use Rattle.lookups.specs.declared.ListItem.{ListItem}
-use Rattle.lookups.specs.declared.ListItemAnswer.TheVariants as answer
 use Rattle.views.specs.View.{signed}
 use Rattle.lookups.specs.Lookup.{find_named, last_item}
 
@@ -25,10 +23,10 @@ pub record NodeNamed (s : Sections) (i : ℕ) (name : List ℕ) (n : ℕ) : Type
 -- the look-up answers n exactly if an entry of the container bears the name, and then n is that entry's node; it answers none exactly
 -- if no entry bears the name
 pub record NamedLookup (s : Sections) (i : ℕ) : Type 0 where
-  pub answered : (name : List ℕ) (n : ℕ) → find_named s i name ≡ found.Node n → NodeNamed s i name n
-  pub borne : (name : List ℕ) (n : ℕ) → NodeNamed s i name n → find_named s i name ≡ found.Node n
-  pub missed : (name : List ℕ) → find_named s i name ≡ found.NotFound → (j : ℕ) → HasName s i name j → ⊥
-  pub missing : (name : List ℕ) → ((j : ℕ) → HasName s i name j → ⊥) → find_named s i name ≡ found.NotFound
+  pub answered : (name : List ℕ) (n : ℕ) → find_named s i name ≡ Some n → NodeNamed s i name n
+  pub borne : (name : List ℕ) (n : ℕ) → NodeNamed s i name n → find_named s i name ≡ Some n
+  pub missed : (name : List ℕ) → find_named s i name ≡ None → (j : ℕ) → HasName s i name j → ⊥
+  pub missing : (name : List ℕ) → ((j : ℕ) → HasName s i name j → ⊥) → find_named s i name ≡ None
 
 -- ---- a list item: `given` says whether the name gives an origin
 
@@ -49,6 +47,6 @@ pub record LastHolds (s : Sections) (given : Bool) (origin name : List ℕ) (ite
 
 -- the look-up answers the item of the last definition that holds one, and none exactly if no definition does
 pub record ItemLookup (s : Sections) (given : Bool) (origin name : List ℕ) : Type 0 where
-  pub answered : (item : ListItem) → last_item s given origin name ≡ answer.Item item → LastHolds s given origin name item
-  pub missed : last_item s given origin name ≡ answer.NotFound → (d j : ℕ) → Holds s given origin name d j → ⊥
-  pub missing : ((d j : ℕ) → Holds s given origin name d j → ⊥) → last_item s given origin name ≡ answer.NotFound
+  pub answered : (item : ListItem) → last_item s given origin name ≡ Some item → LastHolds s given origin name item
+  pub missed : last_item s given origin name ≡ None → (d j : ℕ) → Holds s given origin name d j → ⊥
+  pub missing : ((d j : ℕ) → Holds s given origin name d j → ⊥) → last_item s given origin name ≡ None

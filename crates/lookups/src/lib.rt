@@ -2,16 +2,17 @@
 // halved.
 #![tactic(auto)]
 
-ghost use Rattle.std.specs.Prelude.{◌≡◌, ◌+◌, ◌*◌, ◌/◌, ◌≤◌, ◌<◌, length};
+ghost use Rattle.std.specs.Prelude.{◌≡◌, ℕ, List, ◌+◌, ◌*◌, ◌/◌, ◌≤◌, ◌<◌, length};
+ghost use Rattle.std.specs.declared.cmp.Ordering.{Ordering};
+ghost use Rattle.texts.specs.Text.{order_of};
 ghost use Rattle.words.specs.Words.{words_of};
 ghost use Rattle.image.specs.Header.{sections_by};
 ghost use Rattle.image.specs.Sections.{text_entry_size};
-ghost use Rattle.lookups.specs.Lookup.{found_place, searched, named_by, find_named};
+ghost use Rattle.lookups.specs.Lookup.{halving, found_place, entry_text, searched, named_by, find_named};
 
 use image::{ImageView, NodeRecord};
-use texts::Order;
-use views::Found;
-use views::entries::{RecordFound, container_of};
+use std::cmp::Ordering;
+use views::entries::container_of;
 
 // An item found by name: its definition, which is its origin, its number among all items, and its value.
 #[derive(Clone, Copy)]
@@ -21,73 +22,71 @@ pub struct ListItem {
     pub value: i32,
 }
 
-#[derive(Clone, Copy)]
-pub enum ListItemAnswer {
-    Item(ListItem),
-    NotFound,
-}
-
-// A place among the entries of a container, or among definitions.
-#[derive(Clone, Copy)]
-pub enum Place {
-    At(usize),
-    Nowhere,
-}
-
-// The place of the name among `count` entries, from entry `from` of a section of texts on.
-fn find(part: &[u8], strings: &[u8], from: usize, count: usize, name: &[u8]) -> Place
-    requires { from + count ≤ length part.now / text_entry_size }
-    ensures { found_place result ≡ searched (words_of part.now) strings.now from count name.now }
+// The place of a name among `count` texts that rise, by how each of them and the name are ordered: the range is halved.
+// A `while`: both ends move. Not `binary_search_by`: the entries lie as bytes or words, and no slice of entries can be lent.
+pub fn halve<C: Fn(usize) -> Ordering>(count: usize, order: C) -> Option<usize>
+    requires { (k : ℕ) → k < count → C.pre order k }
+    ensures { (t : ℕ → List ℕ) (name : List ℕ) → ((k : ℕ) (o : Ordering) → k < count → C.post order k o → o ≡ order_of (t k) name)
+        → found_place result ≡ halving t name count 0 count }
 {
     let mut lo = 0;
     let mut hi = count;
     while lo < hi {
         let middle = lo + (hi - lo) / 2;
-        let entry = image::text_entry(part, from + middle);
-        match texts::compare(image::text_part(strings, entry.offset, entry.len), name) {
-            Order::Less => {
+        match order(middle) {
+            Ordering::Less => {
                 lo = middle + 1;
             }
-            Order::Equal => {
-                return Place::At(middle);
+            Ordering::Equal => {
+                return Some(middle);
             }
-            Order::Greater => {
+            Ordering::Greater => {
                 hi = middle;
             }
         }
     }
-    Place::Nowhere
+    None
+}
+
+// How the text of entry k of a section of texts and the name are ordered.
+fn order_at(part: &[u8], strings: &[u8], k: usize, name: &[u8]) -> Ordering
+    requires { k < length part.now / text_entry_size }
+    ensures { result ≡ order_of (entry_text (words_of part.now) strings.now k) name.now }
+{
+    let entry = image::text_entry(part, k);
+    texts::compare(image::text_part(strings, entry.offset, entry.len), name)
+}
+
+// The place of the name among `count` entries, from entry `from` of a section of texts on.
+fn find(part: &[u8], strings: &[u8], from: usize, count: usize, name: &[u8]) -> Option<usize>
+    requires { from + count ≤ length part.now / text_entry_size }
+    ensures { found_place result ≡ searched (words_of part.now) strings.now from count name.now }
+{
+    halve(count, |k| order_at(part, strings, from + k, name))
 }
 
 // The node of the container's named entry that bears the name.
-fn named_by(container: NodeRecord, named: &[u8], strings: &[u8], name: &[u8]) -> Found
+fn named_by(container: NodeRecord, named: &[u8], strings: &[u8], name: &[u8]) -> Option<u32>
     ensures { result ≡ named_by (words_of named.now) strings.now container.f5 container.f6 name.now }
 {
     let from = container.f5 as usize;
     let count = container.f6 as usize;
     if named.len() / ImageView::TEXT_ENTRY_BYTES < from + count {
-        return Found::NotFound;
+        return None;
     }
-    match find(named, strings, from, count, name) {
-        Place::Nowhere => Found::NotFound,
-        Place::At(j) => Found::Node(image::part_word(
-            named,
-            (from + j) * ImageView::TEXT_ENTRY_WORDS + 2,
-        )),
-    }
+    let j = find(named, strings, from, count, name)?;
+    Some(image::part_word(named, (from + j) * ImageView::TEXT_ENTRY_WORDS + 2))
 }
 
 // The named child of a container that bears the name.
-pub fn find_named_child(bytes: &[u8], view: ImageView, id: u32, name: &[u8]) -> Found
+pub fn find_named_child(bytes: &[u8], view: ImageView, id: u32, name: &[u8]) -> Option<u32>
     ensures { result ≡ find_named (sections_by bytes.now view) id name.now }
 {
-    match container_of(bytes, view, id) {
-        RecordFound::NotFound => Found::NotFound,
-        RecordFound::Record(container) => named_by(
-            container,
-            image::section_part(bytes, view.named, ImageView::NAMED_SIZE),
-            image::section_part(bytes, view.strings, ImageView::STRINGS_SIZE),
-            name,
-        ),
-    }
+    let container = container_of(bytes, view, id)?;
+    named_by(
+        container,
+        image::section_part(bytes, view.named, ImageView::NAMED_SIZE),
+        image::section_part(bytes, view.strings, ImageView::STRINGS_SIZE),
+        name,
+    )
 }

@@ -1,15 +1,14 @@
 -- The number of a text in a list of names: its place, where the names are distinct.
+use Rattle.std.specs.Prelude.{None, Option, Some, option_map, is_some}
 use Prim.Native.Nat.{ℕ, zero, suc, ◌<◌}
 use mathlib.Core.Path.{◌≡◌, refl, sym}
 use mathlib.Core.List.{List, [], ◌∷◌}
 use mathlib.Core.Bool.{Bool, true, false, cond, not, ◌&&◌, ◌||◌, false≢true}
-use mathlib.Core.Option.{Option, none, some, map}
 use native.Mathlib.Omega.{arith}
 use native.Mathlib.Nat.{not-suc-le-zero, le_of_suc-le-suc}
 use lib.ListN.{length, get_or}
-use Rattle.laws.specs.Lists.{is_some}
 use Rattle.texts.specs.Text.{same, holds}
-use Rattle.texts.proofs.Text.{same_self, same-equal, same-turned, same-unlike}
+use Rattle.texts.proofs.Text.{same_self, same-equal, equal-same, same-turned}
 use Rattle.names.specs.Names.{number_in}
 
 -- no name stands twice
@@ -23,15 +22,15 @@ pub record Placed (names : List (List ℕ)) (t : List ℕ) (k : ℕ) : Type 0 wh
   pub text : t ≡ get_or names k []
 
 -- a number is the place of the text
-pub number-placed : (names : List (List ℕ)) (t : List ℕ) (k : ℕ) → number_in names t ≡ some k → Placed names t k
+pub number-placed : (names : List (List ℕ)) (t : List ℕ) (k : ℕ) → number_in names t ≡ Some k → Placed names t k
 unfolding number_in
 number-placed [] t k p = absurd (let z : ◌≡◌ {A = ℕ} 0 1 = cc in omega arith)
 number-placed (x ∷ xs) t k p = by (same t x) refl (number_in xs t) (number-placed xs t) p
   where
-    by : (b : Bool) → same t x ≡ b → (o : Option ℕ) → ((j : ℕ) → o ≡ some j → Placed xs t j) → cond b (some 0) (map suc o) ≡ some k → Placed (x ∷ xs) t k
+    by : (b : Bool) → same t x ≡ b → (o : Option ℕ) → ((j : ℕ) → o ≡ Some j → Placed xs t j) → cond b (Some 0) (option_map suc o) ≡ Some k → Placed (x ∷ xs) t k
     by true e o r q = let z : k ≡ 0 = cc in rw z (record { below = omega arith; text = same-equal t x e })
-    by false e none r q = absurd (let z : ◌≡◌ {A = ℕ} 0 1 = cc in omega arith)
-    by false e (some j) r q = let z : k ≡ suc j = cc in let w = r j refl in rw z (record { below = omega arith; text = w.text })
+    by false e None r q = absurd (let z : ◌≡◌ {A = ℕ} 0 1 = cc in omega arith)
+    by false e (Some j) r q = let z : k ≡ suc j = cc in let w = r j refl in rw z (record { below = omega arith; text = w.text })
 
 -- what is not held is not at any place
 not-held : (names : List (List ℕ)) (t : List ℕ) → holds names t ≡ false → (k : ℕ) → k < length names → same t (get_or names k []) ≡ false
@@ -49,14 +48,14 @@ not-held (x ∷ xs) t p (suc k) h = not-held xs t (by (same t x) (holds xs t) p)
     by false b q = q
 
 -- each of distinct names has its place for its number
-pub place-number : (names : List (List ℕ)) → distinct names ≡ true → (k : ℕ) → k < length names → number_in names (get_or names k []) ≡ some k
+pub place-number : (names : List (List ℕ)) → distinct names ≡ true → (k : ℕ) → k < length names → number_in names (get_or names k []) ≡ Some k
 unfolding number_in distinct
 place-number [] p k h = absurd (not-suc-le-zero h)
 place-number (x ∷ xs) p zero h = rw (same_self x)
 place-number (x ∷ xs) p (suc k) h = by (holds xs x) refl p (λ q. place-number xs q k (le_of_suc-le-suc h))
   where
-    by : (b : Bool) → holds xs x ≡ b → (not b && distinct xs) ≡ true → (distinct xs ≡ true → number_in xs (get_or xs k []) ≡ some k)
-        → cond (same (get_or xs k []) x) (some 0) (map suc (number_in xs (get_or xs k []))) ≡ some (suc k)
+    by : (b : Bool) → holds xs x ≡ b → (not b && distinct xs) ≡ true → (distinct xs ≡ true → number_in xs (get_or xs k []) ≡ Some k)
+        → cond (same (get_or xs k []) x) (Some 0) (option_map suc (number_in xs (get_or xs k []))) ≡ Some (suc k)
     by true e q r = absurd (false≢true q)
     by false e q r = rw (same-turned x (get_or xs k []), not-held xs x e k (le_of_suc-le-suc h), r q)
 
@@ -66,24 +65,23 @@ unfolding number_in holds
 number-held [] t = refl
 number-held (x ∷ xs) t = by (same t x) (number_in xs t) (number-held xs t)
   where
-    by : (b : Bool) (o : Option ℕ) → holds xs t ≡ is_some o → (b || holds xs t) ≡ is_some (cond b (some 0) (map suc o))
+    by : (b : Bool) (o : Option ℕ) → holds xs t ≡ is_some o → (b || holds xs t) ≡ is_some (cond b (Some 0) (option_map suc o))
     by true o r = refl
-    by false none r = r
-    by false (some j) r = r
+    by false None r = r
+    by false (Some j) r = r
 
--- the text is the one that it was compared with
-pub compared_yes : (names : List (List ℕ)) → distinct names ≡ true → (t : List ℕ) (k : ℕ) → k < length names → same t (get_or names k []) ≡ true
-    → number_in names t ≡ some k
-compared_yes names p t k h e = rw (same-equal t (get_or names k []) e) (place-number names p k h)
-
--- it can be none but the one that it was compared with, and is not
-pub compared_no : (names : List (List ℕ)) (t : List ℕ) (k : ℕ) → ((j : ℕ) → j < length names → t ≡ get_or names j [] → k ≡ j)
-    → same t (get_or names k []) ≡ false → number_in names t ≡ none
-compared_no names t k only e = by (number_in names t) refl
+-- and so has the text of a place
+pub held-number : (names : List (List ℕ)) (t : List ℕ) (k : ℕ) → k < length names → t ≡ get_or names k [] → number_in names t ≡ None → ⊥
+unfolding number_in
+held-number [] t k h e p = not-suc-le-zero h
+held-number (x ∷ xs) t zero h e p = by (same t x) (equal-same t x e) p
   where
-    by : (o : Option ℕ) → number_in names t ≡ o → o ≡ none
-    by none p = refl
-    by (some j) p =
-        let w = number-placed names t j p in
-        let m = only j w.below w.text in
-        absurd (same-unlike t (get_or names k []) e (rw m w.text))
+    by : (b : Bool) → b ≡ true → cond b (Some 0) (option_map suc (number_in xs t)) ≡ None → ⊥
+    by true q r = let z : ◌≡◌ {A = ℕ} 0 1 = cc in omega arith
+    by false q r = false≢true q
+held-number (x ∷ xs) t (suc k) h e p = by (same t x) (number_in xs t) (held-number xs t k (le_of_suc-le-suc h) e) p
+  where
+    by : (b : Bool) (o : Option ℕ) → (o ≡ None → ⊥) → cond b (Some 0) (option_map suc o) ≡ None → ⊥
+    by true o r q = let z : ◌≡◌ {A = ℕ} 0 1 = cc in omega arith
+    by false None r q = r refl
+    by false (Some j) r q = let z : ◌≡◌ {A = ℕ} 0 1 = cc in omega arith

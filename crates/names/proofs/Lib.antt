@@ -1,9 +1,7 @@
 pub mod Distinct
 pub mod Numbers
 pub mod Spellings
-pub mod Copies
-pub mod PackedNames
-pub mod Parts
+pub mod Tables
 pub mod Hashes
 pub mod Commands
 pub mod Operators

@@ -1,8 +1,8 @@
 -- A name as it is handed back.
+use Rattle.std.specs.Prelude.{Some}
 use Prim.Native.Nat.{ℕ, ◌-◌}
 use mathlib.Core.Path.{◌≡◌, sym, ◌∙◌}
 use mathlib.Core.List.{List}
-use mathlib.Core.Option.{some}
 use lib.ListN.{length, replicate}
 use lib.Seq.{take-append_seam}
 use Rattle.names.specs.Names.{number_in}
@@ -15,9 +15,9 @@ name-spelled t = take-append_seam t (replicate (11 - length t) 0)
 
 module _ {A : Type 0} {number : A → ℕ} {kinds : List A} {names : List (List ℕ)} (n : Numbered number kinds names) where
   -- what is handed back for a kind is a known name, the kind's own
-  pub spelled-number : (a : A) → number_in names (spelled (name_of (name_in number names a))) ≡ some (number a)
+  pub spelled-number : (a : A) → number_in names (spelled (name_of (name_in number names a))) ≡ Some (number a)
   spelled-number a = rw (name-spelled (name_in number names a)) (name-number n a)
 
   -- a text that names a kind is spelt as it was
-  pub spelled-text : (t : List ℕ) (a : A) → element_named kinds names t ≡ some a → spelled (name_of (name_in number names a)) ≡ t
+  pub spelled-text : (t : List ℕ) (a : A) → element_named kinds names t ≡ Some a → spelled (name_of (name_in number names a)) ≡ t
   spelled-text t a p = name-spelled (name_in number names a) ∙ sym (named-text n t a p)

@@ -1,12 +1,9 @@
 -- The commands, numbered in the order of their names.
-use Rattle.std.specs.Prelude.{ℕ, List, [], ◌∷◌}
-use Rattle.std.proofs.Math.Option.{Option, none, some}
+use Rattle.std.specs.Prelude.{ℕ, List, [], ◌∷◌, Option}
 use Rattle.names.specs.Names.{commands}
 use Rattle.names.specs.Spelling.{element_named}
 use Rattle.names.specs.declared.control_command.CommandType.{CommandType}
 use Rattle.names.specs.declared.control_command.CommandType.TheVariants.{EvalStart, EvalOutput, EvalEnd, Duplicate, PopEvaluatedValue, PopFunction, PopTunnel, BeginString, EndString, NoOp, ChoiceCount, Turns, TurnsSince, ReadCount, Random, SeedRandom, VisitIndex, SequenceShuffleIndex, StartThread, Done, End, ListFromInt, ListRange, ListRandom, BeginTag, EndTag}
-use Rattle.names.specs.declared.control_command.Command.{Command}
-use Rattle.names.specs.declared.control_command.Command.TheVariants.{Known, Unknown}
 
 -- the place of the command's name in the list
 abbrev pub command_number : CommandType → ℕ
@@ -43,11 +40,6 @@ command_types =
     EvalStart ∷ EvalOutput ∷ EvalEnd ∷ Duplicate ∷ PopEvaluatedValue ∷ PopFunction ∷ PopTunnel ∷ BeginString ∷ EndString ∷ NoOp ∷ ChoiceCount ∷ Turns
     ∷ TurnsSince ∷ ReadCount ∷ Random ∷ SeedRandom ∷ VisitIndex ∷ SequenceShuffleIndex ∷ StartThread ∷ Done ∷ End ∷ ListFromInt ∷ ListRange
     ∷ ListRandom ∷ BeginTag ∷ EndTag ∷ []
-
--- what an answer says
-abbrev pub known_command : Command → Option CommandType
-known_command (Known c) = some c
-known_command Unknown = none
 
 -- the command that a text names
 abbrev pub command_named : List ℕ → Option CommandType

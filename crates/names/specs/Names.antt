@@ -1,6 +1,5 @@
 -- The names of the 26 commands and the 31 operators; a name's number is its place in the list.
-use Rattle.std.specs.Prelude.{ℕ, suc, List, [], ◌∷◌, cond}
-use Rattle.std.proofs.Math.Option.{Option, none, some, map}
+use Rattle.std.specs.Prelude.{ℕ, suc, List, [], ◌∷◌, cond, None, Option, Some, option_map}
 use Rattle.texts.specs.Text.{ascii, same, texts}
 
 unfoldable pub commands : List (List ℕ)
@@ -18,8 +17,8 @@ operators =
 
 -- the number of a text, where it is one of the list's
 unfoldable pub number_in : List (List ℕ) → List ℕ → Option ℕ
-number_in [] t = none
-number_in (x ∷ xs) t = let r = map suc (number_in xs t) in cond (same t x) (some 0) r
+number_in [] t = None
+number_in (x ∷ xs) t = let r = option_map suc (number_in xs t) in cond (same t x) (Some 0) r
 
 -- names on an `unfolding` line what a computation with this module needs
 unfoldable pub names : Unit {0}

@@ -1,12 +1,9 @@
 -- The operators, numbered in the order of their names.
-use Rattle.std.specs.Prelude.{ℕ, List, [], ◌∷◌}
-use Rattle.std.proofs.Math.Option.{Option, none, some}
+use Rattle.std.specs.Prelude.{ℕ, List, [], ◌∷◌, Option}
 use Rattle.names.specs.Names.{operators}
 use Rattle.names.specs.Spelling.{element_named}
 use Rattle.names.specs.declared.native_function_call.Op.{Op}
 use Rattle.names.specs.declared.native_function_call.Op.TheVariants.{Add, Subtract, Divide, Multiply, Mod, Negate, Equal, Greater, Less, GreaterThanOrEquals, LessThanOrEquals, NotEquals, Not, And, Or, Min, Max, Pow, Floor, Ceiling, Int, Float, Has, Hasnt, Intersect, ListMin, ListMax, All, Count, ValueOfList, Invert}
-use Rattle.names.specs.declared.native_function_call.Operator.{Operator}
-use Rattle.names.specs.declared.native_function_call.Operator.TheVariants.{Known, Unknown}
 
 -- the place of the operator's name in the list
 abbrev pub operator_number : Op → ℕ
@@ -47,11 +44,6 @@ unfoldable pub ops : List Op
 ops =
     Add ∷ Subtract ∷ Divide ∷ Multiply ∷ Mod ∷ Negate ∷ Equal ∷ Greater ∷ Less ∷ GreaterThanOrEquals ∷ LessThanOrEquals ∷ NotEquals ∷ Not ∷ And ∷ Or
     ∷ Min ∷ Max ∷ Pow ∷ Floor ∷ Ceiling ∷ Int ∷ Float ∷ Has ∷ Hasnt ∷ Intersect ∷ ListMin ∷ ListMax ∷ All ∷ Count ∷ ValueOfList ∷ Invert ∷ []
-
--- what an answer says
-abbrev pub known_operator : Operator → Option Op
-known_operator (Known c) = some c
-known_operator Unknown = none
 
 -- the operator that a text names
 abbrev pub operator_named : List ℕ → Option Op

@@ -1,15 +1,7 @@
 -- A name as the code hands it back; what a name or a number stands for; the hash of a text.
-use Rattle.std.specs.Prelude.{ℕ, zero, suc, ◌+◌, ◌-◌, ◌*◌, ◌%◌, List, [], ◌∷◌, ◌++◌, length, get_or, take, replicate}
-use Rattle.std.proofs.Math.Option.{Option, none, some}
+use Rattle.std.specs.Prelude.{ℕ, zero, suc, ◌+◌, ◌-◌, ◌*◌, ◌%◌, List, [], ◌∷◌, ◌++◌, length, get_or, take, replicate, None, Option, Some}
 use Rattle.names.specs.Names.{number_in}
 use Rattle.names.specs.declared.Name.{Name}
-use Rattle.names.specs.declared.Number.{Number}
-use Rattle.names.specs.declared.Number.TheVariants.{Known, Unknown}
-
--- what an answer says
-abbrev pub numbered : Number → Option ℕ
-numbered (Known k) = some k
-numbered Unknown = none
 
 -- the longest name, LIST_INVERT, has 11 bytes
 abbrev pub name_of : List ℕ → Name
@@ -20,13 +12,13 @@ spelled n = take n.len n.bytes
 
 -- the element at a place, where there is one
 unfoldable pub element_at : {A : Type 0} → List A → ℕ → Option A
-element_at [] k = none
-element_at (x ∷ xs) zero = some x
+element_at [] k = None
+element_at (x ∷ xs) zero = Some x
 element_at (x ∷ xs) (suc k) = element_at xs k
 
 abbrev pub element_of : {A : Type 0} → List A → Option ℕ → Option A
-element_of xs none = none
-element_of xs (some k) = element_at xs k
+element_of xs None = None
+element_of xs (Some k) = element_at xs k
 
 -- of the kinds, which the names name in order, the one that the text names
 unfoldable pub element_named : {A : Type 0} → List A → List (List ℕ) → List ℕ → Option A

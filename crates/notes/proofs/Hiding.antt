@@ -1,4 +1,5 @@
 -- The technician's view with notes as void, case by case.
+use Rattle.std.specs.Prelude.{None, Option, Some}
 use Prim.Native.Nat.{ℕ, ◌≤◌, ◌<◌}
 use mathlib.Core.Path.{◌≡◌, refl, sym, ap, ◌∙◌}
 use mathlib.Core.List.{List, [], ◌∷◌}
@@ -15,8 +16,6 @@ use Rattle.image.specs.Sections.{Sections}
 use Rattle.views.specs.declared.NodeKindView.{NodeKindView}
 use Rattle.views.specs.declared.NodeKindView.TheVariants as kind
 use Rattle.views.specs.declared.NodeView.{NodeView}
-use Rattle.views.specs.declared.NodeAnswer.{NodeAnswer}
-use Rattle.views.specs.declared.NodeAnswer.TheVariants as node
 use Rattle.views.specs.View.{node_view}
 use Rattle.notes.specs.Notes.{note_prefix, is_note, note_kind, note_in, note_at, hide_note, hide_in, hidden}
 
@@ -52,36 +51,36 @@ module _ (strings : List ℕ) (k : NodeKindView) (b : Bool) (e : b ≡ note_kind
   pub other-kept : b ≡ false → k ≡ hide_note strings k
   other-kept h = ap (λ (x : Bool). cond x kind.Void k) (sym h ∙ e)
 
-module _ (s : Sections) (i : ℕ) (a : NodeAnswer) where
-  pub hidden-missing : a ≡ node_view s i → a ≡ node.NotFound → node.NotFound ≡ hidden s i
+module _ (s : Sections) (i : ℕ) (a : Option NodeView) where
+  pub hidden-missing : a ≡ node_view s i → a ≡ None → None ≡ hidden s i
   unfolding hidden
   hidden-missing e h = rw (← e, h) refl
 
-  pub hidden-there : a ≡ node_view s i → (v : NodeView) → a ≡ node.View v → (strings : List ℕ) → strings ≡ s.strings → (k : NodeKindView)
-      → k ≡ hide_note strings v.kind → node.View (record { parent = v.parent; child_index = v.child_index; kind = k }) ≡ hidden s i
+  pub hidden-there : a ≡ node_view s i → (v : NodeView) → a ≡ Some v → (strings : List ℕ) → strings ≡ s.strings → (k : NodeKindView)
+      → k ≡ hide_note strings v.kind → Some (record { parent = v.parent; child_index = v.child_index; kind = k }) ≡ hidden s i
   unfolding hidden
   hidden-there e v h strings q k z = rw (← e, h, z, q) refl
 
 -- ---- a note, and any other node
 
 -- the answer with its kind as void
-abbrev pub voided : NodeAnswer → NodeAnswer
-voided (node.View v) = node.View (record { parent = v.parent; child_index = v.child_index; kind = kind.Void })
-voided node.NotFound = node.NotFound
+abbrev pub voided : Option NodeView → Option NodeView
+voided (Some v) = Some (record { parent = v.parent; child_index = v.child_index; kind = kind.Void })
+voided None = None
 
 module _ (s : Sections) (i : ℕ) where
   pub hidden-note : note_at s i ≡ true → hidden s i ≡ voided (node_view s i)
   unfolding note_at hidden
   hidden-note h = by (node_view s i) h
     where
-      by : (a : NodeAnswer) → note_in s.strings a ≡ true → hide_in s.strings a ≡ voided a
-      by (node.View v) e = rw e refl
-      by node.NotFound e = refl
+      by : (a : Option NodeView) → note_in s.strings a ≡ true → hide_in s.strings a ≡ voided a
+      by (Some v) e = rw e refl
+      by None e = refl
 
   pub hidden-other : note_at s i ≡ false → hidden s i ≡ node_view s i
   unfolding note_at hidden
   hidden-other h = by (node_view s i) h
     where
-      by : (a : NodeAnswer) → note_in s.strings a ≡ false → hide_in s.strings a ≡ a
-      by (node.View v) e = rw e refl
-      by node.NotFound e = refl
+      by : (a : Option NodeView) → note_in s.strings a ≡ false → hide_in s.strings a ≡ a
+      by (Some v) e = rw e refl
+      by None e = refl

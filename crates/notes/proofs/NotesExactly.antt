@@ -1,4 +1,5 @@
 -- A node is a note exactly if the technician's reader shows it as a tag whose text is `tech:` and a rest.
+use Rattle.std.specs.Prelude.{None, Option, Some}
 use Prim.Native.Nat.{ℕ}
 use mathlib.Core.Path.{◌≡◌, refl, sym, ap, ◌∙◌}
 use mathlib.Core.List.{List, ◌++◌}
@@ -9,11 +10,10 @@ use Rattle.texts.proofs.Text.{same-equal, equal-same}
 use Rattle.image.specs.Sections.{Sections, text_or_empty}
 use Rattle.views.specs.declared.NodeKindView.{NodeKindView}
 use Rattle.views.specs.declared.NodeKindView.TheVariants as kind
-use Rattle.views.specs.declared.NodeAnswer.{NodeAnswer}
-use Rattle.views.specs.declared.NodeAnswer.TheVariants as node
 use Rattle.views.specs.View.{node_view}
 use Rattle.notes.specs.Notes.{note_prefix, is_note, note_kind, note_in, note_at}
 use Rattle.notes.specs.Promised.{TechnicianNote, NoteExactly}
+use Rattle.views.specs.declared.NodeView.{NodeView}
 
 note-begins : (t : List ℕ) → is_note t ≡ true → t ≡ note_prefix ++ drop (length note_prefix) t
 unfolding is_note
@@ -24,9 +24,9 @@ unfolding is_note
 begins-note t rest e = equal-same (take (length note_prefix) t) note_prefix (ap (take (length note_prefix)) e ∙ take-append_seam note_prefix rest)
 
 module _ (s : Sections) (i : ℕ) where
-  note_in_lem : (a : NodeAnswer) → node_view s i ≡ a → note_in s.strings a ≡ true → TechnicianNote s i
-  note_in_lem node.NotFound e h = absurd (true≢false (sym h))
-  note_in_lem (node.View v) e h = by v.kind refl h
+  note_in_lem : (a : Option NodeView) → node_view s i ≡ a → note_in s.strings a ≡ true → TechnicianNote s i
+  note_in_lem None e h = absurd (true≢false (sym h))
+  note_in_lem (Some v) e h = by v.kind refl h
     where
       by : (k : NodeKindView) → v.kind ≡ k → note_kind s.strings k ≡ true → TechnicianNote s i
       by (kind.Container flags name) q z = absurd (true≢false (sym z))

@@ -1,4 +1,5 @@
 -- Which records have a kind, by the tag's number.
+use Rattle.std.specs.Prelude.{None, Option}
 use Prim.Native.Nat.{ℕ, ◌+◌, ◌/◌, ◌≤◌}
 use mathlib.Core.Path.{◌≡◌, refl, sym, ap, ◌∙◌}
 use mathlib.Core.Logic.{◌⊎◌}
@@ -9,23 +10,22 @@ use lib.Dec.{leb, eqb}
 use Rattle.image.specs.declared.NodeRecord.{NodeRecord}
 use Rattle.image.specs.Sections.{text_or_empty}
 use Rattle.records.specs.Fields.{kinds, kind_of}
-use Rattle.views.specs.declared.KindAnswer.{KindAnswer}
-use Rattle.views.specs.declared.KindAnswer.TheVariants as kindly
 use Rattle.views.specs.View.{span, shown, with_text, kind_view}
 use Rattle.views.specs.Shown.{with_name, text_kind}
 use Rattle.views.proofs.Tags.{at_unknown}
 use Rattle.pages.specs.Viewed.{has_kind, fits_tag, text_fits}
+use Rattle.views.specs.declared.NodeKindView.{NodeKindView}
 
 -- a kind that is chosen
-kind_if : (b : Bool) (x y : KindAnswer) (c : Bool) → has_kind y ≡ c → has_kind (cond b x y) ≡ cond b (has_kind x) c
+kind_if : (b : Bool) (x y : Option NodeKindView) (c : Bool) → has_kind y ≡ c → has_kind (cond b x y) ≡ cond b (has_kind x) c
 kind_if true x y c h = refl
 kind_if false x y c h = h
 
-either : (b : Bool) (x y : KindAnswer) → has_kind x ≡ true → has_kind y ≡ true → has_kind (cond b x y) ≡ true
+either : (b : Bool) (x y : Option NodeKindView) → has_kind x ≡ true → has_kind y ≡ true → has_kind (cond b x y) ≡ true
 either true x y h k = h
 either false x y h k = k
 
-told_if : (b : Bool) (k : KindAnswer) → has_kind k ≡ true → b ≡ has_kind (cond b k kindly.NotFound)
+told_if : (b : Bool) (k : Option NodeKindView) → has_kind k ≡ true → b ≡ has_kind (cond b k None)
 told_if true k h = sym h
 told_if false k h = refl
 
@@ -65,7 +65,7 @@ module _ (strings : List ℕ) (payload : ℕ) (r : NodeRecord) where
   unfolding text_kind with_text text_fits
   text_has t = by (shown (length strings) r.f0 r.f1)
     where
-      by : (b : Bool) → has_kind (cond b (with_name t strings r (span r.f0 r.f1)) kindly.NotFound) ≡ cond b (fits_tag t (text_or_empty strings r.f0 r.f1)) false
+      by : (b : Bool) → has_kind (cond b (with_name t strings r (span r.f0 r.f1)) None) ≡ cond b (fits_tag t (text_or_empty strings r.f0 r.f1)) false
       by true = named-fits t
       by false = refl
 

@@ -1,57 +1,54 @@
 -- Slots: their words, their views, and each at its place in a page.
+use Rattle.std.specs.Prelude.{None, Option, Some}
 use Prim.Native.Nat.{ℕ, ◌+◌, ◌*◌, ◌-◌, ◌/◌, ◌≤◌, ◌<◌}
 use mathlib.Core.Path.{◌≡◌, refl, sym, ap, ◌∙◌}
-use mathlib.Core.List.{List, [], ◌∷◌, ◌++◌}
+use mathlib.Core.List.{List, ◌++◌}
 use mathlib.Core.Bool.{Bool, true, false, cond, false≢true}
 use native.Mathlib.Omega.{arith}
 use native.Mathlib.Decide.{dec_lt}
 use lib.ListN.{length, get_or, take, drop}
-use lib.Seq.{drop_at, sets, sets-eq}
+use lib.Seq.{drop_at}
 use borrow.Author.Tests.{le-leb, lt-leb}
 use borrow.Rule.Slice.PartMut.{put_mid}
 use Rattle.laws.specs.Refusal.{unless}
 use Rattle.laws.specs.Lists.{flat_map}
-use Rattle.laws.specs.Counted.{join_of}
-use Rattle.laws.proofs.Slots.{join_flat, words-joined, join_length, flat_piece}
+use Rattle.laws.proofs.Slots.{join_flat, join_length, flat_piece}
 use Rattle.words.proofs.SlotLoop.{SlotsSoFar, slots-start, slots-next-part, slots_end}
 use Rattle.image.specs.declared.NodeRecord.{NodeRecord}
 use Rattle.image.specs.Sections.{Sections, common_words, inside}
 use Rattle.image.specs.Entries.{node_in}
 use Rattle.records.specs.Fields.{kinds, kind_of}
-use Rattle.views.specs.declared.KindAnswer.{KindAnswer}
-use Rattle.views.specs.declared.KindAnswer.TheVariants as kindly
 use Rattle.views.specs.declared.NodeView.{NodeView}
-use Rattle.views.specs.declared.NodeAnswer.{NodeAnswer}
-use Rattle.views.specs.declared.NodeAnswer.TheVariants as node
 use Rattle.views.specs.View.{kind_view, with_kind, record_view, node_view}
 use Rattle.views.specs.Answers.{of_node}
 use Rattle.views.proofs.Given.{node-refused}
 use Rattle.pages.specs.Viewed.{has_kind}
 use Rattle.pages.specs.Page.{slot_words, node_slot, no_slot, slot_by, slot_of, page_rule, page_after, slot_record, view_of_record, slot_view, SlotViews, SlotTag, PageSlots, PagesWritten}
+use Rattle.views.specs.declared.NodeKindView.{NodeKindView}
 
-apart : (v : NodeView) → node.NotFound ≡ node.View v → ⊥
+apart : (v : NodeView) → None ≡ Some v → ⊥
 apart v h = let z : ◌≡◌ {A = ℕ} 0 1 = cc in omega arith
 
 -- ---- a slot by what `node_view` answers
 
 module _ (s : Sections) (i : ℕ) where
-  pub slot-missing : node.NotFound ≡ node_view s i → no_slot ≡ slot_of s i
+  pub slot-missing : None ≡ node_view s i → no_slot ≡ slot_of s i
   unfolding slot_of
   slot-missing h = rw (← h)
 
-  pub slot-found : (v : NodeView) → node.View v ≡ node_view s i → (x : NodeRecord) → x ≡ node_in s i → node_slot x ≡ slot_of s i
+  pub slot-found : (v : NodeView) → Some v ≡ node_view s i → (x : NodeRecord) → x ≡ node_in s i → node_slot x ≡ slot_of s i
   unfolding slot_of
   slot-found v h x e = rw (← h) (ap node_slot e)
 
-  kind-slot : (strings : List ℕ) (payload : ℕ) (x : NodeRecord) (k : KindAnswer) → with_kind strings payload x k ≡ node_view s i → x ≡ node_in s i
+  kind-slot : (strings : List ℕ) (payload : ℕ) (x : NodeRecord) (k : Option NodeKindView) → with_kind strings payload x k ≡ node_view s i → x ≡ node_in s i
       → has_kind k ≡ true → node_slot x ≡ slot_of s i
-  kind-slot strings payload x (kindly.Kind w) e q h = slot-found _ e x q
-  kind-slot strings payload x kindly.NotFound e q h = absurd (false≢true h)
+  kind-slot strings payload x (Some w) e q h = slot-found _ e x q
+  kind-slot strings payload x None e q h = absurd (false≢true h)
 
-  kindless_slot : (strings : List ℕ) (payload : ℕ) (x : NodeRecord) (k : KindAnswer) → with_kind strings payload x k ≡ node_view s i → has_kind k ≡ false
+  kindless_slot : (strings : List ℕ) (payload : ℕ) (x : NodeRecord) (k : Option NodeKindView) → with_kind strings payload x k ≡ node_view s i → has_kind k ≡ false
       → no_slot ≡ slot_of s i
-  kindless_slot strings payload x (kindly.Kind w) e h = absurd (false≢true (sym h))
-  kindless_slot strings payload x kindly.NotFound e h = slot-missing e
+  kindless_slot strings payload x (Some w) e h = absurd (false≢true (sym h))
+  kindless_slot strings payload x None e h = slot-missing e
 
   -- by the record of a node, and whether it has a kind
   module _ (strings : List ℕ) (payload : ℕ) (x : NodeRecord) (e : record_view strings payload x ≡ node_view s i) (b : Bool)
@@ -64,9 +61,9 @@ module _ (s : Sections) (i : ℕ) where
     unfolding record_view
     viewless_slot t = kindless_slot strings payload x (kind_view strings payload x (kind_of x.tag)) e (sym h ∙ t)
 
-by_length : (a : NodeAnswer) (r : NodeRecord) → length (slot_by a r) ≡ slot_words
-by_length (node.View v) r = refl
-by_length node.NotFound r = refl
+by_length : (a : Option NodeView) (r : NodeRecord) → length (slot_by a r) ≡ slot_words
+by_length (Some v) r = refl
+by_length None r = refl
 
 pub slot-length : (s : Sections) (i : ℕ) → length (slot_of s i) ≡ slot_words
 unfolding slot_of
@@ -82,42 +79,15 @@ module _ (s : Sections) (i : ℕ) (out slot now : List ℕ) (e : slot ≡ slot_o
   slot_again first mid l m h =
       slot-over (h ∙ ap (λ (z : List ℕ). slot ++ z) (ap (drop slot_words) m ∙ drop_at first (drop slot_words out) slot_words l))
 
--- ---- a slot written word by word
-
--- a slot is its twelve words
-abbrev pub twelve : List ℕ → List ℕ
-twelve slot =
-    get_or slot 0 0
-    ∷ get_or slot 1 0
-    ∷ get_or slot 2 0
-    ∷ get_or slot 3 0
-    ∷ get_or slot 4 0
-    ∷ get_or slot 5 0
-    ∷ get_or slot 6 0
-    ∷ get_or slot 7 0
-    ∷ get_or slot 8 0
-    ∷ get_or slot 9 0
-    ∷ get_or slot 10 0
-    ∷ get_or slot 11 0
-    ∷ []
-
-twelve_is : (slot : List ℕ) → length slot ≡ slot_words → twelve slot ≡ slot
-unfolding join_of
-twelve_is slot e = ap (λ (n : ℕ). join_of n (λ j. get_or slot j 0 ∷ [])) (sym e) ∙ words-joined slot
-
-pub slot_put : (out slot : List ℕ) → length slot ≡ slot_words → slot_words ≤ length out → sets out 0 (twelve slot) ≡ slot ++ drop slot_words out
-slot_put out slot e h =
-    sets-eq (twelve slot) out 0 h ∙ ap (λ (x : List ℕ). x ++ drop slot_words out) (twelve_is slot e)
-
 -- ---- the view of a slot's words
 
 -- a record beside the payload and strings of sections
 pub record_viewed : (s : Sections) (r : NodeRecord) (payload : ℕ) (strings : List ℕ) → length s.payload ≡ payload → s.strings ≡ strings
-    → (a : NodeAnswer) → a ≡ record_view strings payload r → a ≡ view_of_record s r
+    → (a : Option NodeView) → a ≡ record_view strings payload r → a ≡ view_of_record s r
 record_viewed s r payload strings p q a e = e ∙ λ j. record_view (sym q j) (sym p j) r
 
 module _ (s : Sections) (slot : List ℕ) where
-  pub slot-short : length slot < common_words → node.NotFound ≡ slot_view s slot
+  pub slot-short : length slot < common_words → None ≡ slot_view s slot
   unfolding slot_view
   slot-short h = rw (lt-leb common_words (length slot) h)
 
@@ -126,16 +96,16 @@ module _ (s : Sections) (slot : List ℕ) where
   slot-viewed h r e = rw (le-leb common_words (length slot) h) (ap (view_of_record s) e)
 
 -- a record with tag 0 has no view
-tag_none : (s : Sections) (r : NodeRecord) → r.tag ≡ 0 → view_of_record s r ≡ node.NotFound
+tag_none : (s : Sections) (r : NodeRecord) → r.tag ≡ 0 → view_of_record s r ≡ None
 unfolding record_view kind_view kinds
 tag_none s r e = rw e
 
 -- a node that has a view is inside
-seen : (b : Bool) (a : NodeAnswer) (v : NodeView) → cond b a node.NotFound ≡ node.View v → a ≡ node.View v
+seen : (b : Bool) (a : Option NodeView) (v : NodeView) → cond b a None ≡ Some v → a ≡ Some v
 seen true a v h = h
 seen false a v h = absurd (apart v h)
 
-node_seen : (s : Sections) (i : ℕ) (v : NodeView) → node_view s i ≡ node.View v → view_of_record s (node_in s i) ≡ node.View v
+node_seen : (s : Sections) (i : ℕ) (v : NodeView) → node_view s i ≡ Some v → view_of_record s (node_in s i) ≡ Some v
 unfolding node_view
 node_seen s i v h = seen (inside s i) (view_of_record s (node_in s i)) v h
 
@@ -143,17 +113,17 @@ pub slot-views : SlotViews
 unfolding slot_of slot_view
 slot-views s i = by (node_view s i) refl
   where
-    by : (a : NodeAnswer) → node_view s i ≡ a → slot_view s (slot_by a (node_in s i)) ≡ a
-    by (node.View v) h = node_seen s i v h
-    by node.NotFound h = unfold slot_view record_view kind_view kinds in refl
+    by : (a : Option NodeView) → node_view s i ≡ a → slot_view s (slot_by a (node_in s i)) ≡ a
+    by (Some v) h = node_seen s i v h
+    by None h = unfold slot_view record_view kind_view kinds in refl
 
 pub slot_tag : (s : Sections) (i : ℕ) → SlotTag s i
 unfolding slot_of
 slot_tag s i = record { none = λ h. rw (node-refused (node_view s i) h); zero = λ z. ap of_node (by (node_view s i) refl z) }
   where
-    by : (a : NodeAnswer) → node_view s i ≡ a → get_or (slot_by a (node_in s i)) 2 0 ≡ 0 → a ≡ node.NotFound
-    by (node.View v) h z = sym (node_seen s i v h) ∙ tag_none s (node_in s i) z
-    by node.NotFound h z = refl
+    by : (a : Option NodeView) → node_view s i ≡ a → get_or (slot_by a (node_in s i)) 2 0 ≡ 0 → a ≡ None
+    by (Some v) h z = sym (node_seen s i v h) ∙ tag_none s (node_in s i) z
+    by None h z = refl
 
 -- ---- the page
 

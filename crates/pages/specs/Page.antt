@@ -1,15 +1,14 @@
 -- A page of nodes: a slot of twelve words for each number; the view of a slot's words.
-use Rattle.std.specs.Prelude.{ℕ, ◌*◌, ◌<◌, ◌≡◌, List, [], ◌∷◌, ◌++◌, cond, length, get_or, take, drop, replicate, leb}
+use Rattle.std.specs.Prelude.{ℕ, ◌*◌, ◌<◌, ◌≡◌, List, [], ◌∷◌, ◌++◌, cond, length, get_or, take, drop, replicate, leb, None, Option, Some}
 use Rattle.laws.specs.Refusal.{unless, passes, refusals}
 use Rattle.laws.specs.Lists.{flat_map, lists}
 use Rattle.image.specs.declared.NodeRecord.{NodeRecord}
 use Rattle.image.specs.Refusals.{not_found, too_few_slots}
 use Rattle.image.specs.Sections.{Sections, common_words, sections}
 use Rattle.image.specs.Entries.{node_in}
-use Rattle.views.specs.declared.NodeAnswer.{NodeAnswer}
-use Rattle.views.specs.declared.NodeAnswer.TheVariants as node
 use Rattle.views.specs.View.{record_view, node_view, views}
 use Rattle.views.specs.Answers.{refused, of_node}
+use Rattle.views.specs.declared.NodeView.{NodeView}
 
 abbrev pub slot_words : ℕ
 slot_words = 12
@@ -26,9 +25,9 @@ abbrev pub no_slot : List ℕ
 no_slot = not_found ∷ replicate 11 0
 
 -- by what `node_view` answers
-abbrev pub slot_by : NodeAnswer → NodeRecord → List ℕ
-slot_by (node.View v) r = node_slot r
-slot_by node.NotFound r = no_slot
+abbrev pub slot_by : Option NodeView → NodeRecord → List ℕ
+slot_by (Some v) r = node_slot r
+slot_by None r = no_slot
 
 unfoldable pub slot_of : Sections → ℕ → List ℕ
 slot_of s i = slot_by (node_view s i) (node_in s i)
@@ -62,12 +61,12 @@ slot_record slot =
       f6 = get_or slot 9 0;
     }
 
-abbrev pub view_of_record : Sections → NodeRecord → NodeAnswer
+abbrev pub view_of_record : Sections → NodeRecord → Option NodeView
 view_of_record s r = record_view s.strings (length s.payload) r
 
 -- 18 under ten words
-unfoldable pub slot_view : Sections → List ℕ → NodeAnswer
-slot_view s slot = cond (leb common_words (length slot)) (view_of_record s (slot_record slot)) node.NotFound
+unfoldable pub slot_view : Sections → List ℕ → Option NodeView
+slot_view s slot = cond (leb common_words (length slot)) (view_of_record s (slot_record slot)) None
 
 -- ---- what is promised of it, of any sections
 

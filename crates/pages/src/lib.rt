@@ -6,13 +6,13 @@ mod viewed; // viewed.rt: whether a record has a view
 ghost use Rattle.std.specs.Prelude.{◌≡◌, ◌≤◌, ◌++◌, length, drop};
 ghost use Rattle.image.specs.Sections.{common_words};
 ghost use Rattle.image.specs.Header.{sections_by};
+ghost use Rattle.image.specs.Refusals.{refusal_in};
 ghost use Rattle.pages.specs.Page.{slot_words, node_slot, no_slot, slot_of, slot_record, slot_view, page_rule, page_after};
 
-use image::refusal::{NOT_FOUND, TOO_FEW_SLOTS};
+use image::refusal::Refusal;
 use image::{ImageView, NodeRecord};
 use viewed::has_kind;
-use views::NodeAnswer;
-use views::entries::RecordFound;
+use views::NodeView;
 
 // Words of a slot: those of a node, then two zeros.
 pub const SLOT_WORDS: usize = 12;
@@ -44,7 +44,7 @@ fn node_slot(node: NodeRecord) -> [u32; 12]
 fn no_slot() -> [u32; 12]
     ensures { result ≡ no_slot }
 {
-    [NOT_FOUND, 0, 0, 0, 0, 0, 0, 0, 0, 0, 0, 0]
+    [Refusal::NotFound.number(), 0, 0, 0, 0, 0, 0, 0, 0, 0, 0, 0]
 }
 
 // Writes a slot at the start of words that hold it.
@@ -52,18 +52,7 @@ fn put_words(slot: &[u32; 12], out: &mut [u32])
     requires { (length slot.now ≡ slot_words) × (slot_words ≤ length out.old) }
     ensures { out.new ≡ slot.now ++ drop slot_words out.old }
 {
-    out[0] = slot[0];
-    out[1] = slot[1];
-    out[2] = slot[2];
-    out[3] = slot[3];
-    out[4] = slot[4];
-    out[5] = slot[5];
-    out[6] = slot[6];
-    out[7] = slot[7];
-    out[8] = slot[8];
-    out[9] = slot[9];
-    out[10] = slot[10];
-    out[11] = slot[11];
+    out[..SLOT_WORDS].copy_from_slice(slot);
 }
 
 // Writes the slot of node `id` at the start of words that hold it. The node's words are copied first, all at once; that a node has no view
@@ -73,10 +62,10 @@ fn put_slot(bytes: &[u8], view: ImageView, id: u32, out: &mut [u32])
     ensures { out.new ≡ slot_of (sections_by bytes.now view) id ++ drop slot_words out.old }
 {
     match views::entries::node_of(bytes, view, id) {
-        RecordFound::NotFound => {
+        None => {
             put_words(&no_slot(), out);
         }
-        RecordFound::Record(node) => {
+        Some(node) => {
             put_words(&node_slot(node), out);
             let payload = image::section_part(bytes, view.payload, ImageView::PAYLOAD_SIZE);
             let strings = image::section_part(bytes, view.strings, ImageView::STRINGS_SIZE);
@@ -89,19 +78,22 @@ fn put_slot(bytes: &[u8], view: ImageView, id: u32, out: &mut [u32])
 
 // Writes the slot of each number, one behind the other; words after the last slot stay. 24, and nothing is written, where fewer than
 // twelve words a number are lent: that is tested before any node.
-pub fn page(bytes: &[u8], view: ImageView, numbers: &[u32], slots: &mut [u32]) -> u32
-    ensures answer { result ≡ page_rule (length numbers.now) (length slots.old) }
+pub fn page(
+    bytes: &[u8],
+    view: ImageView,
+    numbers: &[u32],
+    slots: &mut [u32],
+) -> Result<(), Refusal>
+    ensures answer { refusal_in result ≡ page_rule (length numbers.now) (length slots.old) }
     ensures written { slots.new ≡ page_after (sections_by bytes.now view) numbers.now slots.old }
 {
     if slots.len() / SLOT_WORDS < numbers.len() {
-        return TOO_FEW_SLOTS;
+        return Err(Refusal::TooFewSlots);
     }
-    let mut k = 0;
-    while k < numbers.len() {
-        put_slot(bytes, view, numbers[k], &mut slots[SLOT_WORDS * k..]);
-        k += 1;
+    for (k, number) in numbers.iter().enumerate() {
+        put_slot(bytes, view, *number, &mut slots[SLOT_WORDS * k..]);
     }
-    0
+    Ok(())
 }
 
 // The node that a slot's words are.
@@ -124,11 +116,11 @@ fn slot_record(slot: &[u32]) -> NodeRecord
 }
 
 // The view of a slot's words: of a slot that `page` wrote, what `node_view` answers for its number. Nothing under ten words.
-pub fn slot_view(bytes: &[u8], view: ImageView, slot: &[u32]) -> NodeAnswer
+pub fn slot_view(bytes: &[u8], view: ImageView, slot: &[u32]) -> Option<NodeView>
     ensures { result ≡ slot_view (sections_by bytes.now view) slot.now }
 {
     if slot.len() < RECORD_WORDS {
-        return NodeAnswer::NotFound;
+        return None;
     }
     let payload = image::section_part(bytes, view.payload, ImageView::PAYLOAD_SIZE);
     let strings = image::section_part(bytes, view.strings, ImageView::STRINGS_SIZE);

@@ -6,8 +6,6 @@ ghost use Rattle.views.specs.Shown.{command_view, operator_view};
 ghost use Rattle.pages.specs.Viewed.{has_kind, fits_tag, text_fits};
 
 use image::{NodeRecord, tag};
-use names::control_command::Command;
-use names::native_function_call::Operator;
 use views::view::is_shown;
 
 // A divert's flags name a push type.
@@ -27,19 +25,13 @@ fn list_inside(payload: usize, start: u32, len: u32) -> bool
 fn is_command(text: &[u8]) -> bool
     ensures { result ≡ has_kind (command_view text.now) }
 {
-    match names::control_command::new_from_name(text) {
-        Command::Known(_) => true,
-        Command::Unknown => false,
-    }
+    names::control_command::new_from_name(text).is_some()
 }
 
 fn is_operator(text: &[u8]) -> bool
     ensures { result ≡ has_kind (operator_view text.now) }
 {
-    match names::native_function_call::new_from_name(text) {
-        Operator::Known(_) => true,
-        Operator::Unknown => false,
-    }
+    names::native_function_call::new_from_name(text).is_some()
 }
 
 // A text that a kind may be made of: of a command and of an operator its name.

@@ -1,19 +1,18 @@
 -- What the header's constructor and the load answer, by number and value: their numbers are those of their rules.
+use Rattle.std.specs.Prelude.{Err, Ok, Result, ℕ}
 use Prim.Native.Nat.{ℕ, zero, suc}
 use mathlib.Core.Path.{◌≡◌, refl, ap}
 use mathlib.Core.List.{List}
-use mathlib.Core.Option.{none-ne-some}
+use Rattle.std.proofs.lemmas.Option.{none-some}
 use Rattle.image.specs.declared.ImageView.{ImageView}
 use Rattle.image.specs.Header.{view_of, header_rule, opened_by, opened_of}
-use Rattle.load.specs.declared.Loaded.{Loaded}
-use Rattle.load.specs.declared.Loaded.TheVariants as loaded
 use Rattle.load.specs.Load.{load_rule, loaded_by, loaded_of}
 use Rattle.promises.specs.Answers.{Answer, given, of_opened, of_loaded}
 pub use Rattle.views.proofs.Given.{given-equal, given-refused}
 
-pub loaded-given : (r : Loaded) (v : ImageView) → of_loaded r ≡ given v → r ≡ loaded.View v
-loaded-given (loaded.View w) v e = ap loaded.View (given-equal w v e)
-loaded-given (loaded.Refused n) v e = absurd (none-ne-some v (ap (λ (a : Answer ImageView). a.value) e))
+pub loaded-given : (r : Result ImageView ℕ) (v : ImageView) → of_loaded r ≡ given v → r ≡ Ok v
+loaded-given (Ok w) v e = ap Ok (given-equal w v e)
+loaded-given (Err n) v e = absurd (none-some v (ap (λ (a : Answer ImageView). a.value) e))
 
 opened_by_lem : (n : ℕ) (v : ImageView) → (of_opened (opened_by n v)).number ≡ n
 unfolding opened_by

@@ -1,4 +1,5 @@
 -- The look-ups by name on an accepted image have their plain reading.
+use Rattle.std.specs.Prelude.{None, Option, Some}
 use Prim.Native.Nat.{ℕ, ◌+◌, ◌<◌}
 use mathlib.Core.Path.{◌≡◌, refl, sym, ap, ◌∙◌, subst}
 use mathlib.Core.List.{List}
@@ -18,8 +19,6 @@ use Rattle.load.specs.Load.{load_rule, loaded_of}
 use Rattle.views.specs.View.{signed}
 use Rattle.views.proofs.Given.{found-given, found-refused}
 use Rattle.lookups.specs.declared.ListItem.{ListItem}
-use Rattle.lookups.specs.declared.ListItemAnswer.{ListItemAnswer}
-use Rattle.lookups.specs.declared.ListItemAnswer.TheVariants as listed
 use Rattle.lookups.specs.Lookup.{find_named, last_item, list_item}
 use Rattle.lookups.specs.Plain.{NamedLookup, Holds, LastHolds, ItemLookup}
 use Rattle.lookups.proofs.Plain.{named-read, passed-items-read}
@@ -68,11 +67,11 @@ module _ (s : Sections) (passed : Definitions s) (asked : Bool) (origin name : L
           λ i. record { definition = e i; item = number i; value = value i }
 
   module _ (l : ItemLookup s asked origin name) where
-    holding : (r : ListItemAnswer) → last_item s asked origin name ≡ r → (a : ListItem) → LastHolds s asked origin name a → r ≡ listed.Item a
-    holding (listed.Item b) e a h = ap listed.Item (last-once b a (l.answered b e) h)
-    holding listed.NotFound e a h = absurd (l.missed e a.definition h.place h.holds)
+    holding : (r : Option ListItem) → last_item s asked origin name ≡ r → (a : ListItem) → LastHolds s asked origin name a → r ≡ Some a
+    holding (Some b) e a h = ap Some (last-once b a (l.answered b e) h)
+    holding None e a h = absurd (l.missed e a.definition h.place h.holds)
 
-    item-number : (r : ListItemAnswer) → r ≡ last_item s asked origin name → ItemFound s asked origin name r
+    item-number : (r : Option ListItem) → r ≡ last_item s asked origin name → ItemFound s asked origin name r
     item-number r e =
         record {
           answered = λ a. (λ q. l.answered a (sym e ∙ listed-given r a q), λ h. ap of_list_item (holding r (sym e) a h));

@@ -1,4 +1,5 @@
 -- Every part that a query answers lies in the slice, whatever the bytes and the view.
+use Rattle.std.specs.Prelude.{None, Option, Some}
 use Prim.Native.Nat.{ℕ, ◌+◌, ◌*◌, ◌≤◌}
 use mathlib.Core.Path.{◌≡◌, refl, sym, ap, ◌∙◌, subst}
 use mathlib.Core.List.{List, []}
@@ -21,22 +22,10 @@ use Rattle.definitions.specs.Definitions.{first_item, number_of_items}
 use Rattle.views.specs.declared.Span.{Span}
 use Rattle.views.specs.declared.NodeView.{NodeView}
 use Rattle.views.specs.declared.NodeKindView.{NodeKindView}
-use Rattle.views.specs.declared.KindAnswer.{KindAnswer}
-use Rattle.views.specs.declared.KindAnswer.TheVariants as kindly
-use Rattle.views.specs.declared.NodeAnswer.{NodeAnswer}
-use Rattle.views.specs.declared.NodeAnswer.TheVariants as answer
 use Rattle.views.specs.declared.NamedChildView.{NamedChildView}
-use Rattle.views.specs.declared.NamedAnswer.{NamedAnswer}
-use Rattle.views.specs.declared.NamedAnswer.TheVariants as name
-use Rattle.views.specs.declared.TextAnswer.TheVariants as shows
 use Rattle.views.specs.declared.ListEntry.{ListEntry}
-use Rattle.views.specs.declared.EntryAnswer.{EntryAnswer}
-use Rattle.views.specs.declared.EntryAnswer.TheVariants as entry
 use Rattle.views.specs.declared.DefinitionView.{DefinitionView}
-use Rattle.views.specs.declared.DefinitionAnswer.TheVariants as definition
 use Rattle.views.specs.declared.ItemView.{ItemView}
-use Rattle.views.specs.declared.ItemAnswer.{ItemAnswer}
-use Rattle.views.specs.declared.ItemAnswer.TheVariants as item
 use Rattle.views.specs.View.{signed, span, shown, optional_text, with_kind, record_view, node_view}
 use Rattle.views.specs.Children.{named_entry, named_query, text_query, shown_text}
 use Rattle.views.specs.Lists.{list_part, item_entry_word, origin_entry_word, list_entry, name_in, list_entry_name, list_origin, definition_query, item_entry, item_query}
@@ -92,9 +81,9 @@ text_in bs xs p at len = by (leb (at + len) (length xs)) refl
 shown-inside : (n at len : ℕ) → shown n at len ≡ true → at + len ≤ n
 shown-inside n at len h = leb-true (at + len) n (both_true (present at len) _ h).1
 
-node-given : (r : NodeAnswer) (v : NodeView) → of_node r ≡ given v → r ≡ answer.View v
-node-given (answer.View w) v e = ap answer.View (given-equal w v e)
-node-given answer.NotFound v e = absurd (given-refused 17 v e)
+node-given : (r : Option NodeView) (v : NodeView) → of_node r ≡ given v → r ≡ Some v
+node-given (Some w) v e = ap Some (given-equal w v e)
+node-given None v e = absurd (given-refused 17 v e)
 
 module _ {A : Type 0} (P : A → Type 0) where
   -- an answer by a test: what is given is what stands there, and the test passed
@@ -102,32 +91,32 @@ module _ {A : Type 0} (P : A → Type 0) where
   tested true x y h e = subst P (given-equal x y e) (h refl)
   tested false x y h e = absurd (given-refused 17 y e)
 
-named_by_lem : (b : Bool) (x : NamedChildView) → of_named (cond b (name.Named x) name.NotFound) ≡ cond b (given x) (refused 18)
+named_by_lem : (b : Bool) (x : NamedChildView) → of_named (cond b (Some x) None) ≡ cond b (given x) (refused 18)
 named_by_lem true x = refl
 named_by_lem false x = refl
 
-text_by : (b : Bool) (x : Span) → of_text (cond b (shows.Text x) shows.NotFound) ≡ cond b (given x) (refused 18)
+text_by : (b : Bool) (x : Span) → of_text (cond b (Some x) None) ≡ cond b (given x) (refused 18)
 text_by true x = refl
 text_by false x = refl
 
-entry_by : (b : Bool) (x : ListEntry) → of_entry (cond b (entry.Entry x) entry.NotFound) ≡ cond b (given x) (refused 18)
+entry_by : (b : Bool) (x : ListEntry) → of_entry (cond b (Some x) None) ≡ cond b (given x) (refused 18)
 entry_by true x = refl
 entry_by false x = refl
 
-definition_by : (b : Bool) (x : DefinitionView) → of_definition (cond b (definition.Definition x) definition.NotFound) ≡ cond b (given x) (refused 18)
+definition_by : (b : Bool) (x : DefinitionView) → of_definition (cond b (Some x) None) ≡ cond b (given x) (refused 18)
 definition_by true x = refl
 definition_by false x = refl
 
-item_by : (b : Bool) (x : ItemView) → of_item (cond b (item.Item x) item.NotFound) ≡ cond b (given x) (refused 18)
+item_by : (b : Bool) (x : ItemView) → of_item (cond b (Some x) None) ≡ cond b (given x) (refused 18)
 item_by true x = refl
 item_by false x = refl
 
 -- behind another test
-named-behind : (b : Bool) (r : NamedAnswer) (c : NamedChildView) → of_named (cond b r name.NotFound) ≡ given c → of_named r ≡ given c
+named-behind : (b : Bool) (r : Option NamedChildView) (c : NamedChildView) → of_named (cond b r None) ≡ given c → of_named r ≡ given c
 named-behind true r c e = e
 named-behind false r c e = absurd (given-refused 17 c e)
 
-item-behind : (b : Bool) (r : ItemAnswer) (c : ItemView) → of_item (cond b r item.NotFound) ≡ given c → of_item r ≡ given c
+item-behind : (b : Bool) (r : Option ItemView) (c : ItemView) → of_item (cond b r None) ≡ given c → of_item r ≡ given c
 item-behind true r c e = e
 item-behind false r c e = absurd (given-refused 17 c e)
 
@@ -169,23 +158,23 @@ module _ (bs : List ℕ) (s : Sections) (strings-in : InSlice bs s.strings) (pay
 
   -- the kind of a view that is answered
   pub record Shown (i : ℕ) (v : NodeView) : Type 0 where
-    pub kind_is : kind_at s i (kind_of (tag_of s i)) ≡ kindly.Kind v.kind
+    pub kind_is : kind_at s i (kind_of (tag_of s i)) ≡ Some v.kind
 
-  view-shown : (i : ℕ) (v : NodeView) → node_view s i ≡ answer.View v → Shown i v
+  view-shown : (i : ℕ) (v : NodeView) → node_view s i ≡ Some v → Shown i v
   unfolding node_view record_view
   view-shown i v e = by (inside s i) (kind_at s i (kind_of (tag_of s i))) refl e
     where
-      not-view : answer.NotFound ≡ answer.View v → ⊥
+      not-view : None ≡ Some v → ⊥
       not-view q = let z : ◌≡◌ {A = ℕ} 0 1 = cc in omega arith
 
-      by : (b : Bool) (k : KindAnswer) → kind_at s i (kind_of (tag_of s i)) ≡ k
-          → cond b (with_kind s.strings (length s.payload) (node_in s i) k) answer.NotFound ≡ answer.View v → Shown i v
-      by true (kindly.Kind k) q h = record { kind_is = q ∙ ap kindly.Kind (ap kind_in h) }
+      by : (b : Bool) (k : Option NodeKindView) → kind_at s i (kind_of (tag_of s i)) ≡ k
+          → cond b (with_kind s.strings (length s.payload) (node_in s i) k) None ≡ Some v → Shown i v
+      by true (Some k) q h = record { kind_is = q ∙ ap Some (ap kind_in h) }
         where
-          kind_in : NodeAnswer → NodeKindView
-          kind_in (answer.View w) = w.kind
-          kind_in answer.NotFound = k
-      by true kindly.NotFound q h = absurd (not-view h)
+          kind_in : Option NodeView → NodeKindView
+          kind_in (Some w) = w.kind
+          kind_in None = k
+      by true None q h = absurd (not-view h)
       by false k q h = absurd (not-view h)
 
   parts-inside : PartsInside bs s
@@ -276,9 +265,9 @@ module _ (payload strings : List ℕ) (j : ℕ) where
       shown-inside (length strings) (item_entry_word payload j 2) (item_entry_word payload j 3)
       (both_true (leb (8 + j * 20 + 20) (length payload) && ltb j (word_at payload 0)) name_shown h).1
 
-  name-part_in : (r : EntryAnswer) → InSlice strings (name_in strings r)
-  name-part_in (entry.Entry e) = text_in strings strings (whole_in strings) e.name.offset e.name.len
-  name-part_in entry.NotFound = empty_in strings
+  name-part_in : (r : Option ListEntry) → InSlice strings (name_in strings r)
+  name-part_in (Some e) = text_in strings strings (whole_in strings) e.name.offset e.name.len
+  name-part_in None = empty_in strings
 
   origin-inside : (t : Span) → of_text (list_origin payload strings j) ≡ given t → InStrings t
   unfolding list_origin

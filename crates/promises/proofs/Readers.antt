@@ -1,4 +1,5 @@
 -- What the queries answer on an accepted image.
+use Rattle.std.specs.Prelude.{None, Some, Ok, ℕ}
 use Prim.Native.Nat.{ℕ, zero, suc, ◌+◌, ◌≤◌, ◌<◌}
 use mathlib.Core.Path.{◌≡◌, refl, sym, ap, ◌∙◌, subst}
 use mathlib.Core.Logic.{◌≢◌}
@@ -14,15 +15,12 @@ use Rattle.image.specs.declared.ImageView.{ImageView}
 use Rattle.image.specs.Refusals.{not_found}
 use Rattle.image.proofs.Tests.{inside-true}
 use Rattle.image.specs.Header.{view_of, sections_by}
-use Rattle.load.specs.declared.Loaded.TheVariants.{View}
 use Rattle.load.specs.Load.{load_rule, loaded_by, loaded_of}
 use Rattle.records.specs.Fields.{kind_of}
 use Rattle.definitions.specs.Definitions.{first_item, number_of_items}
 use Rattle.tree.specs.Tree.{child_at, named_at}
 use Rattle.tree.specs.Reach.{climb}
-use Rattle.views.specs.declared.OptionalWord.TheVariants as word
 use Rattle.views.specs.declared.NodeView.{NodeView}
-use Rattle.views.specs.declared.Count.TheVariants as count
 use Rattle.views.specs.View.{signed, span, optional_word, node_view}
 use Rattle.views.specs.Children.{child_count_of, named_count_of, child_query, named_entry, named_query}
 use Rattle.views.specs.Lists.{definition_query, item_entry, item_query}
@@ -47,20 +45,20 @@ use Rattle.promises.proofs.Walks.{walk_inside}
 
 -- ---- words that may be absent
 
-word-given : (n : ℕ) → n ≢ NONE → optional_word n ≡ word.Present n
+word-given : (n : ℕ) → n ≢ NONE → optional_word n ≡ Some n
 unfolding optional_word
 word-given n d = rw (ne_eqb n NONE d)
 
-word_none : (n : ℕ) → n ≡ NONE → optional_word n ≡ word.Absent
+word_none : (n : ℕ) → n ≡ NONE → optional_word n ≡ None
 unfolding optional_word
 word_none n e = rw (eq-eqb n NONE e)
 
-apart : (n : ℕ) → word.Present n ≡ word.Absent → ⊥
+apart : (n : ℕ) → Some n ≡ None → ⊥
 apart n e = let z : ◌≡◌ {A = ℕ} 0 1 = cc in omega arith
 
 -- ---- counts
 
-counted : (b : Bool) (m n : ℕ) → of_count (cond b (count.Of m) count.NotFound) ≡ given n → (b ≡ true) × (m ≡ n)
+counted : (b : Bool) (m n : ℕ) → of_count (cond b (Some m) None) ≡ given n → (b ≡ true) × (m ≡ n)
 counted true m n e = (refl, given-equal m n e)
 counted false m n e = absurd (given-refused 17 n e)
 
@@ -150,7 +148,7 @@ module _ (s : Sections) (g : Kept s) where
   -- ---- children
 
   module _ (i : ℕ) (h : i < node_count s) where
-    parent-shown : (x : ℕ) → parent_of s x ≡ i → optional_word (parent_of s x) ≡ word.Present i
+    parent-shown : (x : ℕ) → parent_of s x ≡ i → optional_word (parent_of s x) ≡ Some i
     parent-shown x e = ap optional_word e ∙ word-given i (a_node g i h).given
 
     child-read : is_container s i ≡ true → (j : ℕ) → j < f s i 4 → ChildRead s i j
@@ -275,7 +273,7 @@ module _ (s : Sections) (g : Kept s) where
 -- ---- after a load
 
 -- a view is answered where nothing was refused, and is the header's
-pub answered : (n : ℕ) (w v : ImageView) → loaded_by n w ≡ View v → (n ≡ 0) × (w ≡ v)
+pub answered : (n : ℕ) (w v : ImageView) → loaded_by n w ≡ Ok v → (n ≡ 0) × (w ≡ v)
 answered zero w v e = (refl, cc)
 answered (suc n) w v e = absurd (let z : ◌≡◌ {A = ℕ} 0 1 = cc in omega arith)
 

@@ -1,11 +1,11 @@
 -- The texts and list values that a view holds: what holds of each that is shown holds of all of them, whatever the sections.
+use Rattle.std.specs.Prelude.{None, Option, Some}
 use Prim.Native.Nat.{ℕ, ◌+◌, ◌/◌}
 use mathlib.Core.Path.{◌≡◌, refl, sym, subst}
 use mathlib.Core.Logic.{⊎_elim}
 use mathlib.Core.List.Memᴰ
 use mathlib.Core.List.{List, [], ◌∷◌, ◌++◌, Memᴰ}
 use mathlib.Core.Bool.{Bool, true, false, cond}
-use mathlib.Core.Option.{Option, none, some}
 use lib.ListN.{length}
 use lib.Dec.{leb}
 use Rattle.names.specs.declared.control_command.CommandType.{CommandType}
@@ -17,8 +17,6 @@ use Rattle.image.specs.Entries.{node_in}
 use Rattle.records.specs.Fields.{Kind, Container, Choice, Command, Divert, Glue, Operator, Tag, BoolValue, IntValue, FloatValue, StringValue, ListValue, TargetValue, PointerValue, Assignment, Reference, Void, Unknown, fields, Field, text, optional, command, operator, node, optionalNode, container, optionalContainer, plain, at_most, children, named, payload, wrong}
 use Rattle.views.specs.declared.Span.{Span}
 use Rattle.views.specs.declared.NodeKindView.{NodeKindView}
-use Rattle.views.specs.declared.KindAnswer.{KindAnswer}
-use Rattle.views.specs.declared.KindAnswer.TheVariants as kindly
 use Rattle.views.specs.View.{span, shown, optional_text, of_command, of_operator, with_text, kind_view}
 use Rattle.promises.specs.Readers.{texts_in, view_texts, view_lists}
 
@@ -39,7 +37,7 @@ all_both P ts us a b t m = ⊎_elim (a t) (b t) (Memᴰ.append_cases ts m)
 -- ---- the view of node i
 
 module _ (s : Sections) (i : ℕ) where
-  abbrev pub kind_at : Kind → KindAnswer
+  abbrev pub kind_at : Kind → Option NodeKindView
   kind_at k = kind_view s.strings (length s.payload) (node_in s i) k
 
 -- ---- its texts
@@ -57,17 +55,17 @@ module _ (s : Sections) (P : Span → Type 0) where
       by true e = rw e (all_one P (span at len) (h e))
       by false e = rw e (all_none P)
 
-  abbrev KindTexts : KindAnswer → Type 0
-  KindTexts (kindly.Kind k) = All P (view_texts k)
-  KindTexts kindly.NotFound = Unit {0}
+  abbrev KindTexts : Option NodeKindView → Type 0
+  KindTexts (Some k) = All P (view_texts k)
+  KindTexts None = Unit {0}
 
   command_texts : (o : Option CommandType) → KindTexts (of_command o)
-  command_texts none = tt
-  command_texts (some c) = all_none P
+  command_texts None = tt
+  command_texts (Some c) = all_none P
 
   operator_texts : (o : Option Op) → KindTexts (of_operator o)
-  operator_texts none = tt
-  operator_texts (some c) = all_none P
+  operator_texts None = tt
+  operator_texts (Some c) = all_none P
 
   module _ (i : ℕ) where
     -- the texts of a field have it
@@ -90,7 +88,7 @@ module _ (s : Sections) (P : Span → Type 0) where
     abbrev first : Bool
     first = shown (length s.strings) (f s i 0) (f s i 1)
 
-    with_texts_lem : (g : Span → KindAnswer) → (first ≡ true → KindTexts (g (span (f s i 0) (f s i 1)))) → KindTexts (with_text s.strings (node_in s i) g)
+    with_texts_lem : (g : Span → Option NodeKindView) → (first ≡ true → KindTexts (g (span (f s i 0) (f s i 1)))) → KindTexts (with_text s.strings (node_in s i) g)
     unfolding with_text
     with_texts_lem g h = by first refl
       where
@@ -98,7 +96,7 @@ module _ (s : Sections) (P : Span → Type 0) where
         by true e = rw e (h e)
         by false e = rw e tt
 
-    tested : (b : Bool) (k : NodeKindView) → All P (view_texts k) → KindTexts (cond b (kindly.Kind k) kindly.NotFound)
+    tested : (b : Bool) (k : NodeKindView) → All P (view_texts k) → KindTexts (cond b (Some k) None)
     tested true k a = a
     tested false k a = tt
 
@@ -126,38 +124,38 @@ module _ (s : Sections) (P : Span → Type 0) where
     kind-texts Void r = all_none P
     kind-texts Unknown r = tt
 
-    pub view-texts : (k : Kind) (q : NodeKindView) → ((x : Field) → Memᴰ x (fields k) → FieldShows x) → kind_at s i k ≡ kindly.Kind q → All P (view_texts q)
+    pub view-texts : (k : Kind) (q : NodeKindView) → ((x : Field) → Memᴰ x (fields k) → FieldShows x) → kind_at s i k ≡ Some q → All P (view_texts q)
     view-texts k q r e = subst KindTexts e (kind-texts k r)
 
 -- ---- its list values
 
 module _ (s : Sections) (P : Span → Type 0) where
-  abbrev KindLists : KindAnswer → Type 0
-  KindLists (kindly.Kind k) = All P (view_lists k)
-  KindLists kindly.NotFound = Unit {0}
+  abbrev KindLists : Option NodeKindView → Type 0
+  KindLists (Some k) = All P (view_lists k)
+  KindLists None = Unit {0}
 
   command_lists : (o : Option CommandType) → KindLists (of_command o)
-  command_lists none = tt
-  command_lists (some c) = all_none P
+  command_lists None = tt
+  command_lists (Some c) = all_none P
 
   operator_lists : (o : Option Op) → KindLists (of_operator o)
-  operator_lists none = tt
-  operator_lists (some c) = all_none P
+  operator_lists None = tt
+  operator_lists (Some c) = all_none P
 
   module _ (i : ℕ) where
     -- a list value that lies in the payload has the property
     abbrev pub ListShows : Type 0
     ListShows = leb (f s i 0 + f s i 1) (length s.payload) ≡ true → P (span (f s i 0) (f s i 1))
 
-    with_lists_lem : (g : Span → KindAnswer) → KindLists (g (span (f s i 0) (f s i 1))) → KindLists (with_text s.strings (node_in s i) g)
+    with_lists_lem : (g : Span → Option NodeKindView) → KindLists (g (span (f s i 0) (f s i 1))) → KindLists (with_text s.strings (node_in s i) g)
     unfolding with_text
     with_lists_lem g h = by (shown (length s.strings) (f s i 0) (f s i 1))
       where
-        by : (b : Bool) → KindLists (cond b (g (span (f s i 0) (f s i 1))) kindly.NotFound)
+        by : (b : Bool) → KindLists (cond b (g (span (f s i 0) (f s i 1))) None)
         by true = h
         by false = tt
 
-    tested-lists : (b : Bool) (k : NodeKindView) → (b ≡ true → All P (view_lists k)) → KindLists (cond b (kindly.Kind k) kindly.NotFound)
+    tested-lists : (b : Bool) (k : NodeKindView) → (b ≡ true → All P (view_lists k)) → KindLists (cond b (Some k) None)
     tested-lists true k a = a refl
     tested-lists false k a = tt
 
@@ -182,5 +180,5 @@ module _ (s : Sections) (P : Span → Type 0) where
     kind-lists Void r = all_none P
     kind-lists Unknown r = tt
 
-    pub view-lists : (k : Kind) (q : NodeKindView) → (k ≡ ListValue → ListShows) → kind_at s i k ≡ kindly.Kind q → All P (view_lists q)
+    pub view-lists : (k : Kind) (q : NodeKindView) → (k ≡ ListValue → ListShows) → kind_at s i k ≡ Some q → All P (view_lists q)
     view-lists k q r e = subst KindLists e (kind-lists k r)

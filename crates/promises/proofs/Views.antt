@@ -1,9 +1,9 @@
 -- A node whose rules are kept has a view, whatever its kind.
+use Rattle.std.specs.Prelude.{None, Option, Some, is_some}
 use Prim.Native.Nat.{ℕ, ◌+◌, ◌/◌, ◌≤◌}
 use mathlib.Core.Path.{◌≡◌, refl, sym, ap, ◌∙◌}
 use mathlib.Core.List.{List, Memᴰ}
 use mathlib.Core.Bool.{true, true≢false}
-use mathlib.Core.Option.{Option, none, some}
 use native.Mathlib.Omega.{arith}
 use lib.ListN.{length}
 use borrow.Author.Tests.{ne_eqb, le-leb}
@@ -15,7 +15,6 @@ use Rattle.names.specs.Names.{commands, operators}
 use Rattle.names.specs.Spelling.{element_named}
 use Rattle.names.specs.ControlCommand.{command_named}
 use Rattle.names.specs.NativeFunctionCall.{operator_named}
-use Rattle.laws.specs.Lists.{is_some}
 use Rattle.names.proofs.Distinct.{number-held}
 use Rattle.names.proofs.Numbers.{Numbered, unnamed-number}
 use Rattle.names.proofs.Commands.{commands_numbered}
@@ -26,9 +25,6 @@ use Rattle.image.proofs.Parts.{text-inside}
 use Rattle.records.specs.Fields.{Kind, Container, Choice, Command, Divert, Glue, Operator, Tag, BoolValue, IntValue, FloatValue, StringValue, ListValue, TargetValue, PointerValue, Assignment, Reference, Void, Unknown, Field, kind_of, fields}
 use Rattle.views.specs.declared.Span.{Span}
 use Rattle.views.specs.declared.NodeKindView.{NodeKindView}
-use Rattle.views.specs.declared.KindAnswer.{KindAnswer}
-use Rattle.views.specs.declared.KindAnswer.TheVariants as kindly
-use Rattle.views.specs.declared.NodeAnswer.TheVariants as node
 use Rattle.views.specs.View.{span, shown, optional_word, of_command, of_operator, with_text, kind_view, record_view, node_view}
 use Rattle.promises.specs.Answers.{of_node}
 use Rattle.promises.specs.Rules.{TextRight, NodeRight, FieldRight}
@@ -41,30 +37,30 @@ shown-right s at len t = rw (ne_eqb at NONE t.offset_given, ne_eqb len NONE t.le
 
 -- a text that a list of names holds names a kind
 held : {A : Type 0} {number : A → ℕ} {kinds : List A} {names : List (List ℕ)} → Numbered number kinds names → (t : List ℕ) → holds names t ≡ true
-    → element_named kinds names t ≡ none → ⊥
+    → element_named kinds names t ≡ None → ⊥
 held {names = names} n t h e = true≢false (sym h ∙ number-held names t ∙ ap is_some (unnamed-number n t e))
 
 -- ---- kinds
 
 -- there is a kind
-abbrev Given : KindAnswer → Type 0
-Given (kindly.Kind k) = Unit {0}
-Given kindly.NotFound = ⊥
+abbrev Given : Option NodeKindView → Type 0
+Given (Some k) = Unit {0}
+Given None = ⊥
 
-given_command : (o : Option CommandType) → (o ≡ none → ⊥) → Given (of_command o)
-given_command none d = d refl
-given_command (some c) d = tt
+given_command : (o : Option CommandType) → (o ≡ None → ⊥) → Given (of_command o)
+given_command None d = d refl
+given_command (Some c) d = tt
 
-given_operator : (o : Option Op) → (o ≡ none → ⊥) → Given (of_operator o)
-given_operator none d = d refl
-given_operator (some c) d = tt
+given_operator : (o : Option Op) → (o ≡ None → ⊥) → Given (of_operator o)
+given_operator None d = d refl
+given_operator (Some c) d = tt
 
 module _ (s : Sections) (i : ℕ) where
   -- the fields of a kind are right
   abbrev pub Right : Kind → Type 0
   Right k = (x : Field) → Memᴰ x (fields k) → FieldRight s i x
 
-  with_text_lem : (g : Span → KindAnswer) → TextRight s (f s i 0) (f s i 1) → Given (g (span (f s i 0) (f s i 1)))
+  with_text_lem : (g : Span → Option NodeKindView) → TextRight s (f s i 0) (f s i 1) → Given (g (span (f s i 0) (f s i 1)))
       → Given (with_text s.strings (node_in s i) g)
   unfolding with_text
   with_text_lem g t h = rw (shown-right s (f s i 0) (f s i 1) t) h
@@ -107,16 +103,16 @@ module _ (s : Sections) (i : ℕ) where
 
   pub record Seen : Type 0 where
     pub kind : NodeKindView
-    pub kind_is : kind_view s.strings (length s.payload) (node_in s i) (kind_of (tag_of s i)) ≡ kindly.Kind kind
-    pub view_is : node_view s i ≡ node.View (record { parent = optional_word (parent_of s i); child_index = optional_word (place_of s i); kind = kind })
+    pub kind_is : kind_view s.strings (length s.payload) (node_in s i) (kind_of (tag_of s i)) ≡ Some kind
+    pub view_is : node_view s i ≡ Some (record { parent = optional_word (parent_of s i); child_index = optional_word (place_of s i); kind = kind })
 
   pub seen : NodeRight s i → Right (kind_of (tag_of s i)) → Seen
   unfolding node_view record_view
   seen n r = by (kind_view s.strings (length s.payload) (node_in s i) (kind_of (tag_of s i))) refl (kind-given (kind_of (tag_of s i)) r)
     where
-      by : (k : KindAnswer) → kind_view s.strings (length s.payload) (node_in s i) (kind_of (tag_of s i)) ≡ k → Given k → Seen
-      by (kindly.Kind k) e g = record { kind = k; kind_is = e; view_is = rw (right-node s i n, e) }
-      by kindly.NotFound e g = absurd g
+      by : (k : Option NodeKindView) → kind_view s.strings (length s.payload) (node_in s i) (kind_of (tag_of s i)) ≡ k → Given k → Seen
+      by (Some k) e g = record { kind = k; kind_is = e; view_is = rw (right-node s i n, e) }
+      by None e g = absurd g
 
   pub viewed : NodeRight s i → Right (kind_of (tag_of s i)) → (of_node (node_view s i)).number ≡ 0
   viewed n r = ap (λ a. (of_node a).number) (seen n r).view_is

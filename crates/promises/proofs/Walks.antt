@@ -1,4 +1,5 @@
 -- A walk on an accepted image ends at a node.
+use Rattle.std.specs.Prelude.{Some}
 use Prim.Native.Nat.{ℕ, ◌+◌, ◌<◌}
 use mathlib.Core.Path.{◌≡◌, sym, ap, ◌∙◌, subst}
 use mathlib.Core.List.{List}
@@ -8,7 +9,6 @@ use Rattle.image.specs.Sections.{Sections, node_count, child_count, f, child_wor
 use Rattle.image.proofs.Tests.{inside-true}
 use Rattle.records.specs.Records.{number_of_children}
 use Rattle.tree.proofs.Entries.{child-container}
-use Rattle.views.specs.declared.Found.TheVariants.{Node}
 use Rattle.walks.specs.Walk.{Component, resolve}
 use Rattle.walks.proofs.WalkEnds.{Leads, found_inside}
 use Rattle.promises.proofs.Premises.{Kept}
@@ -35,5 +35,5 @@ module _ (s : Sections) (g : Kept s) where
         named = λ j h. let o = named-owner s g j h in subst (λ (x : ℕ). inside s (named_word s x 2) ≡ true) (sym o.there) (right-node s _ o.right.container.node);
       }
 
-  pub walk_inside : (relative : Bool) (origin : ℕ) (cs : List Component) (n : ℕ) → resolve s relative origin cs ≡ Node n → n < node_count s
+  pub walk_inside : (relative : Bool) (origin : ℕ) (cs : List Component) (n : ℕ) → resolve s relative origin cs ≡ Some n → n < node_count s
   walk_inside relative origin cs n e = (inside-true (node_count s) n (found_inside s leads relative origin cs n e)).0

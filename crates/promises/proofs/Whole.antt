@@ -1,4 +1,5 @@
 -- Texts and list values of a view whose node keeps the rules are handed back whole, and the texts are UTF-8.
+use Rattle.std.specs.Prelude.{Some}
 use Prim.Native.Nat.{ℕ, ◌+◌, ◌*◌, ◌≤◌, ◌<◌}
 use mathlib.Core.Path.{◌≡◌, refl, sym, ap, ◌∙◌, subst}
 use mathlib.Core.Logic.{inl, inr}
@@ -15,7 +16,6 @@ use Rattle.image.proofs.Parts.{part_length, text-inside}
 use Rattle.records.specs.Fields.{Kind, ListValue, fields, Field, text, optional, command, operator, node, optionalNode, container, optionalContainer, plain, at_most, children, named, payload, wrong}
 use Rattle.records.specs.Records.{list_word, list_items, list_origins, list_item_word, list_origin_word}
 use Rattle.views.specs.declared.NodeKindView.{NodeKindView}
-use Rattle.views.specs.declared.KindAnswer.TheVariants as kindly
 use Rattle.views.specs.View.{signed, span, shown, optional_text}
 use Rattle.views.specs.Children.{text_query, shown_text}
 use Rattle.views.specs.Lists.{list_part, item_entry_word, origin_entry_word, list_entry, list_origin}
@@ -74,7 +74,7 @@ module _ (s : Sections) (i : ℕ) where
   field_shows payload r = tt
   field_shows wrong r = tt
 
-  pub view-whole : (k : Kind) (q : NodeKindView) → Right s i k → kind_at s i k ≡ kindly.Kind q → All (Whole s) (view_texts q)
+  pub view-whole : (k : Kind) (q : NodeKindView) → Right s i k → kind_at s i k ≡ Some q → All (Whole s) (view_texts q)
   view-whole k q r = view-texts s (Whole s) i k q (λ x m. field_shows x (r x m))
 
 -- ---- a list's payload
@@ -153,5 +153,5 @@ module _ (s : Sections) (i : ℕ) where
   unfolding fields
   list_shows k r e h = list_read s (f s i 0) (f s i 1) (subst (λ (x : Kind). Right s i x) e r payload (Memᴰ.head refl)).1
 
-  pub view-read : (k : Kind) (q : NodeKindView) → Right s i k → kind_at s i k ≡ kindly.Kind q → All (ListRead s) (view_lists q)
+  pub view-read : (k : Kind) (q : NodeKindView) → Right s i k → kind_at s i k ≡ Some q → All (ListRead s) (view_lists q)
   view-read k q r = view-lists s (ListRead s) i k q (list_shows k r)

@@ -1,5 +1,5 @@
 -- What the look-ups by name answer on an accepted image, in plain words.
-use Rattle.std.specs.Prelude.{ℕ, ◌<◌, ◌≡◌, List, [], Bool, true, false}
+use Rattle.std.specs.Prelude.{ℕ, ◌<◌, ◌≡◌, List, [], Bool, true, false, Option}
 use Rattle.laws.specs.Lists.{Below}
 use Rattle.texts.specs.Dots.{has_dot, before_dot, after_dot}
 use Rattle.utf8.specs.White.{blank}
@@ -10,7 +10,6 @@ use Rattle.image.specs.Refusals.{not_found}
 use Rattle.definitions.specs.Definitions.{definition_text}
 use Rattle.load.specs.Load.{loaded_of}
 use Rattle.lookups.specs.declared.ListItem.{ListItem}
-use Rattle.lookups.specs.declared.ListItemAnswer.{ListItemAnswer}
 use Rattle.lookups.specs.Lookup.{find_named, list_item}
 use Rattle.lookups.specs.Plain.{HasName, NodeNamed, Holds, LastHolds}
 use Rattle.list_items.specs.Search.{list_search}
@@ -28,7 +27,7 @@ pub record NamedFound (s : Sections) (i : ℕ) (name : List ℕ) : Type 0 where
 
 -- ---- a list item: `origin` is asked where it is given
 
-pub record ItemFound (s : Sections) (asked : Bool) (origin name : List ℕ) (r : ListItemAnswer) : Type 0 where
+pub record ItemFound (s : Sections) (asked : Bool) (origin name : List ℕ) (r : Option ListItem) : Type 0 where
   -- an item is answered exactly if it is that of the last definition that holds one of this name
   pub answered : (item : ListItem) → Iff (of_list_item r ≡ given item) (LastHolds s asked origin name item)
   -- and 18 exactly if no definition does

@@ -1,5 +1,5 @@
 -- What a reader of an accepted image can count on, by the answers of the queries.
-use Rattle.std.specs.Prelude.{ℕ, zero, suc, ◌≤◌, ◌<◌, ◌≡◌, Bool, true, false, length}
+use Rattle.std.specs.Prelude.{ℕ, zero, suc, ◌≤◌, ◌<◌, ◌≡◌, Bool, true, false, length, None, Option, Some}
 use mathlib.Core.List.{List, [], ◌∷◌, ◌++◌, Memᴰ}
 use Rattle.laws.specs.Lists.{Below}
 use Rattle.words.specs.Words.{word_at}
@@ -10,17 +10,11 @@ use Rattle.image.specs.Header.{sections_by}
 use Rattle.image.specs.Refusals.{not_found}
 use Rattle.load.specs.Load.{loaded_of}
 use Rattle.views.specs.declared.Span.{Span}
-use Rattle.views.specs.declared.OptionalText.{OptionalText}
-use Rattle.views.specs.declared.OptionalText.TheVariants as optional
-use Rattle.views.specs.declared.OptionalWord.{OptionalWord}
-use Rattle.views.specs.declared.OptionalWord.TheVariants as word
 use Rattle.views.specs.declared.ValueView.{ValueView}
 use Rattle.views.specs.declared.ValueView.TheVariants as value
 use Rattle.views.specs.declared.NodeKindView.{NodeKindView}
 use Rattle.views.specs.declared.NodeKindView.TheVariants as kind
 use Rattle.views.specs.declared.NodeView.{NodeView}
-use Rattle.views.specs.declared.NodeAnswer.{NodeAnswer}
-use Rattle.views.specs.declared.NodeAnswer.TheVariants as node
 use Rattle.views.specs.declared.NamedChildView.{NamedChildView}
 use Rattle.views.specs.declared.ListEntry.{ListEntry}
 use Rattle.views.specs.declared.DefinitionView.{DefinitionView}
@@ -43,9 +37,9 @@ pub record Whole (s : Sections) (t : Span) : Type 0 where
   pub encoded : good_bytes (shown_text s.strings t.offset t.len) ≡ true
 
 -- the text, where there is one
-abbrev pub texts_in : OptionalText → List Span
-texts_in (optional.Present t) = t ∷ []
-texts_in optional.Absent = []
+abbrev pub texts_in : Option Span → List Span
+texts_in (Some t) = t ∷ []
+texts_in None = []
 
 abbrev pub value_texts : ValueView → List Span
 value_texts (value.Bool b) = []
@@ -114,14 +108,14 @@ view_lists kind.Void = []
 
 -- ---- climbing by views
 
-abbrev pub or_stay : ℕ → OptionalWord → ℕ
-or_stay i (word.Present p) = p
-or_stay i word.Absent = i
+abbrev pub or_stay : ℕ → Option ℕ → ℕ
+or_stay i (Some p) = p
+or_stay i None = i
 
 -- the node that the view names as parent; where there is none, the same node
-abbrev pub step_up : ℕ → NodeAnswer → ℕ
-step_up i (node.View v) = or_stay i v.parent
-step_up i node.NotFound = i
+abbrev pub step_up : ℕ → Option NodeView → ℕ
+step_up i (Some v) = or_stay i v.parent
+step_up i None = i
 
 -- the node after k such steps
 unfoldable pub ascend : Sections → ℕ → ℕ → ℕ
@@ -148,8 +142,8 @@ pub record ChildRead (s : Sections) (i j : ℕ) : Type 0 where
   pub found : of_found (child_query s i j) ≡ given child
   pub view : NodeView
   pub viewed : of_node (node_view s child) ≡ given view
-  pub parent : view.parent ≡ word.Present i
-  pub place : view.child_index ≡ word.Present j
+  pub parent : view.parent ≡ Some i
+  pub place : view.child_index ≡ Some j
 
 -- named child j is found, its name is handed back whole, and its view names the node
 pub record NamedRead (s : Sections) (i j : ℕ) : Type 0 where
@@ -158,7 +152,7 @@ pub record NamedRead (s : Sections) (i j : ℕ) : Type 0 where
   pub name : Whole s child.name
   pub view : NodeView
   pub viewed : of_node (node_view s child.node) ≡ given view
-  pub parent : view.parent ≡ word.Present i
+  pub parent : view.parent ≡ Some i
 
 -- ---- a reader at node i
 
@@ -172,7 +166,7 @@ pub record Reads (s : Sections) (i : ℕ) : Type 0 where
   pub slot-viewed : of_node (slot_view s (slot_of s i)) ≡ given view
   -- fewer steps than nodes lead to node 0, which alone has no parent
   pub ascends : (k : ℕ) → node_count s ≤ suc k → ascend s k i ≡ 0
-  pub parentless : view.parent ≡ word.Absent → i ≡ 0
+  pub parentless : view.parent ≡ None → i ≡ 0
   pub depth : DepthRead s i
   -- a container has both counts; below them no child is missing
   pub child-count : is_container s i ≡ true → of_count (child_count_of s i) ≡ given (f s i 4)

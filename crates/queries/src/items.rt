@@ -1,77 +1,56 @@
 // List items by name: the definition and the item that answer, or 18, and how many definitions' items were searched.
 use crate::print_refusal;
 use image::ImageView;
-use load::Loaded;
-use lookups::ListItemAnswer;
 use std::io;
-
-fn print_answer(rt: &impl Print, answer: ListItemAnswer) -> io::Result<()> {
-    match answer {
-        ListItemAnswer::Item(item) => {
-            let definition = item.definition;
-            let place = item.item;
-            print!(rt; ": definition {definition}, item {place}")
-        }
-        ListItemAnswer::NotFound => print!(rt; ": 18"),
-    }
-}
 
 // Asks for an item and prints a line.
 fn ask(rt: &impl Print, label: &str, bytes: &[u8], view: ImageView, name: &[u8]) -> io::Result<()> {
     let search = list_items::list_item(bytes, view, name);
-    let answer = search.answer;
     let searched = search.searched;
-    print!(rt; "{label}")?;
-    print_answer(rt, answer)?;
+    match search.answer {
+        Some(item) => {
+            let definition = item.definition;
+            let place = item.item;
+            print!(rt; "{label}: definition {definition}, item {place}")?;
+        }
+        None => print!(rt; "{label}: 18")?,
+    }
     println!(rt; ", searched {searched}")
 }
 
-// The item's name is its label.
-fn ask_plain(rt: &impl Print, bytes: &[u8], view: ImageView, name: &str) -> io::Result<()> {
-    ask(rt, name, bytes, view, name.as_bytes())
+// Asks for items whose names are their labels.
+fn ask_each(rt: &impl Print, bytes: &[u8], view: ImageView, names: &[&str]) -> io::Result<()> {
+    for name in names {
+        ask(rt, name, bytes, view, name.as_bytes())?;
+    }
+    Ok(())
 }
 
-// Names without an item: nothing, White_Space alone (a space, a tab, U+2003, U+3000), a dot with nothing on one side.
-fn ask_odd(rt: &impl Print, bytes: &[u8], view: ImageView) -> io::Result<()> {
-    let blank = [32u8, 9, 226, 128, 131, 227, 128, 128];
-    ask(rt, "empty", bytes, view, b"")?;
-    ask(rt, "blank", bytes, view, &blank)?;
-    ask_plain(rt, bytes, view, ".")?;
-    ask_plain(rt, bytes, view, ".low")?;
-    ask_plain(rt, bytes, view, "red.")?;
-    ask_plain(rt, bytes, view, "x.")
-}
-
-// Of an image with the definitions red and size, which both hold low.
+// Of an image with the definitions red and size, which both hold low. Behind those are names without an item: nothing, White_Space alone (a
+// space, a tab, U+2003, U+3000), a dot with nothing on one side.
 pub fn ask_two(rt: &impl Print, bytes: &[u8], view: ImageView) -> io::Result<()> {
-    ask_plain(rt, bytes, view, "low")?;
-    ask_plain(rt, bytes, view, "red.low")?;
-    ask_plain(rt, bytes, view, "size.low")?;
-    ask_plain(rt, bytes, view, "no.low")?;
-    ask_plain(rt, bytes, view, "high")?;
-    ask_plain(rt, bytes, view, "red.high")?;
-    ask_plain(rt, bytes, view, "red.low.low")?;
-    ask_odd(rt, bytes, view)
+    let names = [
+        "low",
+        "red.low",
+        "size.low",
+        "no.low",
+        "high",
+        "red.high",
+        "red.low.low",
+    ];
+    ask_each(rt, bytes, view, &names)?;
+    ask(rt, "empty", bytes, view, b"")?;
+    ask(rt, "blank", bytes, view, " \t\u{2003}\u{3000}".as_bytes())?;
+    ask_each(rt, bytes, view, &[".", ".low", "red.", "x."])
 }
 
-// Of an image with sixty definitions of twenty items.
-fn ask_sixty(rt: &impl Print, bytes: &[u8], view: ImageView) -> io::Result<()> {
-    ask_plain(rt, bytes, view, "first")?;
-    ask_plain(rt, bytes, view, "last")?;
-    ask_plain(rt, bytes, view, "none")?;
-    ask_plain(rt, bytes, view, "i00")?;
-    ask_plain(rt, bytes, view, "i19")?;
-    ask_plain(rt, bytes, view, "d00.i00")?;
-    ask_plain(rt, bytes, view, "d59.last")?;
-    ask_plain(rt, bytes, view, "d00.last")?;
-    ask_plain(rt, bytes, view, "d60.i00")
-}
-
-// Loads it first.
+// Loads an image with sixty definitions of twenty items, and asks it.
 pub fn run_sixty(rt: &impl Print, bytes: &[u8]) -> io::Result<()> {
-    let mut work = [7u32; 2];
-    match load::load(bytes, &mut work) {
-        Loaded::View(view) => ask_sixty(rt, bytes, view),
-        Loaded::Refused(wrong) => print_refusal(rt, wrong),
+    let names = [
+        "first", "last", "none", "i00", "i19", "d00.i00", "d59.last", "d00.last", "d60.i00",
+    ];
+    match load::load(bytes, &mut [7; 2]) {
+        Ok(view) => ask_each(rt, bytes, view, &names),
+        Err(wrong) => print_refusal(rt, wrong),
     }
 }

@@ -7,39 +7,28 @@
 // are asked by both readers: they differ only in what notes to the technician hold, in where texts lie and in their lengths.
 #![tactic(auto)]
 
-ghost use Rattle.std.specs.Prelude.{◌≤◌, length, IfOk};
-
-use image::{ImageView, Opened, Section};
-use load::Loaded;
+use image::ImageView;
+use image::refusal::Refusal;
+use input::image_at;
+use shown::{ShownCount, ShownNode};
 use std::io;
-use std::io::Read;
-use views::{Count, Found};
 
 mod items; // items.rt: list items by name
 mod page; // page.rt: pages of nodes
 mod readers; // readers.rt: the technician's reader and the sleeper's
-
-fn print_found(rt: &impl Print, answer: Found) -> io::Result<()> {
-    match answer {
-        Found::Node(node) => println!(rt; ": node {node}"),
-        Found::NotFound => println!(rt; ": 18"),
-    }
-}
+mod shown; // shown.rt: answers as they are printed
 
 // Walks and children.
 fn walk(rt: &impl Print, bytes: &[u8], view: ImageView) -> io::Result<()> {
     let path = [1u32, 0u32, 0u32];
-    print!(rt; "relative, no components, from the glue")?;
-    print_found(
-        rt,
-        walks::resolve_path(bytes, view, 1, true, &path[..0], b""),
-    )?;
-    print!(rt; "absolute, child 0, origin outside")?;
-    print_found(rt, walks::resolve_path(bytes, view, 9, false, &path, b""))?;
-    print!(rt; "child 0 of the root")?;
-    print_found(rt, views::children::child_at(bytes, view, 0, 0))?;
-    print!(rt; "child 1 of the root")?;
-    print_found(rt, views::children::child_at(bytes, view, 0, 1))
+    let glue = ShownNode(walks::resolve_path(bytes, view, 1, true, &[], b""));
+    println!(rt; "relative, no components, from the glue: {glue}")?;
+    let outside = ShownNode(walks::resolve_path(bytes, view, 9, false, &path, b""));
+    println!(rt; "absolute, child 0, origin outside: {outside}")?;
+    let first = ShownNode(views::children::child_at(bytes, view, 0, 0));
+    println!(rt; "child 0 of the root: {first}")?;
+    let second = ShownNode(views::children::child_at(bytes, view, 0, 1));
+    println!(rt; "child 1 of the root: {second}")
 }
 
 // Every query on an image.
@@ -48,110 +37,72 @@ fn both(rt: &impl Print, bytes: &[u8], view: ImageView) -> io::Result<()> {
     walk(rt, bytes, view)
 }
 
-fn print_refusal(rt: &impl Print, number: u32) -> io::Result<()> {
+fn print_refusal(rt: &impl Print, refusal: Refusal) -> io::Result<()> {
+    let number = refusal.number();
     println!(rt; "refused: {number}")
-}
-
-// The depth of a node, or 18.
-fn print_depth(rt: &impl Print, bytes: &[u8], view: ImageView, node: u32) -> io::Result<()> {
-    match depth::depth(bytes, view, node) {
-        Count::Of(steps) => print!(rt; " {steps}"),
-        Count::NotFound => print!(rt; " no-18"),
-    }
 }
 
 // The depths of nodes 0 to 6 and of NONE.
 fn print_depths(rt: &impl Print, bytes: &[u8], view: ImageView) -> io::Result<()> {
     print!(rt; "depths:")?;
-    for node in 0..=6 {
-        print_depth(rt, bytes, view, node)?;
+    for node in [0, 1, 2, 3, 4, 5, 6, image::NONE] {
+        let steps = ShownCount(depth::depth(bytes, view, node));
+        print!(rt; " {steps}")?;
     }
-    print_depth(rt, bytes, view, image::NONE)?;
     println!(rt)
 }
 
 // What a load says of an image, and depths in it, also where the load refuses it.
 fn depths(rt: &impl Print, name: &str, bytes: &[u8]) -> io::Result<()> {
     print!(rt; "{name}: ")?;
-    let mut work = [7u32; 64];
-    match load::load(bytes, &mut work) {
-        Loaded::View(_) => println!(rt; "accepted")?,
-        Loaded::Refused(wrong) => print_refusal(rt, wrong)?,
+    match load::load(bytes, &mut [7; 64]) {
+        Ok(_) => println!(rt; "accepted")?,
+        Err(wrong) => print_refusal(rt, wrong)?,
     }
     match ImageView::new(bytes) {
-        Opened::View(view) => print_depths(rt, bytes, view),
-        Opened::Refused(wrong) => print_refusal(rt, wrong),
+        Ok(view) => print_depths(rt, bytes, view),
+        Err(wrong) => print_refusal(rt, wrong),
     }
 }
 
 // Loads an image and asks it, or prints why it is refused.
 fn run(rt: &impl Print, bytes: &[u8]) -> io::Result<()> {
-    let mut work = [7u32; 64];
-    match load::load(bytes, &mut work) {
-        Loaded::View(view) => both(rt, bytes, view),
-        Loaded::Refused(wrong) => print_refusal(rt, wrong),
+    match load::load(bytes, &mut [7; 64]) {
+        Ok(view) => both(rt, bytes, view),
+        Err(wrong) => print_refusal(rt, wrong),
     }
-}
-
-// The image behind its length at `at`.
-fn part(records: &[u8], at: u32) -> &[u8]
-    requires { at ≤ 65536 }
-{
-    let len = words::get(records, at as usize);
-    image::section_part(
-        records,
-        Section {
-            offset: at + 4,
-            count: len,
-        },
-        1,
-    )
 }
 
 // The images that are asked items and walks.
 fn run_all(rt: &impl Print, records: &[u8]) -> io::Result<()> {
-    run(rt, part(records, 0))?;
-    run(rt, part(records, 210))?;
-    run(rt, part(records, 398))
+    for at in [0, 210, 398] {
+        run(rt, image_at(records, at))?;
+    }
+    Ok(())
 }
 
 // The images that are asked depths.
 fn run_depths(rt: &impl Print, records: &[u8]) -> io::Result<()> {
-    depths(rt, "smallest", part(records, 586))?;
-    depths(rt, "circle", part(records, 730))?;
-    depths(rt, "named child", part(records, 1030))?;
-    depths(rt, "chain", part(records, 1341))
+    depths(rt, "smallest", image_at(records, 586))?;
+    depths(rt, "circle", image_at(records, 730))?;
+    depths(rt, "named child", image_at(records, 1030))?;
+    depths(rt, "chain", image_at(records, 1341))
 }
 
 // The images that are asked pages.
 fn run_pages(rt: &impl Print, records: &[u8]) -> io::Result<()> {
-    page::run_four(rt, part(records, 1030))?;
-    page::run_refused(rt, part(records, 1774))?;
-    page::run_forty(rt, part(records, 1962))
-}
-
-// Reads until the buffer is full or the input ends; answers how many bytes.
-fn read_full<R: Read>(reader: &mut R, buffer: &mut [u8]) -> io::Result<usize>
-    ensures { IfOk result (λ n. n ≤ length buffer.new) }
-{
-    let mut filled = 0;
-    while filled < buffer.len() {
-        let n = reader.read(&mut buffer[filled..])?;
-        if n == 0 {
-            break;
-        }
-        filled += n;
-    }
-    Ok(filled)
+    page::run_four(rt, image_at(records, 1030))?;
+    page::run_refused(rt, image_at(records, 1774))?;
+    page::run_forty(rt, image_at(records, 1962))
 }
 
 fn main(rt: HostRuntime) -> io::Result<()> {
     let mut buffer = [0u8; 65536];
-    let n = read_full(&mut rt.reader(), &mut buffer)?;
+    let n = input::read_full(&mut rt.reader(), &mut buffer)?;
     let records = &buffer[..n];
     run_all(&rt, records)?;
     run_depths(&rt, records)?;
     run_pages(&rt, records)?;
-    items::run_sixty(&rt, part(records, 3833))?;
+    items::run_sixty(&rt, image_at(records, 3833))?;
     readers::run_both(&rt, records)
 }

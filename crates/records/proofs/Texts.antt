@@ -1,6 +1,7 @@
 -- The rule of a text alone, by the tests that the code made; known names.
+use Rattle.std.specs.Prelude.{None, Option, Some, is_some, ℕ}
 use Prim.Native.Nat.{ℕ}
-use mathlib.Core.Path.{◌≡◌, refl, sym, ap, ◌∙◌}
+use mathlib.Core.Path.{◌≡◌, refl, sym, ◌∙◌}
 use mathlib.Core.Bool.{Bool, true, false, not, cond}
 use mathlib.Core.List.{List}
 use lib.Dec.{eqb}
@@ -10,9 +11,6 @@ use Rattle.laws.proofs.First.{second, pass}
 use Rattle.laws.proofs.Chains.{stop}
 use Rattle.texts.specs.Text.{holds}
 use Rattle.names.specs.Names.{commands, operators, number_in}
-use Rattle.names.specs.Spelling.{numbered}
-use Rattle.names.specs.declared.Number.{Number}
-use Rattle.names.specs.declared.Number.TheVariants.{Known, Unknown}
 use Rattle.names.proofs.Distinct.{number-held}
 use Rattle.image.specs.Sections.{part_at, good_in, text_or_empty}
 use Rattle.image.proofs.Parts.{good-part}
@@ -20,22 +18,9 @@ use Rattle.records.specs.Shown.{text_rule}
 
 -- ---- a name is known if it has a number
 
-is_known : Number → Bool
-is_known (Known k) = true
-is_known Unknown = false
-
-known-held : (names : List (List ℕ)) (t : List ℕ) (r : Number) → numbered r ≡ number_in names t → is_known r ≡ holds names t
-unfolding is_known
-known-held names t (Known k) e = sym (rw (number-held names t, ← e))
-known-held names t Unknown e = sym (rw (number-held names t, ← e))
-
-pub known-name : (names : List (List ℕ)) (t : List ℕ) (r : Number) (k : ℕ) → numbered r ≡ number_in names t → r ≡ Known k → true ≡ holds names t
-unfolding is_known
-known-name names t r k e q = sym (ap is_known q) ∙ known-held names t r e
-
-pub unknown_name : (names : List (List ℕ)) (t : List ℕ) (r : Number) → numbered r ≡ number_in names t → r ≡ Unknown → false ≡ holds names t
-unfolding is_known
-unknown_name names t r e q = sym (ap is_known q) ∙ known-held names t r e
+pub known-held : (names : List (List ℕ)) (t : List ℕ) (r : Option ℕ) → r ≡ number_in names t → is_some r ≡ holds names t
+known-held names t (Some k) e = sym (rw (number-held names t, ← e))
+known-held names t None e = sym (rw (number-held names t, ← e))
 
 -- ---- by the flags that the tests gave
 

@@ -5,6 +5,7 @@ mod list; // list.rt: a list's payload
 
 ghost use Rattle.std.specs.Prelude.{◌≡◌, true, ◌||◌, ◌<◌, leb};
 ghost use Rattle.laws.specs.Refusal.{unless};
+ghost use Rattle.image.specs.Refusals.{refusal_in};
 ghost use Rattle.words.specs.Words.{is_none};
 ghost use Rattle.texts.specs.Text.{holds};
 ghost use Rattle.names.specs.Names.{commands, operators};
@@ -16,9 +17,8 @@ ghost use Rattle.records.specs.Shown.{container_among, starts_next};
 ghost use Rattle.records.specs.Shown.{container_rule, choice_rule, divert_rule, text_rule, target_rule, assignment_rule, reference_rule, list_rule};
 ghost use Rattle.records.specs.Shown.{fields_by, parent_by, root_by, sums_after, used_up_by};
 
-use image::refusal::{BAD_NODE, BAD_RANGE, BAD_TAG, BAD_TEXT};
+use image::refusal::Refusal;
 use image::{EntryCounts, NONE, NodeRecord, is_inside, tag};
-use names::Number;
 
 // Sums over the nodes before a node: ordered children, named children, bytes of payload, containers.
 #[derive(Clone, Copy)]
@@ -84,10 +84,14 @@ fn is_next(start: u32, count: u32, before: usize, all: usize) -> bool
 }
 
 // A word that is at most so much.
-pub fn at_most(word: u32, most: u32) -> u32
-    ensures { result ≡ unless (leb word most) bad_tag }
+pub fn at_most(word: u32, most: u32) -> Result<(), Refusal>
+    ensures { refusal_in result ≡ unless (leb word most) bad_tag }
 {
-    if word <= most { 0 } else { BAD_TAG }
+    if word <= most {
+        Ok(())
+    } else {
+        Err(Refusal::BadTag)
+    }
 }
 
 // The rules by kind. `whole` says that the strings are known to be good as a whole, as `image::good_within` takes it.
@@ -99,49 +103,55 @@ pub fn container(
     sums: Sums,
     strings: &[u8],
     whole: bool,
-) -> u32
+) -> Result<(), Refusal>
     requires { whole ≡ true → good_bytes strings.now ≡ true }
-    ensures { result ≡ container_rule node counts sums strings.now }
+    ensures { refusal_in result ≡ container_rule node counts sums strings.now }
 {
     if !image::good_optional(strings, node.f0, node.f1, whole) {
-        return BAD_TEXT;
+        return Err(Refusal::BadText);
     }
     if !is_next(node.f3, node.f4, sums.children, counts.children) {
-        return BAD_RANGE;
+        return Err(Refusal::BadRange);
     }
     if !is_next(node.f5, node.f6, sums.named, counts.named) {
-        return BAD_RANGE;
+        return Err(Refusal::BadRange);
     }
-    0
+    Ok(())
 }
 
 // A choice: an optional path, then the container that it leads to.
-pub fn choice(node: NodeRecord, nodes: usize, target_tag: u32, strings: &[u8], whole: bool) -> u32
+pub fn choice(
+    node: NodeRecord,
+    nodes: usize,
+    target_tag: u32,
+    strings: &[u8],
+    whole: bool,
+) -> Result<(), Refusal>
     requires { whole ≡ true → good_bytes strings.now ≡ true }
-    ensures { result ≡ choice_rule node nodes target_tag strings.now }
+    ensures { refusal_in result ≡ choice_rule node nodes target_tag strings.now }
 {
     if !image::good_optional(strings, node.f0, node.f1, whole) {
-        return BAD_TEXT;
+        return Err(Refusal::BadText);
     }
     if !is_container(nodes, node.f2, target_tag) {
-        return BAD_NODE;
+        return Err(Refusal::BadNode);
     }
-    0
+    Ok(())
 }
 
 // A divert: an optional path, an optional node, an optional variable, flags.
-pub fn divert(node: NodeRecord, nodes: usize, strings: &[u8], whole: bool) -> u32
+pub fn divert(node: NodeRecord, nodes: usize, strings: &[u8], whole: bool) -> Result<(), Refusal>
     requires { whole ≡ true → good_bytes strings.now ≡ true }
-    ensures { result ≡ divert_rule node nodes strings.now }
+    ensures { refusal_in result ≡ divert_rule node nodes strings.now }
 {
     if !image::good_optional(strings, node.f0, node.f1, whole) {
-        return BAD_TEXT;
+        return Err(Refusal::BadText);
     }
     if !is_optional_node(nodes, node.f2) {
-        return BAD_NODE;
+        return Err(Refusal::BadNode);
     }
     if !image::good_optional(strings, node.f3, node.f4, whole) {
-        return BAD_TEXT;
+        return Err(Refusal::BadText);
     }
     at_most(node.f6, 23)
 }
@@ -150,67 +160,72 @@ pub fn divert(node: NodeRecord, nodes: usize, strings: &[u8], whole: bool) -> u3
 fn is_command(name: &[u8]) -> bool
     ensures { result ≡ holds commands name.now }
 {
-    match names::control_command::command_number(name) {
-        Number::Known(_) => true,
-        Number::Unknown => false,
-    }
+    names::control_command::command_number(name).is_some()
 }
 
 // Whether the text is the known name of an operator.
 fn is_operator(name: &[u8]) -> bool
     ensures { result ≡ holds operators name.now }
 {
-    match names::native_function_call::operator_number(name) {
-        Number::Known(_) => true,
-        Number::Unknown => false,
-    }
+    names::native_function_call::operator_number(name).is_some()
 }
 
 // A kind that is a text alone: of a command or an operator, by the tag, its known name.
-pub fn text_only(text_tag: u32, offset: u32, len: u32, strings: &[u8], whole: bool) -> u32
+pub fn text_only(
+    text_tag: u32,
+    offset: u32,
+    len: u32,
+    strings: &[u8],
+    whole: bool,
+) -> Result<(), Refusal>
     requires { whole ≡ true → good_bytes strings.now ≡ true }
-    ensures { result ≡ text_rule text_tag offset len strings.now }
+    ensures { refusal_in result ≡ text_rule text_tag offset len strings.now }
 {
     if !image::good_within(strings, offset, len, whole) {
-        return BAD_TEXT;
+        return Err(Refusal::BadText);
     }
     let name = image::text_part(strings, offset, len);
     if text_tag == tag::COMMAND {
         if is_command(name) {
-            return 0;
+            return Ok(());
         }
-        return BAD_TAG;
+        return Err(Refusal::BadTag);
     }
     if text_tag == tag::OPERATOR {
         if is_operator(name) {
-            return 0;
+            return Ok(());
         }
-        return BAD_TAG;
+        return Err(Refusal::BadTag);
     }
-    0
+    Ok(())
 }
 
 // A divert target: a text, then a node.
-pub fn target_value(node: NodeRecord, nodes: usize, strings: &[u8], whole: bool) -> u32
+pub fn target_value(
+    node: NodeRecord,
+    nodes: usize,
+    strings: &[u8],
+    whole: bool,
+) -> Result<(), Refusal>
     requires { whole ≡ true → good_bytes strings.now ≡ true }
-    ensures { result ≡ target_rule node nodes strings.now }
+    ensures { refusal_in result ≡ target_rule node nodes strings.now }
 {
     if !image::good_within(strings, node.f0, node.f1, whole) {
-        return BAD_TEXT;
+        return Err(Refusal::BadText);
     }
     if !is_inside(nodes, node.f2) {
-        return BAD_NODE;
+        return Err(Refusal::BadNode);
     }
-    0
+    Ok(())
 }
 
 // An assignment: a text, then flags.
-pub fn assignment(node: NodeRecord, strings: &[u8], whole: bool) -> u32
+pub fn assignment(node: NodeRecord, strings: &[u8], whole: bool) -> Result<(), Refusal>
     requires { whole ≡ true → good_bytes strings.now ≡ true }
-    ensures { result ≡ assignment_rule node strings.now }
+    ensures { refusal_in result ≡ assignment_rule node strings.now }
 {
     if !image::good_within(strings, node.f0, node.f1, whole) {
-        return BAD_TEXT;
+        return Err(Refusal::BadText);
     }
     at_most(node.f2, 3)
 }
@@ -222,34 +237,39 @@ pub fn reference(
     target_tag: u32,
     strings: &[u8],
     whole: bool,
-) -> u32
+) -> Result<(), Refusal>
     requires { whole ≡ true → good_bytes strings.now ≡ true }
-    ensures { result ≡ reference_rule node nodes target_tag strings.now }
+    ensures { refusal_in result ≡ reference_rule node nodes target_tag strings.now }
 {
     if !image::good_within(strings, node.f0, node.f1, whole) {
-        return BAD_TEXT;
+        return Err(Refusal::BadText);
     }
     if !image::good_optional(strings, node.f2, node.f3, whole) {
-        return BAD_TEXT;
+        return Err(Refusal::BadText);
     }
     if !is_optional_container(nodes, node.f4, target_tag) {
-        return BAD_NODE;
+        return Err(Refusal::BadNode);
     }
-    0
+    Ok(())
 }
 
 // A list value: its payload begins where those before it end, and keeps its rules.
-pub fn list_value(node: NodeRecord, sums: Sums, payload: &[u8], strings: &[u8]) -> u32
-    ensures { result ≡ list_rule node sums payload.now strings.now }
+pub fn list_value(
+    node: NodeRecord,
+    sums: Sums,
+    payload: &[u8],
+    strings: &[u8],
+) -> Result<(), Refusal>
+    ensures { refusal_in result ≡ list_rule node sums payload.now strings.now }
 {
     let start = node.f0 as usize;
     if start != sums.payload {
-        return BAD_RANGE;
+        return Err(Refusal::BadRange);
     }
     list::payload_rule(payload, strings, node.f0, node.f1)
 }
 
-// The number of the first field rule that the node breaks, or 0. The tag is that of the node's target, 0 where there is none.
+// The refusal of the first field rule that the node breaks. The tag is that of the node's target, 0 where there is none.
 pub fn fields_rule(
     node: NodeRecord,
     counts: EntryCounts,
@@ -257,26 +277,26 @@ pub fn fields_rule(
     target_tag: u32,
     payload: &[u8],
     strings: &[u8],
-) -> u32
-    ensures { result ≡ fields_by (kind_of node.tag) node counts sums target_tag payload.now strings.now }
+) -> Result<(), Refusal>
+    ensures { refusal_in result ≡ fields_by (kind_of node.tag) node counts sums target_tag payload.now strings.now }
 {
     let node_tag = node.tag;
     match node_tag {
         tag::CONTAINER => container(node, counts, sums, strings, false),
         tag::CHOICE => choice(node, counts.nodes, target_tag, strings, false),
         tag::DIVERT => divert(node, counts.nodes, strings, false),
-        tag::GLUE | tag::VOID => 0,
+        tag::GLUE | tag::VOID => Ok(()),
         tag::COMMAND | tag::STRING_VALUE | tag::POINTER_VALUE => {
             text_only(node_tag, node.f0, node.f1, strings, false)
         }
         tag::OPERATOR..=tag::TAG => text_only(node_tag, node.f0, node.f1, strings, false),
         tag::BOOL_VALUE => at_most(node.f0, 1),
-        tag::INT_VALUE..=tag::FLOAT_VALUE => 0,
+        tag::INT_VALUE..=tag::FLOAT_VALUE => Ok(()),
         tag::LIST_VALUE => list_value(node, sums, payload, strings),
         tag::TARGET_VALUE => target_value(node, counts.nodes, strings, false),
         tag::ASSIGNMENT => assignment(node, strings, false),
         tag::REFERENCE => reference(node, counts.nodes, target_tag, strings, false),
-        _ => BAD_TAG,
+        _ => Err(Refusal::BadTag),
     }
 }
 
@@ -293,20 +313,20 @@ pub fn root_right(root: NodeRecord) -> bool
     root.tag == tag::CONTAINER
 }
 
-// The number of the parent's rule, which node `i` of so many breaks, or 0. The tag is that of the node in the parent word, 0 where there is none.
-pub fn parent_rule(node: NodeRecord, i: usize, nodes: usize, parent_tag: u32) -> u32
-    ensures { result ≡ parent_by i node nodes parent_tag }
+// The refusal of the parent's rule, where node `i` of so many breaks it. The tag is that of the node in the parent word, 0 where there is none.
+pub fn parent_rule(node: NodeRecord, i: usize, nodes: usize, parent_tag: u32) -> Result<(), Refusal>
+    ensures { refusal_in result ≡ parent_by i node nodes parent_tag }
 {
     if i == 0 {
-        return 0;
+        return Ok(());
     }
     if !is_container(nodes, node.parent, parent_tag) {
-        return BAD_NODE;
+        return Err(Refusal::BadNode);
     }
     if node.parent as usize == i {
-        return BAD_NODE;
+        return Err(Refusal::BadNode);
     }
-    0
+    Ok(())
 }
 
 // The sums before the node after this one, whose field rules pass.

@@ -1,14 +1,12 @@
 -- The numbers of the writer, and of the call that finds targets from paths.
+use Rattle.std.specs.Prelude.{None, Option, Some, ℕ}
 use Prim.Native.Nat.{ℕ}
 use mathlib.Core.Bool.{Bool, true, false, cond}
-use mathlib.Core.Option.{Option, none, some}
 use Rattle.laws.specs.Lists.{has}
 use Rattle.image.specs.Sections.{Sections}
 use Rattle.draft.specs.Draft.{draft_node_rule, draft_child_rule, draft_named_rule, draft_definition_rule, draft_item_rule, tables_rule, reach_rule, relation_rule, order_rule, shape_rule, path_rule, paths_rule}
 use Rattle.draft.specs.PathList.{path_node_rule, path_tables_rule, follows, path_of}
 use Rattle.draft_image.specs.Encode.{draft_rule, encode_rule}
-use Rattle.views.specs.declared.Found.{Found}
-use Rattle.views.specs.declared.Found.TheVariants as found
 use Rattle.target_finding.specs.Targets.{PathList, path_list_rule, end_rule, entry_rule, target_rule, resolve_rule, path_end}
 use Rattle.refusal_numbers.specs.Numbers.{encode_numbers, resolve_numbers, EncodeNumbers, ResolveNumbers}
 use Rattle.refusal_numbers.proofs.OneOf.{In, among, numbers}
@@ -28,14 +26,14 @@ target-number : (s : Sections) (p : PathList) (i : ℕ) → In resolve_numbers (
 unfolding target_rule has
 target-number s p i = by (follows s p.entries i) (path_of p.entries i)
   where
-    end : (due : Bool) (x : Found) → In resolve_numbers (end_rule s due x)
-    end due found.NotFound = search numbers
-    end due (found.Node n) = search numbers
+    end : (due : Bool) (x : Option ℕ) → In resolve_numbers (end_rule s due x)
+    end due None = search numbers
+    end due (Some n) = search numbers
 
     by : (b : Bool) (x : Option ℕ) → In resolve_numbers (cond b (entry_rule s p i x) 0)
     by false x = search numbers
-    by true none = search numbers
-    by true (some k) = end _ (path_end s p i k)
+    by true None = search numbers
+    by true (Some k) = end _ (path_end s p i k)
 
 resolve-number : (ink : ℕ) (s : Sections) (p : PathList) (work : ℕ) → In resolve_numbers (resolve_rule ink s p work)
 unfolding resolve_rule path_list_rule path_tables_rule path_node_rule draft_child_rule draft_named_rule draft_definition_rule draft_item_rule reach_rule shape_rule relation_rule order_rule has

@@ -1,5 +1,5 @@
 -- A call gives one refusal number, or 0: which numbers each can give, whatever it is lent. A later request adds its numbers to a list here.
-use Rattle.std.specs.Prelude.{ℕ, ◌≡◌, List, [], ◌∷◌, ◌++◌, true}
+use Rattle.std.specs.Prelude.{ℕ, ◌≡◌, List, [], ◌∷◌, ◌++◌, true, Option}
 use Rattle.laws.specs.Lists.{has}
 use Rattle.image.specs.Sections.{Sections}
 use Rattle.image.specs.Header.{header_rule}
@@ -7,19 +7,17 @@ use Rattle.image.specs.Refusals.{bad_header, bad_version, bad_ink_version, bad_l
 use Rattle.load.specs.Load.{load_rule}
 use Rattle.draft_image.specs.Encode.{encode_rule}
 use Rattle.pages.specs.Page.{page_rule}
-use Rattle.views.specs.declared.NodeAnswer.{NodeAnswer}
-use Rattle.views.specs.declared.Found.{Found}
-use Rattle.views.specs.declared.Count.{Count}
-use Rattle.views.specs.declared.NamedAnswer.{NamedAnswer}
-use Rattle.views.specs.declared.TextAnswer.{TextAnswer}
-use Rattle.views.specs.declared.EntryAnswer.{EntryAnswer}
-use Rattle.views.specs.declared.DefinitionAnswer.{DefinitionAnswer}
-use Rattle.views.specs.declared.ItemAnswer.{ItemAnswer}
-use Rattle.lookups.specs.declared.ListItemAnswer.{ListItemAnswer}
 use Rattle.promises.specs.Answers.{of_node, of_found, of_count, of_named, of_text, of_entry, of_definition, of_item, of_list_item}
 use Rattle.target_finding.specs.Targets.{PathList, resolve_rule}
 use Rattle.target_counts.specs.Summary.{summary_rule, draft_count_rule}
 use Rattle.target_changes.specs.Change.{set_target_rule}
+use Rattle.views.specs.declared.Span.{Span}
+use Rattle.views.specs.declared.ItemView.{ItemView}
+use Rattle.views.specs.declared.ListEntry.{ListEntry}
+use Rattle.views.specs.declared.NodeView.{NodeView}
+use Rattle.views.specs.declared.NamedChildView.{NamedChildView}
+use Rattle.lookups.specs.declared.ListItem.{ListItem}
+use Rattle.views.specs.declared.DefinitionView.{DefinitionView}
 
 -- ---- the numbers of each call
 
@@ -100,12 +98,12 @@ SetTargetNumbers = (s : Sections) (summary : List ℕ) (node target : ℕ) → O
 
 -- every query, by the kind of its answer
 pub record QueryNumbers : Type 0 where
-  pub node : (a : NodeAnswer) → OneOf query_numbers (of_node a).number
-  pub found : (a : Found) → OneOf query_numbers (of_found a).number
-  pub count : (a : Count) → OneOf query_numbers (of_count a).number
-  pub named : (a : NamedAnswer) → OneOf query_numbers (of_named a).number
-  pub text : (a : TextAnswer) → OneOf query_numbers (of_text a).number
-  pub entry : (a : EntryAnswer) → OneOf query_numbers (of_entry a).number
-  pub definition : (a : DefinitionAnswer) → OneOf query_numbers (of_definition a).number
-  pub item : (a : ItemAnswer) → OneOf query_numbers (of_item a).number
-  pub list-item : (a : ListItemAnswer) → OneOf query_numbers (of_list_item a).number
+  pub node : (a : Option NodeView) → OneOf query_numbers (of_node a).number
+  pub found : (a : Option ℕ) → OneOf query_numbers (of_found a).number
+  pub count : (a : Option ℕ) → OneOf query_numbers (of_count a).number
+  pub named : (a : Option NamedChildView) → OneOf query_numbers (of_named a).number
+  pub text : (a : Option Span) → OneOf query_numbers (of_text a).number
+  pub entry : (a : Option ListEntry) → OneOf query_numbers (of_entry a).number
+  pub definition : (a : Option DefinitionView) → OneOf query_numbers (of_definition a).number
+  pub item : (a : Option ItemView) → OneOf query_numbers (of_item a).number
+  pub list-item : (a : Option ListItem) → OneOf query_numbers (of_list_item a).number

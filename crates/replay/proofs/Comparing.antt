@@ -1,9 +1,9 @@
 -- A comparison of recorded words, word by word, and what a record says by it.
+use Rattle.std.specs.Prelude.{None, Option, Some, Result, Ok, Err}
 use Prim.Native.Nat.{ℕ, ◌+◌, ◌<◌, ◌/◌}
 use mathlib.Core.Path.{◌≡◌, refl, sym, ap, subst, ◌∙◌}
 use mathlib.Core.List.{List, [], ◌∷◌}
 use mathlib.Core.Bool.{Bool, true, false}
-use mathlib.Core.Option.{none, some}
 use native.Mathlib.Nat.{not-suc-le-zero}
 use lib.ListN.{length, get_or, take}
 use lib.Seq.{ext_get_or}
@@ -15,17 +15,17 @@ use Rattle.words.proofs.Words.{length-words}
 use Rattle.texts.specs.Text.{same}
 use Rattle.texts.proofs.Text.{equal-same, unlike-same, length-same}
 use Rattle.image.specs.Header.{section_bytes}
-use Rattle.views.specs.declared.Found.{Found}
-use Rattle.views.specs.declared.Found.TheVariants.{Node, NotFound}
 use Rattle.answers.specs.AnswerWords.{found_answer}
 use Rattle.image.specs.declared.ImageView.{ImageView}
 use Rattle.load.specs.Load.{loaded_of}
+use Rattle.image.specs.Refusals.{refusal_number}
+use Rattle.image.specs.declared.refusal.Refusal.{Refusal}
+use Rattle.writer.specs.declared.EncodeError.{EncodeError}
+use Rattle.writer.specs.declared.EncodeError.TheVariants as error
 use Rattle.promises.specs.Answers.{of_loaded}
-use Rattle.load.specs.declared.Loaded.{Loaded}
 use Rattle.image.specs.Sections.{Sections}
 use Rattle.target_finding.specs.Targets.{PathList, resolve_rule, nodes_after}
-use Rattle.writer.specs.declared.Encoded.{Encoded}
-use Rattle.writer.specs.declared.Encoded.TheVariants.{Written, Short, Refused}
+use Rattle.writer.specs.Encoded.{Encoded, Written, encoded_in}
 use Rattle.replay.specs.Recorded.{recorded, recorded_load, refused_alike, same_written, same_nodes, recorded_targets}
 
 -- ---- word by word
@@ -58,36 +58,36 @@ module _ (part ws : List ℕ) where
 -- ---- what a record says; x is its word at `at`
 
 module _ (f : List ℕ) (at x : ℕ) (e : x ≡ word_in f at) where
-  pub other-number : (count : ℕ) (ws : List ℕ) → (x ≡ 0 → ⊥) → false ≡ recorded f at count (some ws)
+  pub other-number : (count : ℕ) (ws : List ℕ) → (x ≡ 0 → ⊥) → false ≡ recorded f at count (Some ws)
   unfolding recorded
   other-number count ws d = eq_no (word_in f at) 0 _ _ false (λ q. d (e ∙ q)) refl
 
-  pub words-then : (count : ℕ) (ws part : List ℕ) (r : Bool) → x ≡ 0 → part ≡ section_bytes f (record { offset = at + 4; count = count }) 4 → r ≡ same (words_of part) ws → r ≡ recorded f at count (some ws)
+  pub words-then : (count : ℕ) (ws part : List ℕ) (r : Bool) → x ≡ 0 → part ≡ section_bytes f (record { offset = at + 4; count = count }) 4 → r ≡ same (words_of part) ws → r ≡ recorded f at count (Some ws)
   unfolding recorded
   words-then count ws part r z p h = eq_yes (word_in f at) 0 _ _ r (sym e ∙ z) (h ∙ ap (λ (l : List ℕ). same (words_of l) ws) p)
 
-  pub number-alone : (r : Bool) → r ≡ eqb x 18 → r ≡ recorded f at 0 none
+  pub number-alone : (r : Bool) → r ≡ eqb x 18 → r ≡ recorded f at 0 None
   unfolding recorded
   number-alone r h = h ∙ ap (λ (y : ℕ). eqb y 18) e
 
-module _ (f : List ℕ) (at : ℕ) (a : Found) (r : Bool) where
-  pub node-found : (n : ℕ) → a ≡ Node n → r ≡ recorded f at 1 (some (n ∷ [])) → r ≡ recorded f at 1 (found_answer a)
+module _ (f : List ℕ) (at : ℕ) (a : Option ℕ) (r : Bool) where
+  pub node-found : (n : ℕ) → a ≡ Some n → r ≡ recorded f at 1 (Some (n ∷ [])) → r ≡ recorded f at 1 (found_answer a)
   node-found n e h = rw e h
 
-  pub node-none : a ≡ NotFound → r ≡ recorded f at 0 none → r ≡ recorded f at 1 (found_answer a)
+  pub node-none : a ≡ None → r ≡ recorded f at 0 None → r ≡ recorded f at 1 (found_answer a)
   unfolding recorded
   node-none e h = rw e h
 
 -- ---- a load
 
-module _ (a : Loaded) (n : ℕ) (bs : List ℕ) where
-  pub view-number : (v : ImageView) → a ≡ loaded_of bs n → a ≡ Loaded.View v → 0 ≡ (of_loaded (loaded_of bs n)).number
-  view-number v e q = ap (λ (x : Loaded). (of_loaded x).number) (sym q ∙ e)
+module _ (a : Result ImageView ℕ) (n : ℕ) (bs : List ℕ) where
+  pub view-number : (v : ImageView) → a ≡ loaded_of bs n → a ≡ Ok v → 0 ≡ (of_loaded (loaded_of bs n)).number
+  view-number v e q = ap (λ (x : Result ImageView ℕ). (of_loaded x).number) (sym q ∙ e)
 
-  pub refused-number : (k : ℕ) → a ≡ loaded_of bs n → a ≡ Loaded.Refused k → k ≡ (of_loaded (loaded_of bs n)).number
-  refused-number k e q = ap (λ (x : Loaded). (of_loaded x).number) (sym q ∙ e)
+  pub refused-number : (k : ℕ) → a ≡ loaded_of bs n → a ≡ Err k → k ≡ (of_loaded (loaded_of bs n)).number
+  refused-number k e q = ap (λ (x : Result ImageView ℕ). (of_loaded x).number) (sym q ∙ e)
 
-pub load-recorded : (f : List ℕ) (a : Loaded) (x y : ℕ) → x ≡ (of_loaded a).number → y ≡ word_in f 0 → eqb x y ≡ recorded_load f a
+pub load-recorded : (f : List ℕ) (a : Result ImageView ℕ) (x y : ℕ) → x ≡ (of_loaded a).number → y ≡ word_in f 0 → eqb x y ≡ recorded_load f a
 unfolding recorded_load
 load-recorded f a x y e h = rw (e, h) refl
 
@@ -114,13 +114,15 @@ module _ (a : Encoded) (out image : List ℕ) (number : ℕ) where
   unfolding same_written
   image_compared n part r e z p h = rw e (eq_yes number 0 _ _ r z (h ∙ ap (λ (l : List ℕ). same l image) p))
 
-  pub short_compared : (n : ℕ) (r : Bool) → a ≡ Short n → r ≡ refused_alike 23 number → r ≡ same_written a out number image
+module _ (a : Result ℕ EncodeError) (out image : List ℕ) (number : ℕ) (e : EncodeError) where
+  pub short_compared : (n : ℕ) (r : Bool) → a ≡ Err e → e ≡ error.Short n → r ≡ refused_alike 23 number → r ≡ same_written (encoded_in a) out number image
   unfolding same_written
-  short_compared n r e h = rw e h
+  short_compared n r is short h = rw (is, short) h
 
-  pub refusal_compared : (k : ℕ) (r : Bool) → a ≡ Refused k → r ≡ refused_alike k number → r ≡ same_written a out number image
+  pub refusal_compared : (k : Refusal) (ours : ℕ) (r : Bool) → a ≡ Err e → e ≡ error.Refused k → ours ≡ refusal_number k → r ≡ refused_alike ours number
+      → r ≡ same_written (encoded_in a) out number image
   unfolding same_written
-  refusal_compared k r e h = rw e h
+  refusal_compared k ours r is refused number_is h = rw (is, refused, ← number_is) h
 
 -- ---- targets found from paths
 

@@ -1,25 +1,23 @@
 -- What a record says of a query's answer, of a load, of a draft and of targets found from paths.
-use Rattle.std.specs.Prelude.{ℕ, ◌+◌, List, Bool, true, false, cond, take, eqb}
-use Rattle.std.proofs.Math.Option.{Option, none, some}
+use Rattle.std.specs.Prelude.{ℕ, ◌+◌, List, Bool, true, false, cond, take, eqb, None, Option, Some, Result}
 use Rattle.words.specs.Words.{word_in, words_of}
 use Rattle.texts.specs.Text.{same}
 use Rattle.image.specs.Header.{section_bytes}
 use Rattle.image.specs.Refusals.{not_found, draft_shape, no_room}
-use Rattle.load.specs.declared.Loaded.{Loaded}
 use Rattle.promises.specs.Answers.{of_loaded}
 use Rattle.image.specs.Sections.{Sections}
 use Rattle.target_finding.specs.Targets.{PathList, resolve_rule, nodes_after}
-use Rattle.writer.specs.declared.Encoded.{Encoded}
-use Rattle.writer.specs.declared.Encoded.TheVariants.{Written, Short, Refused}
+use Rattle.writer.specs.Encoded.{Encoded, Written, Short, Refused}
+use Rattle.image.specs.declared.ImageView.{ImageView}
 
 -- whether a record has the answer at `at`: 0 and then `count` words, which are these, or 18 for none
 unfoldable pub recorded : List ℕ → ℕ → ℕ → Option (List ℕ) → Bool
-recorded r at count none = eqb (word_in r at) not_found
-recorded r at count (some ws) =
+recorded r at count None = eqb (word_in r at) not_found
+recorded r at count (Some ws) =
     cond (eqb (word_in r at) 0) (same (words_of (section_bytes r (record { offset = at + 4; count = count }) 4)) ws) false
 
 -- whether the first word of a record is the number of a load's answer
-unfoldable pub recorded_load : List ℕ → Loaded → Bool
+unfoldable pub recorded_load : List ℕ → Result ImageView ℕ → Bool
 recorded_load r a = eqb (of_loaded a).number (word_in r 0)
 
 -- whether a refusal is the recorded one: 0 is none, 21 stands for any

@@ -1,14 +1,12 @@
 // Answers against recorded words.
 ghost use Rattle.std.specs.Prelude.{◌≡◌, ◌≤◌};
-ghost use Rattle.std.proofs.Math.Option.{none, some};
 ghost use Rattle.words.specs.Words.{words_of};
 ghost use Rattle.texts.specs.Text.{same};
 ghost use Rattle.answers.specs.AnswerWords.{found_answer};
 ghost use Rattle.replay.specs.Recorded.{recorded};
 
+use answers::NOT_FOUND;
 use image::Section;
-use image::refusal::NOT_FOUND;
-use views::Found;
 
 // Whether these bytes are the words, and no word more.
 pub fn same_words(part: &[u8], words: &[u32]) -> bool
@@ -17,12 +15,10 @@ pub fn same_words(part: &[u8], words: &[u32]) -> bool
     if part.len() / 4 != words.len() {
         return false;
     }
-    let mut i = 0;
-    while i < words.len() {
-        if image::part_word(part, i) != words[i] {
+    for (i, word) in words.iter().enumerate() {
+        if image::part_word(part, i) != *word {
             return false;
         }
-        i += 1;
     }
     true
 }
@@ -30,7 +26,7 @@ pub fn same_words(part: &[u8], words: &[u32]) -> bool
 // Whether the record has, at `at`, 0 and then `count` words, which are these.
 pub fn found(fields: &[u8], at: u32, count: u32, words: &[u32]) -> bool
     requires { at ≤ 1000 }
-    ensures { result ≡ recorded fields.now at count (some words.now) }
+    ensures { result ≡ recorded fields.now at count (Some words.now) }
 {
     if words::get(fields, at as usize) != 0 {
         return false;
@@ -48,21 +44,18 @@ pub fn found(fields: &[u8], at: u32, count: u32, words: &[u32]) -> bool
 
 // Whether the record has, at `at`, the number of what is not found.
 pub fn nothing(fields: &[u8], at: u32) -> bool
-    ensures { result ≡ recorded fields.now at 0 none }
+    ensures { result ≡ recorded fields.now at 0 None }
 {
     words::get(fields, at as usize) == NOT_FOUND
 }
 
 // The same for an answer that is a node.
-pub fn node(fields: &[u8], at: u32, answer: Found) -> bool
+pub fn node(fields: &[u8], at: u32, answer: Option<u32>) -> bool
     requires { at ≤ 1000 }
     ensures { result ≡ recorded fields.now at 1 (found_answer answer) }
 {
     match answer {
-        Found::Node(node) => {
-            let words = [node];
-            found(fields, at, 1, &words)
-        }
-        Found::NotFound => nothing(fields, at),
+        Some(node) => found(fields, at, 1, &[node]),
+        None => nothing(fields, at),
     }
 }

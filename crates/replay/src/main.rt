@@ -3,8 +3,6 @@
 // wrong on purpose: a comparison that compared nothing would leave their lines out.
 #![tactic(auto)]
 
-ghost use Rattle.std.specs.Prelude.{◌≤◌, length, IfOk};
-
 mod compare; // compare.rt: answers against recorded words
 mod drafts; // drafts.rt: drafts and the images they become
 mod loads; // loads.rt: images, whole and damaged
@@ -13,7 +11,6 @@ mod targets; // targets.rt: drafts whose targets are found from paths
 
 use image::Section;
 use std::io;
-use std::io::Read;
 
 // The first two words of the sample.
 const MAGIC: u32 = 1380272467;
@@ -23,6 +20,9 @@ const FORM: u32 = 1;
 // The kind of a record of which the next ones speak.
 const IMAGE: u32 = 1;
 
+// Kinds are below this. They stay numbers: each is a word of its record, counted under it and only matched, unknown ones too.
+const KINDS: usize = 22;
+
 // Where the run is: the next record, the image that it speaks of, and how many records agreed and differed.
 #[derive(Clone, Copy)]
 struct Run {
@@ -30,47 +30,6 @@ struct Run {
     image: Section,
     agree: u32,
     differ: u32,
-}
-
-// Room for the sample.
-fn input_buffer() -> [u8; 393216] {
-    [0; 393216]
-}
-
-// Reads until the buffer is full or the input ends; answers how many bytes were read.
-fn read_full(input: &mut impl Read, buffer: &mut [u8]) -> io::Result<usize>
-    ensures { IfOk result (λ n. n ≤ length buffer.new) }
-{
-    let mut done = 0;
-    while done < buffer.len() {
-        let n = input.read(&mut buffer[done..])?;
-        if n == 0 {
-            break;
-        }
-        done += n;
-    }
-    Ok(done)
-}
-
-fn print(rt: &impl Print, text: &[u8]) -> io::Result<()> {
-    rt.write_all(text)
-}
-
-fn print_number(rt: &impl Print, number: u32) -> io::Result<()> {
-    print!(rt; "{number}")
-}
-
-// One more, as far as a word holds it.
-fn one_more(n: u32) -> u32 {
-    if n < 4294967295 { n + 1 } else { n }
-}
-
-// Counts a record of this kind.
-fn count(counts: &mut [u32; 22], kind: u32) {
-    let k = kind as usize;
-    if k < 22 {
-        counts[k] = one_more(counts[k]);
-    }
 }
 
 // The place after a record's words, of which there are so many; the same place where a word does not hold it.
@@ -122,12 +81,27 @@ fn agrees(kind: u32, fields: &[u8], image: &[u8]) -> bool {
     }
 }
 
-fn print_difference(rt: &impl Print, place: u32, kind: u32) -> io::Result<()> {
-    print(rt, b"record ")?;
-    print_number(rt, place)?;
-    print(rt, b", ")?;
-    print_kind(rt, kind)?;
-    print(rt, b": another answer\n")
+// The name of a kind.
+fn kind_name(kind: u32) -> &'static str {
+    match kind {
+        1 => "image",
+        2 => "word",
+        3 => "bit",
+        4 => "cut",
+        10 => "node view",
+        11 => "child",
+        12 => "named child",
+        13 => "find named child",
+        14 => "list entry",
+        15 => "list origin",
+        16 => "definition",
+        17 => "definition item",
+        18 => "list item",
+        19 => "walk",
+        20 => "draft",
+        21 => "targets",
+        _ => "unknown",
+    }
 }
 
 // One record.
@@ -136,37 +110,41 @@ fn step(
     data: &[u8],
     run: Run,
     place: u32,
-    counts: &mut [u32; 22],
+    counts: &mut [u32; KINDS],
 ) -> io::Result<Run> {
     let at = run.at;
-    let before = run.image;
     let kind = words::get(data, at as usize);
-    let image = image_at(data, at, kind, before);
-    let next = after(at, words::get(data, at as usize + 4));
-    if agrees(
-        kind,
-        record_at(data, at),
-        image::section_part(data, image, 1),
-    ) {
-        count(counts, kind);
+    let image = image_at(data, at, kind, run.image);
+    let next = Run {
+        at: after(at, words::get(data, at as usize + 4)),
+        image,
+        ..run
+    };
+    let part = image::section_part(data, image, 1);
+    if agrees(kind, record_at(data, at), part) {
+        if let Some(count) = counts.get_mut(kind as usize) {
+            *count = count.saturating_add(1);
+        }
         return Ok(Run {
-            at: next,
-            image,
-            agree: one_more(run.agree),
-            differ: run.differ,
+            agree: run.agree.saturating_add(1),
+            ..next
         });
     }
-    print_difference(rt, place, kind)?;
+    let name = kind_name(kind);
+    println!(rt; "record {place}, {name}: another answer")?;
     Ok(Run {
-        at: next,
-        image,
-        agree: run.agree,
-        differ: one_more(run.differ),
+        differ: run.differ.saturating_add(1),
+        ..next
     })
 }
 
 // So many records.
-fn run_all(rt: &impl Print, data: &[u8], records: u32, counts: &mut [u32; 22]) -> io::Result<Run> {
+fn run_all(
+    rt: &impl Print,
+    data: &[u8],
+    records: u32,
+    counts: &mut [u32; KINDS],
+) -> io::Result<Run> {
     let mut run = Run {
         at: 12,
         image: Section {
@@ -176,91 +154,45 @@ fn run_all(rt: &impl Print, data: &[u8], records: u32, counts: &mut [u32; 22]) -
         agree: 0,
         differ: 0,
     };
-    let mut place = 0;
-    while place < records {
+    for place in 0..records {
         run = step(rt, data, run, place, counts)?;
-        place += 1;
     }
     Ok(run)
 }
 
-fn print_kind(rt: &impl Print, kind: u32) -> io::Result<()> {
-    match kind {
-        1 => print(rt, b"image"),
-        2 => print(rt, b"word"),
-        3 => print(rt, b"bit"),
-        4 => print(rt, b"cut"),
-        10 => print(rt, b"node view"),
-        11 => print(rt, b"child"),
-        12 => print(rt, b"named child"),
-        13 => print(rt, b"find named child"),
-        14 => print(rt, b"list entry"),
-        15 => print(rt, b"list origin"),
-        16 => print(rt, b"definition"),
-        17 => print(rt, b"definition item"),
-        18 => print(rt, b"list item"),
-        19 => print(rt, b"walk"),
-        20 => print(rt, b"draft"),
-        21 => print(rt, b"targets"),
-        _ => print(rt, b"unknown"),
-    }
-}
-
-fn print_count(rt: &impl Print, kind: u32, count: u32) -> io::Result<()> {
-    if 0 < count {
-        print_kind(rt, kind)?;
-        print(rt, b": ")?;
-        print_number(rt, count)?;
-        print(rt, b"\n")?;
+// How many records of each kind agreed, if any did.
+fn print_counts(rt: &impl Print, counts: &[u32; KINDS]) -> io::Result<()> {
+    for (kind, count) in (0..).zip(counts) {
+        if 0 < *count {
+            let name = kind_name(kind);
+            println!(rt; "{name}: {count}")?;
+        }
     }
     Ok(())
 }
 
-fn print_counts(rt: &impl Print, counts: &[u32; 22]) -> io::Result<()> {
-    let mut kind = 0;
-    while kind < 22 {
-        print_count(rt, kind, counts[kind as usize])?;
-        kind += 1;
-    }
-    Ok(())
-}
-
-fn print_sums(rt: &impl Print, agree: u32, differ: u32) -> io::Result<()> {
-    print_number(rt, agree)?;
-    print(rt, b" agree, ")?;
-    print_number(rt, differ)?;
-    print(rt, b" differ\n")
-}
-
-// Whether the last record ends where the sample does; a line where not.
-fn ends(rt: &impl Print, data: &[u8], at: u32) -> io::Result<bool> {
-    if at as usize == data.len() {
-        return Ok(true);
-    }
-    print(rt, b"the records do not end with the sample\n")?;
-    Ok(false)
-}
-
-// Every record of a sample, of which this program knows the form; then the counts.
+// Every record of a sample, of which this program knows the form; then the counts. Records that do not end where the sample does differ too.
 fn replay(rt: &impl Print, data: &[u8]) -> io::Result<()> {
     if words::get(data, 0) != MAGIC {
-        return print(rt, b"no sample\n");
+        return println!(rt; "no sample");
     }
     if words::get(data, 4) != FORM {
-        return print(rt, b"another form\n");
+        return println!(rt; "another form");
     }
-    let mut counts = [0u32; 22];
+    let mut counts = [0; KINDS];
     let run = run_all(rt, data, words::get(data, 8), &mut counts)?;
     print_counts(rt, &counts)?;
-    if ends(rt, data, run.at)? {
-        print_sums(rt, run.agree, run.differ)
-    } else {
-        print_sums(rt, run.agree, one_more(run.differ))
+    let agree = run.agree;
+    let mut differ = run.differ;
+    if run.at as usize != data.len() {
+        println!(rt; "the records do not end with the sample")?;
+        differ = differ.saturating_add(1);
     }
+    println!(rt; "{agree} agree, {differ} differ")
 }
 
 fn main(rt: HostRuntime) -> io::Result<()> {
-    let mut buffer = input_buffer();
-    let n = read_full(&mut rt.reader(), &mut buffer)?;
+    let mut buffer = [0u8; 393216];
+    let n = input::read_full(&mut rt.reader(), &mut buffer)?;
     replay(&rt, &buffer[..n])
 }

@@ -1,16 +1,15 @@
 // Queries of an accepted image. A record has what is asked, then the answer: 0 and its words, or 18.
 use crate::compare::{found, node, nothing};
+use draft_words::{after, first, read_words};
 use image::ImageView;
-use load::Loaded;
-use lookups::{ListItem, ListItemAnswer};
-use views::{DefinitionAnswer, EntryAnswer, ItemAnswer, NamedAnswer, Span, TextAnswer};
+use lookups::ListItem;
+use views::Span;
 
 // Whether the library answers the query as is recorded. The image has to be accepted.
 pub fn agrees(kind: u32, fields: &[u8], image: &[u8]) -> bool {
-    let mut work = [0u32; 2048];
-    match load::load(image, &mut work) {
-        Loaded::View(view) => answers(kind, fields, image, view),
-        Loaded::Refused(_) => false,
+    match load::load(image, &mut [0; 2048]) {
+        Ok(view) => answers(kind, fields, image, view),
+        Err(_) => false,
     }
 }
 
@@ -59,11 +58,8 @@ fn named_child(fields: &[u8], image: &[u8], view: ImageView) -> bool {
         words::get(fields, 0),
         words::get(fields, 4),
     ) {
-        NamedAnswer::Named(named) => {
-            let words = answers::named_words(named);
-            found(fields, 8, 3, &words)
-        }
-        NamedAnswer::NotFound => nothing(fields, 8),
+        Some(named) => { found(fields, 8, 3, &answers::named_words(named)) }
+        None => nothing(fields, 8),
     }
 }
 
@@ -101,11 +97,8 @@ fn list_entry(fields: &[u8], image: &[u8], view: ImageView) -> bool {
         strings(image, view),
         words::get(fields, 8),
     ) {
-        EntryAnswer::Entry(entry) => {
-            let words = answers::lists::entry_words(entry);
-            found(fields, 12, 5, &words)
-        }
-        EntryAnswer::NotFound => nothing(fields, 12),
+        Some(entry) => { found(fields, 12, 5, &answers::lists::entry_words(entry)) }
+        None => nothing(fields, 12),
     }
 }
 
@@ -116,44 +109,33 @@ fn list_origin(fields: &[u8], image: &[u8], view: ImageView) -> bool {
         strings(image, view),
         words::get(fields, 8),
     ) {
-        TextAnswer::Text(text) => {
-            let words = [text.offset, text.len];
-            found(fields, 12, 2, &words)
-        }
-        TextAnswer::NotFound => nothing(fields, 12),
+        Some(text) => { found(fields, 12, 2, &[text.offset, text.len]) }
+        None => nothing(fields, 12),
     }
 }
 
 // Index; number, name, length, items.
 fn definition(fields: &[u8], image: &[u8], view: ImageView) -> bool {
     match views::lists::definition(image, view, words::get(fields, 0)) {
-        DefinitionAnswer::Definition(definition) => {
-            let words = answers::lists::definition_words(definition);
-            found(fields, 4, 3, &words)
-        }
-        DefinitionAnswer::NotFound => nothing(fields, 4),
+        Some(definition) => { found(fields, 4, 3, &answers::lists::definition_words(definition)) }
+        None => nothing(fields, 4),
     }
 }
 
 // Index, item; number, name, length, value.
 fn definition_item(fields: &[u8], image: &[u8], view: ImageView) -> bool {
     match views::lists::definition_item(image, view, words::get(fields, 0), words::get(fields, 4)) {
-        ItemAnswer::Item(item) => {
-            let words = answers::lists::item_words(item);
-            found(fields, 8, 3, &words)
-        }
-        ItemAnswer::NotFound => nothing(fields, 8),
+        Some(item) => { found(fields, 8, 3, &answers::lists::item_words(item)) }
+        None => nothing(fields, 8),
     }
 }
 
 // Number, definition, item among all, value; the name's length, the name.
 fn list_item(fields: &[u8], image: &[u8], view: ImageView) -> bool {
     let name = image::text_part(fields, 20, words::get(fields, 16));
-    let search = list_items::list_item(image, view, name);
-    let answer = search.answer;
-    match answer {
-        ListItemAnswer::Item(item) => item_agrees(fields, item),
-        ListItemAnswer::NotFound => nothing(fields, 0),
+    match list_items::list_item(image, view, name).answer {
+        Some(item) => item_agrees(fields, item),
+        None => nothing(fields, 0),
     }
 }
 
@@ -166,42 +148,20 @@ fn item_agrees(fields: &[u8], item: ListItem) -> bool {
     found(fields, 0, 3, &words)
 }
 
-// Origin, whether relative; number, node; number of components, three words each; the names' length, the names.
+// Origin, whether relative; number, node; number of components, three words each; the names' length, the names. Words of at most eight
+// components are read; those past the record's components are of no account.
 fn walk(fields: &[u8], image: &[u8], view: ImageView) -> bool {
-    let mut path = [0u32; 24];
-    path_words(fields, &mut path);
-    walk_along(fields, image, view, &path)
-}
-
-// The components' words, of at most eight. Those past the record's components are of no account.
-fn path_words(fields: &[u8], path: &mut [u32]) {
-    let mut i = 0;
-    while i < 24 {
-        if path.len() <= i {
-            return;
-        }
-        path[i] = words::get(fields, 20 + 4 * i);
-        i += 1;
-    }
-}
-
-// The walk along the components at the start of the path.
-fn walk_along(fields: &[u8], image: &[u8], view: ImageView, path: &[u32]) -> bool {
     let components = words::get(fields, 16);
     if 8 < components {
         return false;
     }
-    let n = 3 * components as usize;
-    if path.len() < n {
-        return false;
-    }
+    let mut path = [0; 24];
+    read_words(after(fields, 20), &mut path);
     let at = 20 + 12 * components;
     let names = image::text_part(fields, at + 4, words::get(fields, at as usize));
     let relative = words::get(fields, 4) != 0;
     let origin = words::get(fields, 0);
-    node(
-        fields,
-        8,
-        walks::resolve_path(image, view, origin, relative, &path[..n], names),
-    )
+    let path = first(&path, 3 * components);
+    let answer = walks::resolve_path(image, view, origin, relative, path, names);
+    node(fields, 8, answer)
 }

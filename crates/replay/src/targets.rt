@@ -9,7 +9,8 @@ ghost use Rattle.replay.specs.Recorded.{same_nodes, recorded_targets};
 
 use crate::compare::same_words;
 use crate::drafts::behind_bytes;
-use draft_words::{Lengths, after, after_words, first, front, lengths_of, read_tables, read_words};
+use draft_words::{Slices, Tables, after, after_words, first, lengths_of, read_words};
+use image::refusal::number_of;
 
 // Where the words of a record stand: its first is the ink version. The draft follows them.
 const NUMBER_AT: usize = 4;
@@ -34,141 +35,92 @@ fn same(ours: u32, nodes: &[u32], number: u32, recorded: &[u8]) -> bool
     same_words(recorded, nodes)
 }
 
+// The slices of a list of paths.
+#[derive(Clone, Copy)]
+struct ListSlices<'l> {
+    paths: &'l [u32],
+    components: &'l [u32],
+    names: &'l [u8],
+}
+
 // Whether resolving the draft by its list gives what was recorded.
 fn resolve_agrees(
     ink: u32,
     nodes: &mut [u32],
-    children: &[u32],
-    named: &[u32],
-    definitions: &[u32],
-    items: &[u32],
-    payload: &[u8],
-    strings: &[u8],
-    paths: &[u32],
-    components: &[u32],
-    names: &[u8],
+    slices: Slices<'_>,
+    list: ListSlices<'_>,
     work: &mut [u32],
     number: u32,
     recorded: &[u8],
 ) -> bool
     ensures { let s =
-        draft_of version nodes.old children.now named.now definitions.now items.now
-        payload.now strings.now in
-        let p = path_list paths.now components.now names.now in
+        draft_of version nodes.old slices.entry.children.now slices.entry.named.now slices.entry.definitions.now slices.entry.items.now
+        slices.entry.payload.now slices.entry.strings.now in
+        let p = path_list list.entry.paths.now list.entry.components.now list.entry.names.now in
         result ≡ recorded_targets ink s p (length work.old) number recorded.now }
 {
     let answer = static_targets::resolve_static_targets(
         ink,
         nodes,
-        children,
-        named,
-        definitions,
-        items,
-        payload,
-        strings,
-        paths,
-        components,
-        names,
+        slices.children,
+        slices.named,
+        slices.definitions,
+        slices.items,
+        slices.payload,
+        slices.strings,
+        list.paths,
+        list.components,
+        list.names,
         work,
     );
-    same(answer, nodes, number, recorded)
+    same(number_of(answer), nodes, number, recorded)
 }
 
 // The same, with the list and the nodes after the call read from the record, behind the draft's strings.
-fn list_agrees(
-    fields: &[u8],
-    nodes: &mut [u32],
-    children: &[u32],
-    named: &[u32],
-    definitions: &[u32],
-    items: &[u32],
-    payload: &[u8],
-    strings: &[u8],
-    list: &[u8],
-) -> bool {
-    let mut paths = [0u32; 128];
-    let mut components = [0u32; 128];
-    let mut work = [0u32; 512];
+fn list_agrees(fields: &[u8], nodes: &mut [u32], slices: Slices<'_>, list: &[u8]) -> bool {
     let entries_length = words::get(fields, ENTRIES_LENGTH_AT);
     let components_length = words::get(fields, COMPONENTS_LENGTH_AT);
     let names_length = words::get(fields, NAMES_LENGTH_AT);
+    let mut paths = [0; 128];
     read_words(list, &mut paths);
     let from_components = after_words(list, entries_length);
+    let mut components = [0; 128];
     read_words(from_components, &mut components);
     let from_names = after_words(from_components, components_length);
+    let list = ListSlices {
+        paths: first(&paths, entries_length),
+        components: first(&components, components_length),
+        names: first(from_names, names_length),
+    };
     resolve_agrees(
         words::get(fields, 0),
         nodes,
-        children,
-        named,
-        definitions,
-        items,
-        payload,
-        strings,
-        first(&paths, entries_length),
-        first(&components, components_length),
-        front(from_names, names_length),
-        &mut work,
+        slices,
+        list,
+        &mut [0; 512],
         words::get(fields, NUMBER_AT),
         behind_bytes(from_names, names_length),
-    )
-}
-
-// The same, with the strings and what is behind them read from the record; so many words are the nodes.
-fn strings_agree(
-    fields: &[u8],
-    nodes: &mut [u32],
-    children: &[u32],
-    named: &[u32],
-    definitions: &[u32],
-    items: &[u32],
-    payload: &[u8],
-    behind: &[u8],
-    lengths: Lengths,
-) -> bool {
-    let n = lengths.nodes as usize;
-    if nodes.len() < n {
-        return false;
-    }
-    list_agrees(
-        fields,
-        &mut nodes[..n],
-        children,
-        named,
-        definitions,
-        items,
-        payload,
-        front(behind, lengths.strings),
-        behind_bytes(behind, lengths.strings),
     )
 }
 
 // A draft of which each section, and each table of the list, has at most 128 words.
 pub fn targets_agree(fields: &[u8]) -> bool {
     let lengths = lengths_of(after(fields, LENGTHS_AT));
-    let mut nodes = [0u32; 128];
-    let mut children = [0u32; 128];
-    let mut named = [0u32; 128];
-    let mut definitions = [0u32; 128];
-    let mut items = [0u32; 128];
-    let from_payload = read_tables(
-        after(fields, DRAFT_AT),
-        lengths,
-        &mut nodes,
-        &mut children,
-        &mut named,
-        &mut definitions,
-        &mut items,
-    );
-    strings_agree(
+    let bytes = after(fields, DRAFT_AT);
+    let mut words = [0; 128];
+    read_words(bytes, &mut words);
+    let Some(nodes) = words.get_mut(..lengths.nodes as usize) else {
+        return false;
+    };
+    let (tables, from_payload) = Tables::<128>::read(bytes, lengths);
+    let from_strings = behind_bytes(from_payload, lengths.payload);
+    let payload = first(from_payload, lengths.payload);
+    let strings = first(from_strings, lengths.strings);
+    let slices = tables.slices(lengths, payload, strings);
+    list_agrees(
         fields,
-        &mut nodes,
-        first(&children, lengths.children),
-        first(&named, lengths.named),
-        first(&definitions, lengths.definitions),
-        first(&items, lengths.items),
-        front(from_payload, lengths.payload),
-        behind_bytes(from_payload, lengths.payload),
-        lengths,
+        nodes,
+        slices,
+        behind_bytes(from_strings, lengths.strings),
     )
 }

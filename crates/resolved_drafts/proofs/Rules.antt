@@ -1,15 +1,14 @@
 -- A draft that is not refused, resolved: its targets, and the rules 19 to 21.
+use Rattle.std.specs.Prelude.{None, Option, Some, ℕ, is_some}
 use Prim.Native.Nat.{ℕ, ◌+◌, ◌*◌, ◌/◌, ◌%◌, ◌≤◌, ◌<◌}
 use mathlib.Core.Path.{◌≡◌, refl, sym, ap, ◌∙◌, subst}
 use mathlib.Core.Logic.{inl, inr}
 use mathlib.Core.Bool.{Bool, true, false, ◌&&◌, ◌||◌, not, true≢false, or-true}
-use mathlib.Core.Option.{Option, none, some}
 use native.Mathlib.Omega.{arith}
 use lib.ListN.{length}
 use lib.Dec.{eqb, leb}
 use borrow.Author.Tests.{eqb-true, leb-true}
 use Rattle.laws.specs.Refusal.{unless}
-use Rattle.laws.specs.Lists.{is_some}
 use Rattle.laws.proofs.First.{both, then, passed, pass, as_zero, zero_as, first_all, first_of_lem}
 use Rattle.laws.proofs.Flags.{both_true}
 use Rattle.words.specs.Words.{NONE, is_none}
@@ -26,8 +25,6 @@ use Rattle.draft.specs.Draft.{whole_entries, draft_node_rule, entry_tables_rule,
 use Rattle.draft.specs.PathList.{path_origin, path_of, listed, follows, without_target, path_fields_rule, path_node_rule, path_tables_rule}
 use Rattle.draft.proofs.PathTables.{FollowTag, path-whole}
 use Rattle.lookups.proofs.Plain.{last_some}
-use Rattle.views.specs.declared.Found.{Found}
-use Rattle.views.specs.declared.Found.TheVariants as found
 use Rattle.target_finding.specs.Targets.{PathList, path_end, ends_in_index, needs_container, end_rule, entry_rule, target_rule, resolve_rule, target_found, is_path_text, followed_word, resolved_nodes, resolved}
 use Rattle.walks.proofs.WalkEnds.{Leads}
 use Rattle.static_targets.proofs.FoundInside.{leads, end_inside}
@@ -79,14 +76,14 @@ taken ink s p work h =
 pub record Target (s : Sections) (p : PathList) (i : ℕ) : Type 0 where
   pub entry : ℕ
   pub node : ℕ
-  pub listed : path_of p.entries i ≡ some entry
-  pub end : path_end s p i entry ≡ found.Node node
+  pub listed : path_of p.entries i ≡ Some entry
+  pub end : path_end s p i entry ≡ Some node
   pub is : target_found s p i ≡ node
   pub within : inside s node ≡ true
   pub container : needs_container (tag_of s i) (ends_in_index p entry) ≡ true → is_container s node ≡ true
 
 module _ (s : Sections) (p : PathList) (l : Leads s) (i : ℕ) (g : follows s p.entries i ≡ true) where
-  target_at_lem : (k n : ℕ) → path_of p.entries i ≡ some k → path_end s p i k ≡ found.Node n
+  target_at_lem : (k n : ℕ) → path_of p.entries i ≡ Some k → path_end s p i k ≡ Some n
       → (not (needs_container (tag_of s i) (ends_in_index p k)) || is_container s n) ≡ true → Target s p i
   target_at_lem k n e q d =
       record {
@@ -106,14 +103,14 @@ module _ (s : Sections) (p : PathList) (l : Leads s) (i : ℕ) (g : follows s p.
       reads : target_found s p i ≡ n
       reads = unfold target_found in rw (g, e, q) refl
 
-  target_end : (k : ℕ) → path_of p.entries i ≡ some k → (x : Found) → path_end s p i k ≡ x
+  target_end : (k : ℕ) → path_of p.entries i ≡ Some k → (x : Option ℕ) → path_end s p i k ≡ x
       → end_rule s (needs_container (tag_of s i) (ends_in_index p k)) x ≡ 0 → Target s p i
-  target_end k e found.NotFound q h = absurd (omega arith)
-  target_end k e (found.Node n) q h = target_at_lem k n e q (passed _ 25 h)
+  target_end k e None q h = absurd (omega arith)
+  target_end k e (Some n) q h = target_at_lem k n e q (passed _ 25 h)
 
   target-entry : (x : Option ℕ) → path_of p.entries i ≡ x → entry_rule s p i x ≡ 0 → Target s p i
-  target-entry none e h = absurd (true≢false (sym (both_true (listed p.entries i) _ g).0 ∙ ap is_some e))
-  target-entry (some k) e h = target_end k e (path_end s p i k) refl h
+  target-entry None e h = absurd (true≢false (sym (both_true (listed p.entries i) _ g).0 ∙ ap is_some e))
+  target-entry (Some k) e h = target_end k e (path_end s p i k) refl h
 
   pub target : target_rule s p i ≡ 0 → Target s p i
   unfolding target_rule

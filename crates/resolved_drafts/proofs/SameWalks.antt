@@ -1,4 +1,5 @@
 -- Walks through a resolved draft are those through the draft.
+use Rattle.std.specs.Prelude.{None, Some}
 use Prim.Native.Nat.{ℕ, ◌+◌}
 use mathlib.Core.Path.{◌≡◌, refl, ◌∙◌}
 use mathlib.Core.List.{List}
@@ -10,7 +11,6 @@ use Rattle.laws.proofs.Flags.{and-false}
 use Rattle.words.specs.Words.{is_none}
 use Rattle.image.specs.Sections.{Sections, child_count, tag_of, f, child_word, inside_among, inside, is_container, inside_container}
 use Rattle.image.specs.Tags.{container_tag}
-use Rattle.views.specs.declared.Found.TheVariants.{Node, NotFound}
 use Rattle.views.specs.Children.{child_query}
 use Rattle.lookups.specs.Lookup.{named_by, find_named}
 use Rattle.walks.specs.Walk.{Component, Parent, Index, Name, Broken, parent_query, step}
@@ -33,7 +33,7 @@ module _ (s : Sections) (ws : List ℕ) (a : SameTree s ws) where
 
   same-parent : (i : ℕ) → parent_query r i ≡ parent_query s i
   unfolding parent_query
-  same-parent i = λ t. cond (inside_among (a.count t) i && not (is_none (a.parents i t))) (Node (a.parents i t)) NotFound
+  same-parent i = λ t. cond (inside_among (a.count t) i && not (is_none (a.parents i t))) (Some (a.parents i t)) None
 
   same-child : (i j : ℕ) → child_query r i j ≡ child_query s i j
   same-child i j = by (is_container s i) refl
@@ -44,7 +44,7 @@ module _ (s : Sections) (ws : List ℕ) (a : SameTree s ws) where
           let many : f r i 4 ≡ f s i 4 = a.boxes i 4 (eqb-true (tag_of s i) container_tag e) (omega arith) in
           λ t.
           cond (inside_among (a.count t) i && eqb (a.tags i t) container_tag && ltb j (many t) && ltb (first t + j) (child_count s))
-          (Node (child_word s (first t + j))) NotFound
+          (Some (child_word s (first t + j))) None
       by false e = unfold child_query in rw (no_box i e, no_box_either i e) refl
 
   same-named : (i : ℕ) (name : List ℕ) → find_named r i name ≡ find_named s i name
@@ -54,7 +54,7 @@ module _ (s : Sections) (ws : List ℕ) (a : SameTree s ws) where
       by true e = unfold find_named in
           let first : f r i 5 ≡ f s i 5 = a.boxes i 5 (eqb-true (tag_of s i) container_tag e) (omega arith) in
           let many : f r i 6 ≡ f s i 6 = a.boxes i 6 (eqb-true (tag_of s i) container_tag e) (omega arith) in
-          λ t. cond (inside_among (a.count t) i && eqb (a.tags i t) container_tag) (named_by s.named s.strings (first t) (many t) name) NotFound
+          λ t. cond (inside_among (a.count t) i && eqb (a.tags i t) container_tag) (named_by s.named s.strings (first t) (many t) name) None
       by false e = unfold find_named in rw (no_box i e, no_box_either i e) refl
 
   same_step : (i : ℕ) (c : Component) → step r i c ≡ step s i c

@@ -1,8 +1,8 @@
 -- The words of a resolved draft are words.
+use Rattle.std.specs.Prelude.{None, Option, Some, ℕ}
 use Prim.Native.Nat.{ℕ, ◌+◌, ◌^◌, ◌<◌}
 use mathlib.Core.Path.{◌≡◌, refl, sym, subst}
 use mathlib.Core.Bool.{Bool, true, false, cond}
-use mathlib.Core.Option.{Option, none, some}
 use native.Mathlib.Omega.{arith}
 use lib.Dec.{eqb}
 use borrow.Author.Tests.{eqb-true}
@@ -14,8 +14,6 @@ use Rattle.image.specs.Tags.{container_tag}
 use Rattle.records.specs.Fields.{target_place, kind_of}
 use Rattle.draft.specs.PathList.{path_of, follows}
 use Rattle.draft.proofs.PathTables.{no_container_lem}
-use Rattle.views.specs.declared.Found.{Found}
-use Rattle.views.specs.declared.Found.TheVariants as found
 use Rattle.walks.specs.Walk.{components}
 use Rattle.written.specs.Written.{DraftWords}
 use Rattle.written.proofs.Lists.{all_below, all_joined}
@@ -51,17 +49,17 @@ module _ (s : Sections) (p : PathList) (d : DraftWords s) where
 
   module _ (i : ℕ) (g : follows s p.entries i ≡ true) where
     -- a node that follows is no container, so its walk starts at a word
-    found-small : (k : ℕ) (x : Found) → path_end s p i k ≡ x → Word (found_node x)
+    found-small : (k : ℕ) (x : Option ℕ) → path_end s p i k ≡ x → Word (found_node x)
     unfolding path_end
-    found-small k found.NotFound e = none-word
-    found-small k (found.Node n) e =
+    found-small k None e = none-word
+    found-small k (Some n) e =
         walk_ends s Word closed (omega arith) _ i
         (λ h b. absurd (no_container_lem (tag_of s i) (tag_of_follower s p i g) (eqb-true (tag_of s i) container_tag b)))
         (components p.names (path_components p k)) n e
 
     entry-small : (x : Option ℕ) → Word (entry_target s p i x)
-    entry-small none = none-word
-    entry-small (some k) = found-small k (path_end s p i k) refl
+    entry-small None = none-word
+    entry-small (Some k) = found-small k (path_end s p i k) refl
 
     target_small : Word (target_found s p i)
     unfolding target_found

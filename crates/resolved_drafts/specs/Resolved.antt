@@ -1,6 +1,5 @@
 -- What a resolved draft keeps, and which of the writer's rules it may break: the statements.
-use Rattle.std.specs.Prelude.{ℕ, ◌+◌, ◌*◌, ◌≤◌, ◌<◌, ◌≡◌, ◌≢◌, ◌⊎◌, List, [], Bool, true, false, ◌&&◌, length, leb}
-use Rattle.std.proofs.Math.Option.{some}
+use Rattle.std.specs.Prelude.{ℕ, ◌+◌, ◌*◌, ◌≤◌, ◌<◌, ◌≡◌, ◌≢◌, ◌⊎◌, List, [], Bool, true, false, ◌&&◌, length, leb, Some}
 use Rattle.laws.specs.Refusal.{unless, ◌▸◌}
 use Rattle.words.specs.Words.{NONE}
 use Rattle.image.specs.Header.{version, ink_right}
@@ -13,7 +12,6 @@ use Rattle.draft.specs.Draft.{tables_rule, write_words, reach_rule, shape_rule, 
 use Rattle.draft.specs.PathList.{path_origin, path_of, follows}
 use Rattle.draft_image.specs.Encode.{image_for, draft_rule, encode_rule}
 use Rattle.written.specs.Written.{DraftWords, Written}
-use Rattle.views.specs.declared.Found.TheVariants.{Node}
 use Rattle.walks.specs.Walk.{Component, resolve}
 use Rattle.target_finding.specs.Targets.{PathList, path_end, ends_in_index, needs_container, resolve_rule, is_path_text, resolved_nodes, resolved}
 
@@ -113,8 +111,8 @@ pub record TargetSet (s : Sections) (p : PathList) (i : ℕ) : Type 0 where
   pub entry : ℕ
   pub node : ℕ
   pub origin : path_origin p.entries entry ≡ i
-  pub listed : path_of p.entries i ≡ some entry
-  pub end : path_end s p i entry ≡ Node node
+  pub listed : path_of p.entries i ≡ Some entry
+  pub end : path_end s p i entry ≡ Some node
   pub target : target_of (resolved s p) i (kind_of (tag_of (resolved s p) i)) ≡ node
   pub within : inside (resolved s p) node ≡ true
   pub container : needs_container (tag_of s i) (ends_in_index p entry) ≡ true → is_container (resolved s p) node ≡ true

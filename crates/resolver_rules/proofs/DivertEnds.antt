@@ -1,10 +1,10 @@
 -- Where a divert's path ends: behind 21 a name and a step up lead to containers only, so a container is there wherever one is due.
+use Rattle.std.specs.Prelude.{None, Option, Some, ℕ}
 use Prim.Native.Nat.{ℕ, zero, suc, ◌+◌, ◌-◌, ◌*◌, ◌≤◌, ◌<◌}
 use mathlib.Core.Path.{◌≡◌, refl, sym, ap, ◌∙◌}
 use mathlib.Core.Logic.{◌≢◌, inl, inr}
 use mathlib.Core.List.{List, [], ◌∷◌}
 use mathlib.Core.Bool.{Bool, true, false, cond, ◌&&◌, not, true≢false}
-use mathlib.Core.Option.{Option, none, some}
 use native.Mathlib.Omega.{arith}
 use native.Mathlib.Decide.{ℕ_discrete}
 use lib.ListN.{length, get_or, take, drop, length-drop}
@@ -19,8 +19,6 @@ use Rattle.records.specs.Records.{number_of_named}
 use Rattle.records.proofs.PassedRules.{node_of_lem}
 use Rattle.tree.specs.Tree.{named_at}
 use Rattle.draft.specs.PathList.{path_word}
-use Rattle.views.specs.declared.Found.{Found}
-use Rattle.views.specs.declared.Found.TheVariants.{Node, NotFound}
 use Rattle.lookups.specs.Lookup.{entry_text, searched, found_at, named_by, find_named}
 use Rattle.lookups.proofs.HalvingSearch.{found-there}
 use Rattle.walks.specs.Walk.{Component, Parent, Index, Name, Broken, index_kind, component, components, parent_query, step, step_from, steps, resolve}
@@ -99,19 +97,19 @@ part-other names lent first count few d = last-other names count (take (3 * coun
 
 module _ (s : Sections) (t : ShapeRight s) where
   -- what is found is a container
-  abbrev InContainer : Found → Type 0
-  InContainer r = (n : ℕ) → r ≡ Node n → tag_of s n ≡ container_tag
+  abbrev InContainer : Option ℕ → Type 0
+  InContainer r = (n : ℕ) → r ≡ Some n → tag_of s n ≡ container_tag
 
-  at_container : (i : ℕ) → tag_of s i ≡ container_tag → InContainer (Node i)
+  at_container : (i : ℕ) → tag_of s i ≡ container_tag → InContainer (Some i)
   at_container i e n h = ap (tag_of s) (sym (node-equal i n h)) ∙ e
 
   parent-container : (i : ℕ) → InContainer (parent_query s i)
   unfolding parent_query
   parent-container i n h =
-      let q = found_if (inside s i && not (is_none (parent_of s i))) (Node (parent_of s i)) n h in
+      let q = found_if (inside s i && not (is_none (parent_of s i))) (Some (parent_of s i)) n h in
       let b = both_true (inside s i) (not (is_none (parent_of s i))) q.0 in
-      let some = eqb-false (parent_of s i) NONE (not-true (is_none (parent_of s i)) b.1) in
-      at_container (parent_of s i) (by (ℕ_discrete i 0) (node_of_lem s i b.0).below some) n q.1
+      let Some = eqb-false (parent_of s i) NONE (not-true (is_none (parent_of s i)) b.1) in
+      at_container (parent_of s i) (by (ℕ_discrete i 0) (node_of_lem s i b.0).below Some) n q.1
     where
       by : Dec (i ≡ 0) → i < node_count s → parent_of s i ≢ NONE → tag_of s (parent_of s i) ≡ container_tag
       by (yes e) l d = absurd (d (ap (parent_of s) e ∙ t.root-parent))
@@ -126,9 +124,9 @@ module _ (s : Sections) (t : ShapeRight s) where
       by (searched s.named s.strings (f s i 5) (f s i 6) name) refl b.1 (node_of_lem s i b.0).below r.1
     where
       by : (x : Option ℕ) → searched s.named s.strings (f s i 5) (f s i 6) name ≡ x → is_container s i ≡ true → i < node_count s
-          → found_at (λ j. named_at s i j 2) x ≡ Node n → tag_of s n ≡ container_tag
-      by none e c l q = absurd (nothing n q)
-      by (some j) e c l q =
+          → found_at (λ j. named_at s i j 2) x ≡ Some n → tag_of s n ≡ container_tag
+      by None e c l q = absurd (nothing n q)
+      by (Some j) e c l q =
           let below = (found-there (λ y. entry_text s.named s.strings (f s i 5 + y)) name (f s i 6) 0 (f s i 6) j e).below in
           at_container (named_at s i j 2) (t.entry i l j (rw c below)).container.container n q
 
@@ -139,16 +137,16 @@ module _ (s : Sections) (t : ShapeRight s) where
   step-container i (Name name) l n h = named-container i name n h
   step-container i Broken l n h = absurd (nothing n h)
 
-  last-container : (at : Found) (c : Component) → NoIndex c → InContainer (step_from s at c)
-  last-container NotFound c l n h = absurd (nothing n h)
-  last-container (Node i) c l n h = step-container i c l n h
+  last-container : (at : Option ℕ) (c : Component) → NoIndex c → InContainer (step_from s at c)
+  last-container None c l n h = absurd (nothing n h)
+  last-container (Some i) c l n h = step-container i c l n h
 
-  steps-last : (cs : List Component) (c : Component) → LastOther (c ∷ cs) → (at : Found) → InContainer (steps s at (c ∷ cs))
+  steps-last : (cs : List Component) (c : Component) → LastOther (c ∷ cs) → (at : Option ℕ) → InContainer (steps s at (c ∷ cs))
   unfolding steps
   steps-last [] c l at n h = last-container at c l n h
   steps-last (d ∷ cs) c l at n h = steps-last cs d l (step_from s at c) n h
 
-  steps-container : (cs : List Component) → LastOther cs → (at : Found) → InContainer at → InContainer (steps s at cs)
+  steps-container : (cs : List Component) → LastOther cs → (at : Option ℕ) → InContainer at → InContainer (steps s at cs)
   unfolding steps
   steps-container [] l at g n h = g n h
   steps-container (c ∷ cs) l at g n h = steps-last cs c l at n h
@@ -156,7 +154,7 @@ module _ (s : Sections) (t : ShapeRight s) where
   -- a walk starts at a container: at the root, or from a node that is none at its parent
   walk-container : (relative : Bool) (origin : ℕ) → is_container s origin ≡ false → (cs : List Component) → LastOther cs → InContainer (resolve s relative origin cs)
   unfolding resolve
-  walk-container false origin o cs l n h = steps-container cs l (Node 0) (at_container 0 t.root-container) n h
+  walk-container false origin o cs l n h = steps-container cs l (Some 0) (at_container 0 t.root-container) n h
   walk-container true origin o cs l n h =
       let q = found_if (inside s origin) _ n (rw o at h) in
       steps-container (drop 1 cs) (skip-other cs l) (parent_query s origin) (parent-container origin) n q.1

@@ -1,15 +1,14 @@
 -- The list of paths, who follows a path and who needs a container, in plain words, both ways.
+use Rattle.std.specs.Prelude.{None, Option, Some, is_some}
 use Prim.Native.Nat.{ℕ, ◌+◌, ◌/◌, ◌%◌, ◌≤◌, ◌<◌}
 use mathlib.Core.Path.{◌≡◌, refl, sym, ap, ◌∙◌}
 use mathlib.Core.Logic.{◌≢◌, inl, inr}
 use mathlib.Core.Bool.{Bool, true, false, ◌&&◌, ◌||◌, not, true≢false}
-use mathlib.Core.Option.{Option, none, some}
 use native.Mathlib.Omega.{arith}
 use native.Mathlib.Decide.{ℕ_discrete, dec_lt}
 use lib.ListN.{length}
 use lib.Dec.{leb, ltb, eqb}
 use borrow.Author.Tests.{eq-eqb, ne_eqb, le-leb, lt-ltb, eqb-true, eqb-false, leb-true, ltb-true, not-true}
-use Rattle.laws.specs.Lists.{is_some}
 use Rattle.laws.proofs.Flags.{both_true, not-true-false, all_at, all_of_lem}
 use Rattle.words.specs.Words.{NONE, is_none}
 use Rattle.image.specs.Entries.{node_in}
@@ -147,25 +146,25 @@ module _ (s : Sections) (p : PathList) (i : ℕ) where
       by (path_of p.entries i) refl b.0 (may_right s i b.1)
     where
       by : (x : Option ℕ) → path_of p.entries i ≡ x → is_some x ≡ true → MayFollow s i → Follower
-      by none e h m = absurd (true≢false (sym h))
-      by (some k) e h m =
+      by None e h m = absurd (true≢false (sym h))
+      by (Some k) e h m =
           let l = last_some (λ (j : ℕ). eqb (path_origin p.entries j) i) (path_count p.entries) k e in
           record { entry = k; follows = record { listed = l.below; origin = eqb-true _ _ l.passes; may = m } }
 
   -- of a list that is right it is the one
-  pub entry_of : ListRight s p → (k : ℕ) → Follows s p i k → path_of p.entries i ≡ some k
+  pub entry_of : ListRight s p → (k : ℕ) → Follows s p i k → path_of p.entries i ≡ Some k
   unfolding path_of
   entry_of r k g = by (path_of p.entries i) refl
     where
-      by : (x : Option ℕ) → path_of p.entries i ≡ x → x ≡ some k
-      by none e =
+      by : (x : Option ℕ) → path_of p.entries i ≡ x → x ≡ Some k
+      by None e =
           absurd
           (true≢false
           (sym (eq-eqb (path_origin p.entries k) i g.origin) ∙ last_none (λ (j : ℕ). eqb (path_origin p.entries j) i) (path_count p.entries) k e g.listed))
-      by (some d) e =
+      by (Some d) e =
           let l = last_some (λ (j : ℕ). eqb (path_origin p.entries j) i) (path_count p.entries) d e in
           elim (ℕ_discrete d k) [
-            | yes q ↦ ap some q
+            | yes q ↦ ap Some q
             | no q ↦ absurd ((r.entry k g.listed).once d l.below q (eqb-true _ _ l.passes ∙ sym g.origin))
           ]
 

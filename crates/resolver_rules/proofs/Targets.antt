@@ -1,4 +1,5 @@
 -- What is refused of one node in plain words, both ways.
+use Rattle.std.specs.Prelude.{None, Option, Some, ℕ}
 use Prim.Native.Nat.{ℕ, suc}
 use mathlib.Core.Path.{◌≡◌, refl, sym, ap, ◌∙◌}
 use mathlib.Core.Bool.{Bool, true, false, ◌||◌, not, true≢false}
@@ -9,8 +10,6 @@ use Rattle.laws.proofs.First.{passed, pass}
 use Rattle.image.specs.Sections.{Sections, tag_of, is_container}
 use Rattle.image.specs.Tags.{container_tag}
 use Rattle.draft.specs.PathList.{follows}
-use Rattle.views.specs.declared.Found.{Found}
-use Rattle.views.specs.declared.Found.TheVariants.{Node, NotFound}
 use Rattle.target_finding.specs.Targets.{PathList, path_end, ends_in_index, needs_container, end_rule, target_rule}
 use Rattle.resolver_rules.specs.ResolverRules.{ListRight, Follows, TargetThere, NoNodeThere, NoContainerThere}
 use Rattle.resolver_rules.proofs.Paths.{right_may, follower, entry_of, due_right, right_due}
@@ -21,9 +20,9 @@ module _ (s : Sections) (p : PathList) (i k : ℕ) where
   abbrev due : Bool
   due = needs_container (tag_of s i) (ends_in_index p k)
 
-  end_there : (x : Found) → path_end s p i k ≡ x → end_rule s due x ≡ 0 → TargetThere s p i k
-  end_there NotFound e h = absurd (omega arith)
-  end_there (Node n) e h =
+  end_there : (x : Option ℕ) → path_end s p i k ≡ x → end_rule s due x ≡ 0 → TargetThere s p i k
+  end_there None e h = absurd (omega arith)
+  end_there (Some n) e h =
       record { node = n; end = e; container = λ d. eqb-true (tag_of s n) container_tag (by due (right_due s p i k d) (passed _ 25 h)) }
     where
       by : (b : Bool) → b ≡ true → (not b || is_container s n) ≡ true → is_container s n ≡ true
@@ -37,17 +36,17 @@ module _ (s : Sections) (p : PathList) (i k : ℕ) where
       by true e = eq-eqb (tag_of s t.node) container_tag (t.container (due_right s p i k e))
       by false e = refl
 
-  end_missing : (x : Found) → end_rule s due x ≡ 25 → x ≡ NotFound
-  end_missing NotFound h = refl
-  end_missing (Node n) h = absurd (by (not due || is_container s n) h)
+  end_missing : (x : Option ℕ) → end_rule s due x ≡ 25 → x ≡ None
+  end_missing None h = refl
+  end_missing (Some n) h = absurd (by (not due || is_container s n) h)
     where
       by : (b : Bool) → unless b 26 ≡ 25 → ⊥
       by true q = unfold unless in omega arith
       by false q = unfold unless in omega arith
 
-  end_unfit : Follows s p i k → (x : Found) → path_end s p i k ≡ x → end_rule s due x ≡ 26 → NoContainerThere s p i
-  end_unfit g NotFound e h = absurd (omega arith)
-  end_unfit g (Node n) e h = by due refl (is_container s n) refl h
+  end_unfit : Follows s p i k → (x : Option ℕ) → path_end s p i k ≡ x → end_rule s due x ≡ 26 → NoContainerThere s p i
+  end_unfit g None e h = absurd (omega arith)
+  end_unfit g (Some n) e h = by due refl (is_container s n) refl h
     where
       by : (b : Bool) → due ≡ b → (c : Bool) → is_container s n ≡ c → unless (not b || c) 26 ≡ 26 → NoContainerThere s p i
       by true d false c q =

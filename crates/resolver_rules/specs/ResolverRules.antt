@@ -1,6 +1,6 @@
 -- What is asked of a draft whose targets are to be found from paths, and of the list of paths beside it, rule by rule in plain words. What is
 -- taken is exactly this (proofs/ResolverRules), and which node decides 25 and 26.
-use Rattle.std.specs.Prelude.{ℕ, ◌+◌, ◌-◌, ◌*◌, ◌%◌, ◌≤◌, ◌<◌, ◌≡◌, ◌≢◌, ◌⊎◌, false, length, get_or}
+use Rattle.std.specs.Prelude.{ℕ, ◌+◌, ◌-◌, ◌*◌, ◌%◌, ◌≤◌, ◌<◌, ◌≡◌, ◌≢◌, ◌⊎◌, false, length, get_or, None, Some}
 use Rattle.words.specs.Words.{NONE}
 use Rattle.image.specs.Entries.{node_in}
 use Rattle.image.specs.Header.{first_ink_version, last_ink_version}
@@ -12,7 +12,6 @@ use Rattle.records.specs.Flags.{external}
 use Rattle.tree.specs.Reach.{Reached}
 use Rattle.draft.specs.Draft.{write_words}
 use Rattle.draft.specs.PathList.{path_entry_words, path_count, path_word, path_origin}
-use Rattle.views.specs.declared.Found.TheVariants.{Node, NotFound}
 use Rattle.walks.specs.Walk.{component_words, index_kind}
 use Rattle.promises.specs.Rules.{NodeRight, FieldRight, Iff}
 use Rattle.written.specs.DraftRules.{TablesRightBy, ShapeRight}
@@ -86,7 +85,7 @@ ContainerDue s p i k = (tag_of s i ≡ choice_tag) ⊎ (tag_of s i ≡ reference
 -- a node is at the end of the path, a container where one is due
 pub record TargetThere (s : Sections) (p : PathList) (i k : ℕ) : Type 0 where
   pub node : ℕ
-  pub end : path_end s p i k ≡ Node node
+  pub end : path_end s p i k ≡ Some node
   pub container : ContainerDue s p i k → tag_of s node ≡ container_tag
 
 pub record ResolveRight (ink : ℕ) (s : Sections) (p : PathList) (work : ℕ) : Type 0 where
@@ -103,7 +102,7 @@ ResolveExactly = (ink : ℕ) (s : Sections) (p : PathList) (work : ℕ) → Iff 
 pub record NoNodeThere (s : Sections) (p : PathList) (i : ℕ) : Type 0 where
   pub entry : ℕ
   pub follows : Follows s p i entry
-  pub end : path_end s p i entry ≡ NotFound
+  pub end : path_end s p i entry ≡ None
 
 -- node i follows a path that has to lead to a container, and the node at its end is none
 pub record NoContainerThere (s : Sections) (p : PathList) (i : ℕ) : Type 0 where
@@ -111,7 +110,7 @@ pub record NoContainerThere (s : Sections) (p : PathList) (i : ℕ) : Type 0 whe
   pub follows : Follows s p i entry
   pub due : ContainerDue s p i entry
   pub node : ℕ
-  pub end : path_end s p i entry ≡ Node node
+  pub end : path_end s p i entry ≡ Some node
   pub other : tag_of s node ≢ container_tag
 
 -- all tests up to 21 pass, a node fails so, and every node before it finds its target

@@ -24,9 +24,7 @@ fn print_argument(rt: &(impl Env + Files + Print), place: usize) -> io::Result<b
         Err(FillError::TooLong) => 0,
         Err(FillError::NotPresent) => return Ok(false),
     };
-    let Ok(name) = str::from_utf8(&buffer[..n]) else {
-        return Err(io::Error::from(io::ErrorKind::InvalidData));
-    };
+    let name = str::from_utf8(&buffer[..n]).map_err(|_| io::ErrorKind::InvalidData)?;
     print_sample(rt, name)?;
     Ok(true)
 }

@@ -1,9 +1,9 @@
 -- The words that are made of the technician's words of a kind are those of the sleeper's view.
+use Rattle.std.specs.Prelude.{None, Option, Some}
 use Prim.Native.Nat.{ℕ, ◌+◌, ◌/◌, ◌≤◌, ◌<◌}
 use mathlib.Core.Path.{◌≡◌, refl, sym, ap, ◌∙◌}
 use mathlib.Core.List.{List, [], ◌∷◌, ◌++◌}
 use mathlib.Core.Bool.{Bool, true, false, true≢false, cond, not, ◌&&◌, ◌||◌}
-use mathlib.Core.Option.{Option, none, some}
 use native.Mathlib.Omega.{arith}
 use native.Mathlib.Nat.{not-suc-le-zero}
 use lib.ListN.{length, get_or, drop, set}
@@ -24,18 +24,10 @@ use Rattle.records.specs.Fields as field
 use Rattle.records.specs.Fields.{Kind, kind_of}
 use Rattle.records.specs.Flags.{odd, external}
 use Rattle.views.specs.declared.Span.{Span}
-use Rattle.views.specs.declared.OptionalText.{OptionalText}
-use Rattle.views.specs.declared.OptionalText.TheVariants as text
 use Rattle.views.specs.declared.ValueView.{ValueView}
 use Rattle.views.specs.declared.ValueView.TheVariants as value
 use Rattle.views.specs.declared.NodeKindView.{NodeKindView}
 use Rattle.views.specs.declared.NodeKindView.TheVariants as kind
-use Rattle.views.specs.declared.KindAnswer.{KindAnswer}
-use Rattle.views.specs.declared.KindAnswer.TheVariants as kindly
-use Rattle.views.specs.declared.NodeAnswer.{NodeAnswer}
-use Rattle.views.specs.declared.NodeAnswer.TheVariants as node
-use Rattle.views.specs.declared.entries.RecordFound.{RecordFound}
-use Rattle.views.specs.declared.entries.RecordFound.TheVariants as record-found
 use Rattle.views.specs.View.{span, shown, optional_text, optional_word, push_type, of_command, of_operator, with_text, kind_view, with_kind, record_view, node_view}
 use Rattle.views.specs.Found.{node_found}
 use Rattle.views.proofs.Answers.{view-missing, view-found}
@@ -51,8 +43,6 @@ use Rattle.sleeper.specs.declared.SleeperValue.{SleeperValue}
 use Rattle.sleeper.specs.declared.SleeperValue.TheVariants as seenValue
 use Rattle.sleeper.specs.declared.SleeperKind.{SleeperKind}
 use Rattle.sleeper.specs.declared.SleeperKind.TheVariants as seen
-use Rattle.sleeper.specs.declared.SleeperAnswer.{SleeperAnswer}
-use Rattle.sleeper.specs.declared.SleeperAnswer.TheVariants as answer
 use Rattle.sleeper.specs.declared.SleeperView.{SleeperView}
 use Rattle.sleeper.specs.Reader.{with_places, sleeper_sections}
 use Rattle.sleeper.specs.Seen.{presence, value_seen, kind_seen, view_seen, sleeper_view}
@@ -60,20 +50,22 @@ use Rattle.sleeper.specs.Texts.{value_text, kind_text, kind_variable}
 use Rattle.sleeper.specs.NodeWords.{six_words, text_kind_words, value_words, kind_words, node_words, node_answer}
 use Rattle.sleeper.specs.RecordWords.{note_words, hidden_words, text_given, six_of}
 use Rattle.sleeper.proofs.Reading.{sections-seen}
+use Rattle.sleeper.specs.declared.SleeperNode.{SleeperNode}
+use Rattle.views.specs.declared.NodeView.{NodeView}
 
 -- ---- texts that a view shows have an offset that is not NONE
 
-abbrev GivenText : OptionalText → Type 0
-GivenText (text.Present t) = is_none t.offset ≡ false
-GivenText text.Absent = Unit {0}
+abbrev GivenText : Option Span → Type 0
+GivenText (Some t) = is_none t.offset ≡ false
+GivenText None = Unit {0}
 
 record GivenKind (k : NodeKindView) : Type 0 where
   text : GivenText (kind_text k)
   variable : GivenText (kind_variable k)
 
-abbrev GivenAnswer : KindAnswer → Type 0
-GivenAnswer (kindly.Kind k) = GivenKind k
-GivenAnswer kindly.NotFound = Unit {0}
+abbrev GivenAnswer : Option NodeKindView → Type 0
+GivenAnswer (Some k) = GivenKind k
+GivenAnswer None = Unit {0}
 
 shown-given : (strings at len : ℕ) → shown strings at len ≡ true → is_none at ≡ false
 shown-given strings at len h = by (is_none at) refl h
@@ -86,30 +78,30 @@ optional-given : (strings at len : ℕ) → GivenText (optional_text strings at 
 unfolding optional_text
 optional-given strings at len = by (shown strings at len) refl
   where
-    by : (b : Bool) → shown strings at len ≡ b → GivenText (cond b (text.Present (span at len)) text.Absent)
+    by : (b : Bool) → shown strings at len ≡ b → GivenText (cond b (Some (span at len)) None)
     by true e = shown-given strings at len e
     by false e = tt
 
 module _ (strings : List ℕ) (payload : ℕ) (r : NodeRecord) where
-  texted-given : (g : Span → KindAnswer) → (is_none r.f0 ≡ false → GivenAnswer (g (span r.f0 r.f1))) → GivenAnswer (with_text strings r g)
+  texted-given : (g : Span → Option NodeKindView) → (is_none r.f0 ≡ false → GivenAnswer (g (span r.f0 r.f1))) → GivenAnswer (with_text strings r g)
   unfolding with_text
   texted-given g h = by (shown (length strings) r.f0 r.f1) refl
     where
-      by : (b : Bool) → shown (length strings) r.f0 r.f1 ≡ b → GivenAnswer (cond b (g (span r.f0 r.f1)) kindly.NotFound)
+      by : (b : Bool) → shown (length strings) r.f0 r.f1 ≡ b → GivenAnswer (cond b (g (span r.f0 r.f1)) None)
       by true e = h (shown-given (length strings) r.f0 r.f1 e)
       by false e = tt
 
-  given_if : (b : Bool) (k : NodeKindView) → GivenKind k → GivenAnswer (cond b (kindly.Kind k) kindly.NotFound)
+  given_if : (b : Bool) (k : NodeKindView) → GivenKind k → GivenAnswer (cond b (Some k) None)
   given_if true k h = h
   given_if false k h = tt
 
   command_given : (c : Option CommandType) → GivenAnswer (of_command c)
-  command_given none = tt
-  command_given (some c) = record { text = tt; variable = tt }
+  command_given None = tt
+  command_given (Some c) = record { text = tt; variable = tt }
 
   operator_given : (o : Option Op) → GivenAnswer (of_operator o)
-  operator_given none = tt
-  operator_given (some o) = record { text = tt; variable = tt }
+  operator_given None = tt
+  operator_given (Some o) = record { text = tt; variable = tt }
 
   kind-given : (k : Kind) → GivenAnswer (kind_view strings payload r k)
   unfolding kind_view
@@ -186,9 +178,9 @@ hidden-given strings k h = by (note_kind strings k)
     by true = record { text = tt; variable = tt }
     by false = h
 
-given_bit : (o : OptionalText) → GivenText o → bit_if (not (is_none (span_or o).offset)) 1 ≡ bit_if (presence o) 1
-given_bit (text.Present t) h = ap (λ (b : Bool). bit_if (not b) 1) h
-given_bit text.Absent h = refl
+given_bit : (o : Option Span) → GivenText o → bit_if (not (is_none (span_or o).offset)) 1 ≡ bit_if (presence o) 1
+given_bit (Some t) h = ap (λ (b : Bool). bit_if (not b) 1) h
+given_bit None h = refl
 
 six_value : (v : ValueView) → GivenText (value_text v) → six_in (technician.value_words v) ≡ value_words (value_seen v)
 six_value (value.Bool b) h = refl
@@ -242,26 +234,26 @@ module _ (strings : List ℕ) (w u : KindWords) (hide : u ≡ hidden_words strin
   words-seen k g e = ap six_in (words-hidden k e) ∙ six_kind (hide_note strings k) (hidden-given strings k g)
 
   -- and with parent and place those of the view
-  pub kind-seen : (payload : ℕ) (r : NodeRecord) → some (eight_of w) ≡ words_of_kind (kind_view strings payload r (kind_of r.tag))
-      → some (r.parent ∷ r.place ∷ six_of u) ≡ node_answer (view_seen (hide_in strings (record_view strings payload r)))
+  pub kind-seen : (payload : ℕ) (r : NodeRecord) → Some (eight_of w) ≡ words_of_kind (kind_view strings payload r (kind_of r.tag))
+      → Some (r.parent ∷ r.place ∷ six_of u) ≡ node_answer (view_seen (hide_in strings (record_view strings payload r)))
   unfolding record_view
   kind-seen payload r h = by (kind_view strings payload r (kind_of r.tag)) (kind-given strings payload r (kind_of r.tag)) h
     where
-      by : (a : KindAnswer) → GivenAnswer a → some (eight_of w) ≡ words_of_kind a
-          → some (r.parent ∷ r.place ∷ six_of u) ≡ node_answer (view_seen (hide_in strings (with_kind strings payload r a)))
-      by kindly.NotFound g e = let z : ◌≡◌ {A = ℕ} 0 1 = cc in absurd (omega arith)
-      by (kindly.Kind k) g e =
+      by : (a : Option NodeKindView) → GivenAnswer a → Some (eight_of w) ≡ words_of_kind a
+          → Some (r.parent ∷ r.place ∷ six_of u) ≡ node_answer (view_seen (hide_in strings (with_kind strings payload r a)))
+      by None g e = let z : ◌≡◌ {A = ℕ} 0 1 = cc in absurd (omega arith)
+      by (Some k) g e =
           let q : eight_of w ≡ technician.kind_words k = cc in
           rw (words-seen k g q, word_back r.parent, word_back r.place) refl
 
-pub kind-missing : (strings : List ℕ) (payload : ℕ) (r : NodeRecord) → none ≡ words_of_kind (kind_view strings payload r (kind_of r.tag))
-    → none ≡ node_answer (view_seen (hide_in strings (record_view strings payload r)))
+pub kind-missing : (strings : List ℕ) (payload : ℕ) (r : NodeRecord) → None ≡ words_of_kind (kind_view strings payload r (kind_of r.tag))
+    → None ≡ node_answer (view_seen (hide_in strings (record_view strings payload r)))
 unfolding record_view
 kind-missing strings payload r h = by (kind_view strings payload r (kind_of r.tag)) h
   where
-    by : (a : KindAnswer) → none ≡ words_of_kind a → none ≡ node_answer (view_seen (hide_in strings (with_kind strings payload r a)))
-    by kindly.NotFound e = refl
-    by (kindly.Kind k) e = let z : ◌≡◌ {A = ℕ} 0 1 = cc in absurd (omega arith)
+    by : (a : Option NodeKindView) → None ≡ words_of_kind a → None ≡ node_answer (view_seen (hide_in strings (with_kind strings payload r a)))
+    by None e = refl
+    by (Some k) e = let z : ◌≡◌ {A = ℕ} 0 1 = cc in absurd (omega arith)
 
 -- ---- the lent slice
 
@@ -288,9 +280,9 @@ six_words_lem (seen.VariableReference target) = refl
 six_words_lem seen.Void = refl
 
 -- an answer of fewer words than a view has
-pub view-short : (a : SleeperAnswer) (xs : List ℕ) → length xs < 8 → Answered (node_answer a) xs xs 18
-view-short answer.NotFound xs h = unanswered none xs refl
-view-short (answer.View v) xs h = let e = six_words_lem v.kind in too_short (node_words v) xs (omega arith)
+pub view-short : (a : Option SleeperNode) (xs : List ℕ) → length xs < 8 → Answered (node_answer a) xs xs 18
+view-short None xs h = unanswered None xs refl
+view-short (Some v) xs h = let e = six_words_lem v.kind in too_short (node_words v) xs (omega arith)
 
 -- eight words written one by one
 eight_put : (xs : List ℕ) (a b c d e f g h : ℕ) → 8 ≤ length xs
@@ -315,18 +307,18 @@ words_put xs parent place k l t e v q =
 
 -- ---- of a node, by its record
 
-module _ (bs : List ℕ) (v : SleeperView) (u : ImageView) (e : u ≡ with_places (length bs) v) (i : ℕ) (r : RecordFound) (h : r ≡ node_found (sections_by bs u) i) where
-  answer-seen : (a : NodeAnswer) → a ≡ node_view (sections_by bs u) i
+module _ (bs : List ℕ) (v : SleeperView) (u : ImageView) (e : u ≡ with_places (length bs) v) (i : ℕ) (r : Option NodeRecord) (h : r ≡ node_found (sections_by bs u) i) where
+  answer-seen : (a : Option NodeView) → a ≡ node_view (sections_by bs u) i
       → node_answer (view_seen (hide_in (sections_by bs u).strings a)) ≡ node_answer (sleeper_view (sleeper_sections bs v) i)
   unfolding sleeper_view hidden
   answer-seen a q =
-      ap (λ (x : NodeAnswer). node_answer (view_seen (hide_in (sections_by bs u).strings x))) q
+      ap (λ (x : Option NodeView). node_answer (view_seen (hide_in (sections_by bs u).strings x))) q
       ∙ ap (λ (s : Sections). node_answer (view_seen (hide_in s.strings (node_view s i)))) (sections-seen bs v u e)
 
-  pub words-missing : r ≡ record-found.NotFound → none ≡ node_answer (sleeper_view (sleeper_sections bs v) i)
-  words-missing m = answer-seen node.NotFound (view-missing (sections_by bs u) i r h m)
+  pub words-missing : r ≡ None → None ≡ node_answer (sleeper_view (sleeper_sections bs v) i)
+  words-missing m = answer-seen None (view-missing (sections_by bs u) i r h m)
 
-  pub words-found : (x : NodeRecord) → r ≡ record-found.Record x → (n : ℕ) → n ≡ length (sections_by bs u).payload → (strings : List ℕ)
+  pub words-found : (x : NodeRecord) → r ≡ Some x → (n : ℕ) → n ≡ length (sections_by bs u).payload → (strings : List ℕ)
       → strings ≡ section_bytes bs u.strings 1
       → node_answer (view_seen (hide_in strings (record_view strings n x))) ≡ node_answer (sleeper_view (sleeper_sections bs v) i)
   words-found x m n p strings q =

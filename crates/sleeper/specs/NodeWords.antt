@@ -1,6 +1,5 @@
 -- The sleeper's view of a node in eight words.
-use Rattle.std.specs.Prelude.{ℕ, List, [], ◌∷◌, Bool, true, false}
-use Rattle.std.proofs.Math.Option.{Option, none, some}
+use Rattle.std.specs.Prelude.{ℕ, List, [], ◌∷◌, Bool, true, false, None, Option, Some}
 use Rattle.words.specs.Words.{NONE}
 use Rattle.names.specs.ControlCommand.{command_number}
 use Rattle.names.specs.NativeFunctionCall.{operator_number}
@@ -12,8 +11,6 @@ use Rattle.sleeper.specs.declared.SleeperValue.TheVariants as value
 use Rattle.sleeper.specs.declared.SleeperKind.{SleeperKind}
 use Rattle.sleeper.specs.declared.SleeperKind.TheVariants as kind
 use Rattle.sleeper.specs.declared.SleeperNode.{SleeperNode}
-use Rattle.sleeper.specs.declared.SleeperAnswer.{SleeperAnswer}
-use Rattle.sleeper.specs.declared.SleeperAnswer.TheVariants as answer
 
 -- the tag, 1 where there is a text, 1 where there is a variable, target, value, flags
 abbrev pub six_words : ℕ → Bool → Bool → ℕ → ℕ → ℕ → List ℕ
@@ -54,6 +51,6 @@ kind_words kind.Void = value_word void_tag 0
 abbrev pub node_words : SleeperNode → List ℕ
 node_words v = word_or v.parent ∷ word_or v.child_index ∷ kind_words v.kind
 
-abbrev pub node_answer : SleeperAnswer → Option (List ℕ)
-node_answer (answer.View v) = some (node_words v)
-node_answer answer.NotFound = none
+abbrev pub node_answer : Option SleeperNode → Option (List ℕ)
+node_answer (Some v) = Some (node_words v)
+node_answer None = None

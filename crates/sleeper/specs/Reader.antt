@@ -1,18 +1,14 @@
 -- The sleeper's view of an image: versions, and how many entries the sections have. Where they lie follows from that, as each begins where
 -- the one before ends; the strings are what is left of the bytes behind the payload.
-use Rattle.std.specs.Prelude.{ℕ, ◌+◌, ◌*◌, ◌-◌, List, [], ◌∷◌, Bool, cond, ◌&&◌, length, get_or, leb}
+use Rattle.std.specs.Prelude.{ℕ, ◌+◌, ◌*◌, ◌-◌, List, [], ◌∷◌, Bool, cond, ◌&&◌, length, get_or, leb, Err, Ok, Result}
 use Rattle.laws.specs.Counted.{sum_of, counted}
 use Rattle.words.specs.Words.{NONE}
 use Rattle.image.specs.declared.Section.{Section}
 use Rattle.image.specs.declared.ImageView.{ImageView}
 use Rattle.image.specs.Sections.{Sections}
 use Rattle.image.specs.Header.{header_length, sizes, sections_by, headers}
-use Rattle.load.specs.declared.Loaded.{Loaded}
-use Rattle.load.specs.declared.Loaded.TheVariants as loaded
 use Rattle.load.specs.Load.{loaded_of}
 use Rattle.sleeper.specs.declared.SleeperView.{SleeperView}
-use Rattle.sleeper.specs.declared.SleeperLoaded.{SleeperLoaded}
-use Rattle.sleeper.specs.declared.SleeperLoaded.TheVariants as seen
 
 -- what the sleeper's view keeps of a view
 abbrev pub without_places : ImageView → SleeperView
@@ -88,11 +84,11 @@ unfoldable pub sleeper_sections : List ℕ → SleeperView → Sections
 sleeper_sections bs v = sections_by bs (with_places (length bs) v)
 
 -- what a load answers the sleeper's reader
-abbrev pub loaded_seen : Loaded → SleeperLoaded
-loaded_seen (loaded.View v) = seen.View (without_places v)
-loaded_seen (loaded.Refused n) = seen.Refused n
+abbrev pub loaded_seen : Result ImageView ℕ → Result SleeperView ℕ
+loaded_seen (Ok v) = Ok (without_places v)
+loaded_seen (Err n) = Err n
 
-unfoldable pub sleeper_loaded : List ℕ → ℕ → SleeperLoaded
+unfoldable pub sleeper_loaded : List ℕ → ℕ → Result SleeperView ℕ
 sleeper_loaded bs work = loaded_seen (loaded_of bs work)
 
 -- names on an `unfolding` line what a computation with this module needs

@@ -12,15 +12,16 @@ mod sections; // sections.rt: where sections lie
 mod places; // places.rt: where texts lie
 
 ghost use Rattle.std.specs.Prelude.{◌≡◌, length};
+ghost use Rattle.image.specs.Refusals.{numbered};
 ghost use Rattle.image.specs.Header.{sections_of};
 ghost use Rattle.load.specs.Load.{load_rule, load_words, work_after};
 ghost use Rattle.sleeper.specs.Reader.{without_places, sleeper_loaded};
 
 use image::ImageView;
-use load::Loaded;
+use image::refusal::Refusal;
 use names::control_command::CommandType;
 use names::native_function_call::Op;
-use views::{OptionalWord, PushPopType};
+use views::PushPopType;
 
 // What the sleeper's reader keeps of a header: the versions, and how many entries each section has, of the payload bytes. It holds no place,
 // and not the strings' length, which is one of the three that only the technician's reader tells.
@@ -35,13 +36,6 @@ pub struct SleeperView {
     pub items: u32,
     pub index: u32,
     pub payload: u32,
-}
-
-// As `load::Loaded`.
-#[derive(Clone, Copy)]
-pub enum SleeperLoaded {
-    View(SleeperView),
-    Refused(u32),
 }
 
 // As `views::ValueView`, without the places of texts and payload.
@@ -65,12 +59,12 @@ pub enum SleeperKind {
     },
     ChoicePoint {
         flags: i32,
-        target: OptionalWord,
+        target: Option<u32>,
     },
     ControlCommand(CommandType),
     Divert {
         path: bool,
-        target: OptionalWord,
+        target: Option<u32>,
         variable_name: bool,
         external_args: u32,
         conditional: bool,
@@ -87,22 +81,16 @@ pub enum SleeperKind {
         new_declaration: bool,
     },
     VariableReference {
-        count_target: OptionalWord,
+        count_target: Option<u32>,
     },
     Void,
 }
 
 #[derive(Clone, Copy)]
 pub struct SleeperNode {
-    pub parent: OptionalWord,
-    pub child_index: OptionalWord,
+    pub parent: Option<u32>,
+    pub child_index: Option<u32>,
     pub kind: SleeperKind,
-}
-
-#[derive(Clone, Copy)]
-pub enum SleeperAnswer {
-    View(SleeperNode),
-    NotFound,
 }
 
 // An entry of a list value: whether it names an origin, and its value.
@@ -110,19 +98,6 @@ pub enum SleeperAnswer {
 pub struct SleeperEntry {
     pub origin: bool,
     pub value: i32,
-}
-
-#[derive(Clone, Copy)]
-pub enum SleeperEntryAnswer {
-    Entry(SleeperEntry),
-    NotFound,
-}
-
-// An item's value.
-#[derive(Clone, Copy)]
-pub enum SleeperItemAnswer {
-    Item(i32),
-    NotFound,
 }
 
 // Which text: a node's (name, path or text), the variable of a divert; of a container the name of its j-th named child; of a definition, of
@@ -158,16 +133,11 @@ fn without_places(view: ImageView) -> SleeperView
 }
 
 // Loads an image for the sleeper's reader: as `load::load`, with the sleeper's view.
-pub fn load(bytes: &[u8], work: &mut [u32]) -> SleeperLoaded
-    ensures answer { result ≡ sleeper_loaded bytes.now (length work.old) }
+pub fn load(bytes: &[u8], work: &mut [u32]) -> Result<SleeperView, Refusal>
+    ensures answer { numbered result ≡ sleeper_loaded bytes.now (length work.old) }
     ensures words { let bs = bytes.now in
         work.new ≡ work_after (load_words (sections_of bs)) (load_rule bs (length work.old)) work.old }
 {
-    match load::load(bytes, work) {
-        Loaded::Refused(number) => SleeperLoaded::Refused(number),
-        Loaded::View(view) => {
-            let seen = without_places(view);
-            SleeperLoaded::View(seen)
-        }
-    }
+    let view = load::load(bytes, work)?;
+    Ok(without_places(view))
 }

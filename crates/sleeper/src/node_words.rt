@@ -1,5 +1,6 @@
 // A node's view in eight words: parent, place, kind, 1 where there is a text, 1 where there is a variable, target, value, flags. They are made
 // of the words that the technician is given of the node's record.
+// The functions `put_..` that answer a number answer that of the C interface: 0, or NOT_FOUND.
 ghost use Rattle.std.specs.Prelude.{◌≡◌, ◌∷◌, ◌++◌, not, ◌≤◌, length, drop};
 ghost use Rattle.words.specs.Words.{is_none};
 ghost use Rattle.views.specs.View.{record_view};
@@ -12,10 +13,9 @@ ghost use Rattle.sleeper.specs.RecordWords.{note_words, hidden_words, text_given
 
 use crate::SleeperView;
 use crate::sections::{node_of, part, payload_length, with_places};
-use answers::node::{KindFound, KindWords};
-use image::refusal::NOT_FOUND;
+use answers::NOT_FOUND;
+use answers::node::KindWords;
 use image::{ImageView, NONE, NodeRecord, tag};
-use views::entries::RecordFound;
 
 // Words of a node's view.
 pub const NODE_VIEW_WORDS: usize = 8;
@@ -84,8 +84,8 @@ fn put_record_view(node: NodeRecord, payload: usize, strings: &[u8], answer: &mu
         return NOT_FOUND;
     }
     match answers::node::kind_words(node, payload, strings) {
-        KindFound::NotFound => NOT_FOUND,
-        KindFound::Kind(kind) => {
+        None => NOT_FOUND,
+        Some(kind) => {
             put_eight(node.parent, node.place, hide_note(kind, strings), answer);
             0
         }
@@ -99,8 +99,8 @@ pub fn put_node_view(bytes: &[u8], view: SleeperView, id: u32, answer: &mut [u32
 {
     let whole = with_places(bytes.len(), view);
     match node_of(bytes, whole, id) {
-        RecordFound::NotFound => NOT_FOUND,
-        RecordFound::Record(node) => {
+        None => NOT_FOUND,
+        Some(node) => {
             let strings = part(bytes, whole.strings, ImageView::STRINGS_SIZE);
             put_record_view(node, payload_length(whole), strings, answer)
         }

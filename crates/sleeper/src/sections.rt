@@ -7,8 +7,7 @@ ghost use Rattle.views.specs.Found.{node_found};
 ghost use Rattle.sleeper.specs.Reader.{section_by, unplaced, with_places};
 
 use crate::SleeperView;
-use image::{ImageView, NONE, Section};
-use views::entries::RecordFound;
+use image::{ImageView, NONE, NodeRecord, Section};
 
 // Where the nodes end, which begin behind the header.
 fn nodes_end(count: u32, version: u32) -> usize
@@ -103,13 +102,13 @@ pub fn payload_length(view: ImageView) -> usize
 }
 
 // Node `id` under a view whose nodes are known to lie inside, so that their count is the view's.
-pub fn node_of(bytes: &[u8], view: ImageView, id: u32) -> RecordFound
+pub fn node_of(bytes: &[u8], view: ImageView, id: u32) -> Option<NodeRecord>
     requires { view.nodes.offset + view.nodes.count * node_size view.version ≤ length bytes.now }
     ensures { result ≡ node_found (sections_by bytes.now view) id }
 {
     let nodes = part(bytes, view.nodes, image::node_size(view.version));
     if !image::is_inside(view.nodes.count as usize, id) {
-        return RecordFound::NotFound;
+        return None;
     }
-    RecordFound::Record(image::node_record(nodes, view.version, id as usize))
+    Some(image::node_record(nodes, view.version, id as usize))
 }

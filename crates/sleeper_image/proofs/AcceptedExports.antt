@@ -1,8 +1,8 @@
 -- Nothing sticks at the edge of the sleeper's reader: on accepted bytes an exported query answers exactly if the inner one does, with its words.
+use Rattle.std.specs.Prelude.{None, Option, Some, ℕ, ℤ}
 use Prim.Native.Nat.{ℕ, ◌≤◌, ◌<◌}
 use mathlib.Core.Path.{◌≡◌, refl, sym, ap, ◌∙◌}
 use mathlib.Core.List.{List, [], ◌∷◌}
-use mathlib.Core.Option.{Option, none, some}
 use native.Mathlib.Omega.{arith}
 use lib.ListN.{length, drop}
 use Rattle.laws.specs.Lists.{Below}
@@ -10,8 +10,6 @@ use Rattle.image.specs.Sections.{Sections, definition_count}
 use Rattle.image.specs.Header.{view_of, sections_of}
 use Rattle.image.proofs.OpenedHeader.{opens, length-word}
 use Rattle.load.specs.Load.{Accepted}
-use Rattle.views.specs.declared.Found.{Found}
-use Rattle.views.specs.declared.Count.{Count}
 use Rattle.views.specs.Children.{child_count_of, named_count_of, child_query}
 use Rattle.depth.specs.Depth.{depth_of}
 use Rattle.lookups.specs.Lookup.{find_named, list_item}
@@ -19,23 +17,17 @@ use Rattle.list_items.specs.Search.{list_search}
 use Rattle.list_items.proofs.Plain.{same_answer}
 use Rattle.walks.specs.Walk.{components, resolve}
 use Rattle.promises.proofs.Acceptance.{load-accepted, accepted-passed}
-use Rattle.answers.specs.AnswerWords.{answer_after, found_answer, count_answer, count_words, list_item_answer}
+use Rattle.answers.specs.AnswerWords.{answer_after, found_answer, count_words, list_item_answer}
 use Rattle.answers.specs.Exports.{Answers, words_of_list_item}
 use Rattle.answers.specs.Lent.{written_after}
 use Rattle.answers.proofs.AnswerSlices.{count-some}
-use Rattle.answers.proofs.Sizes.{Size, some_size, none-size, found-size, count-size, list-item-size, answering}
+use Rattle.answers.proofs.Sizes.{Size, some_size, none-size, found-size, list-item-size, answering}
 use Rattle.answers.proofs.ItemNumbers.{definitions_few, item-words}
 use Rattle.sleeper.specs.declared.SleeperView.{SleeperView}
 use Rattle.sleeper.specs.declared.SleeperValue.{SleeperValue}
 use Rattle.sleeper.specs.declared.SleeperValue.TheVariants as value
 use Rattle.sleeper.specs.declared.SleeperKind.{SleeperKind}
 use Rattle.sleeper.specs.declared.SleeperKind.TheVariants as kind
-use Rattle.sleeper.specs.declared.SleeperAnswer.{SleeperAnswer}
-use Rattle.sleeper.specs.declared.SleeperAnswer.TheVariants as answer
-use Rattle.sleeper.specs.declared.SleeperEntryAnswer.{SleeperEntryAnswer}
-use Rattle.sleeper.specs.declared.SleeperEntryAnswer.TheVariants as entry
-use Rattle.sleeper.specs.declared.SleeperItemAnswer.{SleeperItemAnswer}
-use Rattle.sleeper.specs.declared.SleeperItemAnswer.TheVariants as item
 use Rattle.sleeper.specs.Reader.{without_places, sleeper_sections}
 use Rattle.sleeper.specs.Seen.{sleeper_view, sleeper_named, sleeper_definition, sleeper_first_item, sleeper_definition_item}
 use Rattle.sleeper.specs.NodeWords.{value_words, kind_words, node_answer}
@@ -48,6 +40,8 @@ use Rattle.sleeper_image.specs.Texts.{text_kinds, which_by, text_under, length_w
 use Rattle.sleeper_image.specs.Accepted.{ViewOf, SleeperExports, AcceptedSleeperExports}
 use Rattle.sleeper_image.proofs.Views.{enough, view-back, one_version, searched-under}
 use Rattle.sleeper_image.proofs.TextCopies.{under_some}
+use Rattle.sleeper.specs.declared.SleeperEntry.{SleeperEntry}
+use Rattle.sleeper.specs.declared.SleeperNode.{SleeperNode}
 
 -- ---- how many words an answer has
 
@@ -73,21 +67,21 @@ six (kind.VariableAssignment global new) = refl
 six (kind.VariableReference target) = refl
 six kind.Void = refl
 
-node-size : (a : SleeperAnswer) → Size 8 (node_answer a)
-node-size (answer.View v) = let e = six v.kind in some_size 8 _ (omega arith)
-node-size answer.NotFound = none-size 8
+node-size : (a : Option SleeperNode) → Size 8 (node_answer a)
+node-size (Some v) = let e = six v.kind in some_size 8 _ (omega arith)
+node-size None = none-size 8
 
-entry-size : (a : SleeperEntryAnswer) → Size 2 (entry_answer a)
-entry-size (entry.Entry e) = some_size 2 _ refl
-entry-size entry.NotFound = none-size 2
+entry-size : (a : Option SleeperEntry) → Size 2 (entry_answer a)
+entry-size (Some e) = some_size 2 _ refl
+entry-size None = none-size 2
 
-item-size : (a : SleeperItemAnswer) → Size 1 (item_answer a)
-item-size (item.Item i) = some_size 1 _ refl
-item-size item.NotFound = none-size 1
+item-size : (a : Option ℤ) → Size 1 (item_answer a)
+item-size (Some i) = some_size 1 _ refl
+item-size None = none-size 1
 
 length-size : (o : Option (List ℕ)) → Size 1 (length_words o)
-length-size none = none-size 1
-length-size (some t) = some_size 1 (length t ∷ []) refl
+length-size None = none-size 1
+length-size (Some t) = some_size 1 (length t ∷ []) refl
 
 -- ---- under the view that a load wrote
 
@@ -116,23 +110,23 @@ module _ (bs view : List ℕ) (b : Below 256 bs) (a : Accepted bs) (v : ViewOf b
   text_as kind p q h =
       sym (under_some bs view kind p q view-long h kept view-same _ refl) ∙ ap (λ (t : Sections). sleeper_text t (which_by kind p q)) own
 
-  searched_as : (name lent : List ℕ) → searched_after bs view name lent ≡ answer_after (some ((list_search s name).searched ∷ [])) lent
+  searched_as : (name lent : List ℕ) → searched_after bs view name lent ≡ answer_after (Some ((list_search s name).searched ∷ [])) lent
   searched_as name lent =
       sym (searched-under bs view name lent view-long kept view-same _ refl _ refl)
-      ∙ ap (λ (t : Sections). answer_after (some ((list_search t name).searched ∷ [])) lent) own
+      ∙ ap (λ (t : Sections). answer_after (Some ((list_search t name).searched ∷ [])) lent) own
 
   item_as : (name : List ℕ) → list_item_answer (list_search s name).answer ≡ words_of_list_item (list_item s name)
   item_as name =
       let o = opens bs (passed-rules bs a).header in
       ap list_item_answer (same_answer s (accepted-passed bs a).definitions name) ∙ item-words bs o (length-word bs b o) name
 
-  count_as : count_words (definition_count s) ≡ some (definition_count s ∷ [])
+  count_as : count_words (definition_count s) ≡ Some (definition_count s ∷ [])
   count_as = let o = opens bs (passed-rules bs a).header in sym (count-some (definition_count s) (definitions_few bs o (length-word bs b o)))
 
-  counted : (query : Sections → Count) → Answers 1 (under view (λ u. count_answer (query (sleeper_sections bs u)))) (count_answer (query s))
-  counted query = answering 1 _ _ (asked_as (λ t. count_answer (query t))) (count-size (query s))
+  counted : (query : Sections → Option ℕ) → Answers 1 (under view (λ u. found_answer (query (sleeper_sections bs u)))) (found_answer (query s))
+  counted query = answering 1 _ _ (asked_as (λ t. found_answer (query t))) (found-size (query s))
 
-  found_at_lem : (query : Sections → Found) → Answers 1 (under view (λ u. found_answer (query (sleeper_sections bs u)))) (found_answer (query s))
+  found_at_lem : (query : Sections → Option ℕ) → Answers 1 (under view (λ u. found_answer (query (sleeper_sections bs u)))) (found_answer (query s))
   found_at_lem query = answering 1 _ _ (asked_as (λ t. found_answer (query t))) (found-size (query s))
 
   exports : SleeperExports bs view s

@@ -1,8 +1,8 @@
 -- The numbers that exported functions of the sleeper's reader return.
+use Rattle.std.specs.Prelude.{None, Option, Some}
 use Prim.Native.Nat.{ℕ}
 use mathlib.Core.Path.{ap, ◌∙◌}
 use mathlib.Core.List.{List}
-use mathlib.Core.Option.{Option, none, some}
 use lib.ListN.{length}
 use Rattle.laws.specs.Lists.{has}
 use Rattle.answers.specs.AnswerWords.{number_of}
@@ -14,13 +14,13 @@ use Rattle.sleeper_image.specs.Numbers.{text_numbers, SleeperExportNumbers}
 
 query-number : (o : Option (List ℕ)) (n : ℕ) → In query_numbers (number_of o n)
 unfolding number_of has
-query-number none n = search numbers
-query-number (some ws) n = search numbers
+query-number None n = search numbers
+query-number (Some ws) n = search numbers
 
 text-number : (o : Option (List ℕ)) (room lent : ℕ) → In text_numbers (spelled_number o room lent)
 unfolding has
-text-number none room lent = search numbers
-text-number (some t) room lent = search numbers
+text-number None room lent = search numbers
+text-number (Some t) room lent = search numbers
 
 pub export_numbers : SleeperExportNumbers
 export_numbers =

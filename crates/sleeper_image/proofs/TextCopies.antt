@@ -1,15 +1,14 @@
 -- A text copied, and its length, under lent words of a view.
+use Rattle.std.specs.Prelude.{None, Option, Some, ℕ}
 use Prim.Native.Nat.{ℕ, ◌≤◌, ◌<◌}
 use mathlib.Core.Path.{◌≡◌, refl, sym, ap, ◌∙◌}
 use mathlib.Core.List.{List}
-use mathlib.Core.Option.{Option, none, some}
 use lib.ListN.{length}
 use borrow.Author.Tests.{le-leb, lt-leb, ne_eqb}
-use Rattle.answers.specs.AnswerWords.{Answered, count_answer}
+use Rattle.answers.specs.AnswerWords.{Answered, found_answer}
 use Rattle.answers.specs.Lent.{Spelled}
 use Rattle.answers.proofs.AnswerSlices.{unanswered, answered_as}
 use Rattle.answers.proofs.LentSlices.{unspelled, spelled_as}
-use Rattle.views.specs.declared.Count.{Count}
 use Rattle.sleeper.specs.declared.SleeperView.{SleeperView}
 use Rattle.sleeper.specs.declared.Which.{Which}
 use Rattle.sleeper.specs.declared.Which.TheVariants as which
@@ -21,18 +20,18 @@ use Rattle.sleeper_image.proofs.Views.{too_few}
 
 -- ---- the length of a text, in words
 
-length-words : (o : Option (List ℕ)) → count_answer (length_if o) ≡ length_words o
-length-words none = refl
-length-words (some t) = refl
+length-words : (o : Option (List ℕ)) → found_answer (length_if o) ≡ length_words o
+length-words None = refl
+length-words (Some t) = refl
 
 -- ---- under lent words of a view
 
 module _ (bytes view : List ℕ) (kind a b : ℕ) where
-  under_few : length view < view_length → text_under bytes view kind a b ≡ none
+  under_few : length view < view_length → text_under bytes view kind a b ≡ None
   unfolding text_under
   under_few h = sym (too_few view _ h)
 
-  under_none : view_length ≤ length view → text_kinds ≤ kind → text_under bytes view kind a b ≡ none
+  under_none : view_length ≤ length view → text_kinds ≤ kind → text_under bytes view kind a b ≡ None
   unfolding text_under under
   under_none h k = rw (le-leb view_length (length view) h, le-leb text_kinds kind k) refl
 
@@ -62,11 +61,11 @@ module _ (bytes view : List ℕ) (kind a b : ℕ) where
   no_length-kind xs h k = unanswered (answer_of_text_length bytes view kind a b) xs (sym (ap length_words (under_none h k)))
 
   pub length-asked : (xs now : List ℕ) (r : ℕ) → view_length ≤ length view → kind < text_kinds → (v : SleeperView) → v ≡ view_by view
-      → (w : Which) → w ≡ which_by kind a b → (c : Count) → c ≡ length_if (sleeper_text (sleeper_sections bytes v) w) → Answered (count_answer c) xs now r
+      → (w : Which) → w ≡ which_by kind a b → (c : Option ℕ) → c ≡ length_if (sleeper_text (sleeper_sections bytes v) w) → Answered (found_answer c) xs now r
       → Answered (answer_of_text_length bytes view kind a b) xs now r
   length-asked xs now r h k v e w q c l p =
-      answered_as (count_answer c) (answer_of_text_length bytes view kind a b) xs now r
-      (ap count_answer l ∙ length-words (sleeper_text (sleeper_sections bytes v) w) ∙ ap length_words (under_some h k v e w q)) p
+      answered_as (found_answer c) (answer_of_text_length bytes view kind a b) xs now r
+      (ap found_answer l ∙ length-words (sleeper_text (sleeper_sections bytes v) w) ∙ ap length_words (under_some h k v e w q)) p
 
 -- ---- which text: the last kind
 

@@ -1,7 +1,6 @@
 -- What is promised of exported queries of the sleeper's reader on accepted bytes, that nothing sticks at the edge: an exported query answers
 -- exactly if the inner one does, with its words.
-use Rattle.std.specs.Prelude.{ℕ, ◌≤◌, ◌<◌, ◌≡◌, List, [], ◌∷◌, Bool, length}
-use Rattle.std.proofs.Math.Option.{some}
+use Rattle.std.specs.Prelude.{ℕ, ◌≤◌, ◌<◌, ◌≡◌, List, [], ◌∷◌, Bool, length, Some}
 use Rattle.laws.specs.Lists.{Below}
 use Rattle.image.specs.Sections.{Sections, definition_count}
 use Rattle.image.specs.Header.{view_of, sections_of}
@@ -11,7 +10,7 @@ use Rattle.depth.specs.Depth.{depth_of}
 use Rattle.lookups.specs.Lookup.{find_named, list_item}
 use Rattle.list_items.specs.Search.{list_search}
 use Rattle.walks.specs.Walk.{components, resolve}
-use Rattle.answers.specs.AnswerWords.{answer_after, found_answer, count_answer}
+use Rattle.answers.specs.AnswerWords.{answer_after, found_answer}
 use Rattle.answers.specs.Exports.{Answers, words_of_list_item}
 use Rattle.answers.specs.Lent.{written_after}
 use Rattle.sleeper.specs.Reader.{without_places}
@@ -34,21 +33,21 @@ pub record SleeperExports (bs view : List ℕ) (s : Sections) : Type 0 where
   pub node-view : (i : ℕ) → Answers 8 (answer_of_node bs view i) (node_answer (sleeper_view s i))
   pub text : (kind a b : ℕ) → kind < text_kinds → text_under bs view kind a b ≡ sleeper_text s (which_by kind a b)
   pub text-length : (kind a b : ℕ) → kind < text_kinds → Answers 1 (answer_of_text_length bs view kind a b) (length_words (sleeper_text s (which_by kind a b)))
-  pub depth : (i : ℕ) → Answers 1 (answer_of_depth bs view i) (count_answer (depth_of s i))
-  pub child-count : (i : ℕ) → Answers 1 (answer_of_child_count bs view i) (count_answer (child_count_of s i))
-  pub named-child-count : (i : ℕ) → Answers 1 (answer_of_named_child_count bs view i) (count_answer (named_count_of s i))
+  pub depth : (i : ℕ) → Answers 1 (answer_of_depth bs view i) (found_answer (depth_of s i))
+  pub child-count : (i : ℕ) → Answers 1 (answer_of_child_count bs view i) (found_answer (child_count_of s i))
+  pub named-child-count : (i : ℕ) → Answers 1 (answer_of_named_child_count bs view i) (found_answer (named_count_of s i))
   pub child : (i j : ℕ) → Answers 1 (answer_of_child bs view i j) (found_answer (child_query s i j))
   pub named-child : (i j : ℕ) → Answers 1 (answer_of_named_child bs view i j) (found_answer (sleeper_named s i j))
   pub find-named-child : (i : ℕ) (name : List ℕ) → Answers 1 (answer_of_find_named_child bs view i name) (found_answer (find_named s i name))
-  pub list-items : (i : ℕ) → Answers 1 (answer_of_list_items bs view i) (count_answer (sleeper_list_items s i))
-  pub list-origins : (i : ℕ) → Answers 1 (answer_of_list_origins bs view i) (count_answer (sleeper_list_origins s i))
+  pub list-items : (i : ℕ) → Answers 1 (answer_of_list_items bs view i) (found_answer (sleeper_list_items s i))
+  pub list-origins : (i : ℕ) → Answers 1 (answer_of_list_origins bs view i) (found_answer (sleeper_list_origins s i))
   pub list-entry : (i j : ℕ) → Answers 2 (answer_of_entry bs view i j) (entry_answer (sleeper_entry s i j))
-  pub definition-count : Answers 1 (answer_of_definition_count bs view) (some (definition_count s ∷ []))
-  pub definition : (d : ℕ) → Answers 1 (answer_of_definition bs view d) (count_answer (sleeper_definition s d))
-  pub first-item : (d : ℕ) → Answers 1 (answer_of_first_item bs view d) (count_answer (sleeper_first_item s d))
+  pub definition-count : Answers 1 (answer_of_definition_count bs view) (Some (definition_count s ∷ []))
+  pub definition : (d : ℕ) → Answers 1 (answer_of_definition bs view d) (found_answer (sleeper_definition s d))
+  pub first-item : (d : ℕ) → Answers 1 (answer_of_first_item bs view d) (found_answer (sleeper_first_item s d))
   pub definition-item : (d j : ℕ) → Answers 1 (answer_of_definition_item bs view d j) (item_answer (sleeper_definition_item s d j))
   pub list-item : (name : List ℕ) → Answers 3 (answer_of_list_item bs view name) (words_of_list_item (list_item s name))
-  pub searched : (name words : List ℕ) → searched_after bs view name words ≡ answer_after (some ((list_search s name).searched ∷ [])) words
+  pub searched : (name words : List ℕ) → searched_after bs view name words ≡ answer_after (Some ((list_search s name).searched ∷ [])) words
   pub walk : (origin : ℕ) (relative : Bool) (path names : List ℕ)
       → Answers 1 (answer_of_walk bs view origin relative path names) (found_answer (resolve s relative origin (components names path)))
 

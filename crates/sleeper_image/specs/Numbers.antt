@@ -1,6 +1,5 @@
 -- Which numbers each exported function of the sleeper's reader can return, by what its contract says of the number.
-use Rattle.std.specs.Prelude.{ℕ, List, [], ◌∷◌}
-use Rattle.std.proofs.Math.Option.{Option}
+use Rattle.std.specs.Prelude.{ℕ, List, [], ◌∷◌, Option}
 use Rattle.image.specs.Refusals.{not_found, no_room}
 use Rattle.load.specs.Load.{load_rule}
 use Rattle.answers.specs.AnswerWords.{Answered}

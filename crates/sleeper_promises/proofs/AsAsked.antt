@@ -1,10 +1,10 @@
 -- Accepted images whose words differ only as is allowed differ only in what the sleeper's reader may not see.
+use Rattle.std.specs.Prelude.{Some}
 use Prim.Native.Nat.{ℕ, zero, suc, ◌+◌, ◌<◌}
 use mathlib.Core.Path.{◌≡◌, refl, sym, ap, ◌∙◌, subst}
 use mathlib.Core.Logic.{◌⊎◌, ⊎_elim, inl, inr}
 use mathlib.Core.List.{List, [], ◌∷◌, Memᴰ}
 use mathlib.Core.Bool.{true, false, true≢false}
-use mathlib.Core.Option.{some}
 use native.Mathlib.Omega.{arith}
 use lib.ListN.{length}
 use lib.Seq.{ext_get_or}
@@ -47,7 +47,7 @@ module _ (s t : Sections) where
   unfolding given_text
   both_right a n b m p q e =
       rw (shown-right s a n p, shown-right t b m q)
-      (ap some (text-inside s.strings a n p.inside ∙ e ∙ sym (text-inside t.strings b m q.inside)))
+      (ap Some (text-inside s.strings a n p.inside ∙ e ∙ sym (text-inside t.strings b m q.inside)))
 
   same_text : (a n b m : ℕ) → OptionalRight s a n → OptionalRight t b m → SameBytes s t a n b m → SameText s t a n b m
   unfolding given_text

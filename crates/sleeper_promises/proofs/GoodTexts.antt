@@ -1,4 +1,5 @@
 -- Every text that the sleeper's reader gives of sections that keep the rules has good bytes.
+use Rattle.std.specs.Prelude.{None, Option, Some}
 use Prim.Native.Nat.{ℕ, ◌+◌, ◌*◌, ◌<◌}
 use mathlib.Core.Path.{◌≡◌, refl, sym, ap, ◌∙◌, subst}
 use mathlib.Core.Logic.{◌⊎◌, inl, inr}
@@ -18,29 +19,15 @@ use Rattle.image.proofs.Tests.{inside-true}
 use Rattle.records.specs.Fields.{fields, kinds, kind_of, Field, payload}
 use Rattle.definitions.specs.Definitions.{first_item, number_of_items}
 use Rattle.views.specs.declared.Span.{Span}
-use Rattle.views.specs.declared.OptionalText.{OptionalText}
-use Rattle.views.specs.declared.OptionalText.TheVariants as text
 use Rattle.views.specs.declared.NodeKindView.{NodeKindView}
 use Rattle.views.specs.declared.NodeKindView.TheVariants as kind
 use Rattle.views.specs.declared.ValueView.{ValueView}
 use Rattle.views.specs.declared.ValueView.TheVariants as value
 use Rattle.views.specs.declared.NodeView.{NodeView}
-use Rattle.views.specs.declared.NodeAnswer.{NodeAnswer}
-use Rattle.views.specs.declared.NodeAnswer.TheVariants as node
 use Rattle.views.specs.declared.NamedChildView.{NamedChildView}
-use Rattle.views.specs.declared.NamedAnswer.{NamedAnswer}
-use Rattle.views.specs.declared.NamedAnswer.TheVariants as named
-use Rattle.views.specs.declared.TextAnswer.{TextAnswer}
-use Rattle.views.specs.declared.TextAnswer.TheVariants as textAnswer
 use Rattle.views.specs.declared.ListEntry.{ListEntry}
-use Rattle.views.specs.declared.EntryAnswer.{EntryAnswer}
-use Rattle.views.specs.declared.EntryAnswer.TheVariants as entry
 use Rattle.views.specs.declared.DefinitionView.{DefinitionView}
-use Rattle.views.specs.declared.DefinitionAnswer.{DefinitionAnswer}
-use Rattle.views.specs.declared.DefinitionAnswer.TheVariants as definition
 use Rattle.views.specs.declared.ItemView.{ItemView}
-use Rattle.views.specs.declared.ItemAnswer.{ItemAnswer}
-use Rattle.views.specs.declared.ItemAnswer.TheVariants as item
 use Rattle.views.specs.View.{span, shown, node_view}
 use Rattle.views.specs.Children.{named_query, text_query}
 use Rattle.views.specs.Lists.{list_part, list_entry, list_origin, definition_query, item_entry, item_query}
@@ -62,34 +49,34 @@ use Rattle.sleeper_promises.specs.Shown.{TextsGood}
 
 -- ---- what is given is what the answer holds
 
-pub node-given : (r : NodeAnswer) (v : NodeView) → of_node r ≡ given v → r ≡ node.View v
-node-given (node.View w) v e = ap node.View (given-equal w v e)
-node-given node.NotFound v e = absurd (given-refused 17 v e)
+pub node-given : (r : Option NodeView) (v : NodeView) → of_node r ≡ given v → r ≡ Some v
+node-given (Some w) v e = ap Some (given-equal w v e)
+node-given None v e = absurd (given-refused 17 v e)
 
-pub named-given : (r : NamedAnswer) (v : NamedChildView) → numberNamed r ≡ given v → r ≡ named.Named v
-named-given (named.Named w) v e = ap named.Named (given-equal w v e)
-named-given named.NotFound v e = absurd (given-refused 17 v e)
+pub named-given : (r : Option NamedChildView) (v : NamedChildView) → numberNamed r ≡ given v → r ≡ Some v
+named-given (Some w) v e = ap Some (given-equal w v e)
+named-given None v e = absurd (given-refused 17 v e)
 
-pub text-given : (r : TextAnswer) (v : Span) → numberText r ≡ given v → r ≡ textAnswer.Text v
-text-given (textAnswer.Text w) v e = ap textAnswer.Text (given-equal w v e)
-text-given textAnswer.NotFound v e = absurd (given-refused 17 v e)
+pub text-given : (r : Option Span) (v : Span) → numberText r ≡ given v → r ≡ Some v
+text-given (Some w) v e = ap Some (given-equal w v e)
+text-given None v e = absurd (given-refused 17 v e)
 
-pub entry-given : (r : EntryAnswer) (v : ListEntry) → numberEntry r ≡ given v → r ≡ entry.Entry v
-entry-given (entry.Entry w) v e = ap entry.Entry (given-equal w v e)
-entry-given entry.NotFound v e = absurd (given-refused 17 v e)
+pub entry-given : (r : Option ListEntry) (v : ListEntry) → numberEntry r ≡ given v → r ≡ Some v
+entry-given (Some w) v e = ap Some (given-equal w v e)
+entry-given None v e = absurd (given-refused 17 v e)
 
-pub definition-given : (r : DefinitionAnswer) (v : DefinitionView) → numberDefinition r ≡ given v → r ≡ definition.Definition v
-definition-given (definition.Definition w) v e = ap definition.Definition (given-equal w v e)
-definition-given definition.NotFound v e = absurd (given-refused 17 v e)
+pub definition-given : (r : Option DefinitionView) (v : DefinitionView) → numberDefinition r ≡ given v → r ≡ Some v
+definition-given (Some w) v e = ap Some (given-equal w v e)
+definition-given None v e = absurd (given-refused 17 v e)
 
-pub item-given : (r : ItemAnswer) (v : ItemView) → numberItem r ≡ given v → r ≡ item.Item v
-item-given (item.Item w) v e = ap item.Item (given-equal w v e)
-item-given item.NotFound v e = absurd (given-refused 17 v e)
+pub item-given : (r : Option ItemView) (v : ItemView) → numberItem r ≡ given v → r ≡ Some v
+item-given (Some w) v e = ap Some (given-equal w v e)
+item-given None v e = absurd (given-refused 17 v e)
 
 -- ---- a text that is handed back whole is good
 
 module _ (s : Sections) where
-  shown-found : (b : Bool) (p q : Span) → numberText (cond b (textAnswer.Text p) textAnswer.NotFound) ≡ given q → b ≡ true
+  shown-found : (b : Bool) (p q : Span) → numberText (cond b (Some p) None) ≡ given q → b ≡ true
   shown-found true p q e = refl
   shown-found false p q e = absurd (given-refused 17 q e)
 
@@ -101,13 +88,13 @@ module _ (s : Sections) where
       ap good_bytes (text-inside s.strings p.offset p.len inside ∙ sym (shown-part s p.offset p.len there)) ∙ w.encoded
 
   -- the texts of an answer are handed back whole
-  abbrev pub AllWhole : OptionalText → Type 0
+  abbrev pub AllWhole : Option Span → Type 0
   AllWhole o = All (Whole s) (texts_in o)
 
-  place-good : (o : OptionalText) → AllWhole o → (t : List ℕ) → of_bytes (bytes_if s.strings o) ≡ given t → good_bytes t ≡ true
-  place-good (text.Present p) w t e =
+  place-good : (o : Option Span) → AllWhole o → (t : List ℕ) → of_bytes (bytes_if s.strings o) ≡ given t → good_bytes t ≡ true
+  place-good (Some p) w t e =
       sym (ap good_bytes (given-equal (text_or_empty s.strings p.offset p.len) t e)) ∙ whole-good p (w p (Memᴰ.head refl))
-  place-good text.Absent w t e = absurd (given-refused 17 t e)
+  place-good None w t e = absurd (given-refused 17 t e)
 
 -- ---- the texts of a kind are among those of the view
 
@@ -152,13 +139,13 @@ module _ (s : Sections) (g : Kept s) where
   reads : ImageReads s
   reads = image-reads s g
 
-  nothing : (o : OptionalText) → o ≡ text.Absent → AllWhole s o
+  nothing : (o : Option Span) → o ≡ None → AllWhole s o
   nothing o e = subst (AllWhole s) (sym e) (all_none (Whole s))
 
-  one : (o : OptionalText) (p : Span) → o ≡ text.Present p → Whole s p → AllWhole s o
+  one : (o : Option Span) (p : Span) → o ≡ Some p → Whole s p → AllWhole s o
   one o p e w = subst (AllWhole s) (sym e) (all_one (Whole s) p w)
 
-  module _ (h : NodeKindView → OptionalText) (void : h kind.Void ≡ text.Absent)
+  module _ (h : NodeKindView → Option Span) (void : h kind.Void ≡ None)
       (among : (k : NodeKindView) (t : Span) → Memᴰ t (texts_in (h k)) → Memᴰ t (view_texts k)) where
     kind-whole : (k : NodeKindView) → ((t : Span) → Memᴰ t (view_texts k) → Whole s t) → (b : Bool) → AllWhole s (h (cond b kind.Void k))
     kind-whole k w true = nothing (h kind.Void) void
@@ -171,7 +158,7 @@ module _ (s : Sections) (g : Kept s) where
         by : (b : Bool) → inside s i ≡ b → AllWhole s (of_kind h (hidden s i))
         by true e =
             let r = reads.nodes i (inside-true (node_count s) i e).0 in
-            subst (λ (a : NodeAnswer). AllWhole s (of_kind h (hide_in s.strings a))) (sym (node-given (node_view s i) r.view r.viewed))
+            subst (λ (a : Option NodeView). AllWhole s (of_kind h (hide_in s.strings a))) (sym (node-given (node_view s i) r.view r.viewed))
             (kind-whole r.view.kind r.texts (note_kind s.strings r.view.kind))
         by false e = rw e (all_none (Whole s))
 
@@ -212,7 +199,7 @@ module _ (s : Sections) (g : Kept s) where
   unfolding item_query
   definition-item-whole d j = by (ltb d (definition_count s) && ltb j (number_of_items s d))
     where
-      by : (b : Bool) → AllWhole s (of_item (cond b (item_entry s (first_item s d + j)) item.NotFound))
+      by : (b : Bool) → AllWhole s (of_item (cond b (item_entry s (first_item s d + j)) None))
       by true = item-whole (first_item s d + j)
       by false = all_none (Whole s)
 
@@ -235,11 +222,11 @@ module _ (s : Sections) (g : Kept s) where
           inr (rw e refl, list_read s (f s i 0) (f s i 1) (list_right_lem i (inside-true (node_count s) i both.0).0 (eqb-true (tag_of s i) list_tag both.1)))
       by false e = inl (rw e refl)
 
-  module _ (h : EntryAnswer → OptionalText) (none : h entry.NotFound ≡ text.Absent) (among : (e : ListEntry) → AllWhole s (text.Present e.name)
-      → AllWhole s e.origin → AllWhole s (h (entry.Entry e))) (j : ℕ) where
+  module _ (h : Option ListEntry → Option Span) (none : h None ≡ None) (among : (e : ListEntry) → AllWhole s (Some e.name)
+      → AllWhole s e.origin → AllWhole s (h (Some e))) (j : ℕ) where
     no_entry : AllWhole s (h (list_entry [] s.strings j))
     unfolding list_entry
-    no_entry = rw (lt-leb (8 + j * 20 + 20) 0 (omega arith)) (nothing (h entry.NotFound) none)
+    no_entry = rw (lt-leb (8 + j * 20 + 20) 0 (omega arith)) (nothing (h None) none)
 
     part-entry : (p : Span) → ListRead s p → AllWhole s (h (list_entry (list_part s p) s.strings j))
     unfolding list_entry
@@ -248,9 +235,9 @@ module _ (s : Sections) (g : Kept s) where
         by : (b : Bool) → ltb j (word_at (list_part s p) 0) ≡ b → AllWhole s (h (list_entry (list_part s p) s.strings j))
         by true e =
             let q = r.items j (ltb-true j (word_at (list_part s p) 0) e) in
-            subst (λ (a : EntryAnswer). AllWhole s (h a)) (sym (entry-given (list_entry (list_part s p) s.strings j) q.item q.found))
+            subst (λ (a : Option ListEntry). AllWhole s (h a)) (sym (entry-given (list_entry (list_part s p) s.strings j) q.item q.found))
             (among q.item (all_one (Whole s) q.item.name q.name) q.origin)
-        by false e = rw (e, and-false (leb (8 + j * 20 + 20) (length (list_part s p)))) (nothing (h entry.NotFound) none)
+        by false e = rw (e, and-false (leb (8 + j * 20 + 20) (length (list_part s p)))) (nothing (h None) none)
 
     entry_whole : (i : ℕ) → AllWhole s (h (list_entry (list_of s i) s.strings j))
     entry_whole i = by (list_cases i)

@@ -1,10 +1,10 @@
 -- Kinds: of all only a tag is a note, by its text where that is right; the tag of a list value.
+use Rattle.std.specs.Prelude.{None, Option, Some}
 use Prim.Native.Nat.{ℕ, ◌+◌, ◌/◌}
 use mathlib.Core.Path.{◌≡◌, refl, sym, ap, ◌∙◌}
 use mathlib.Core.Logic.{◌⊎◌, inl, inr}
 use mathlib.Core.List.{List, [], ◌∷◌}
 use mathlib.Core.Bool.{Bool, true, false, cond, ◌&&◌, ◌||◌, not, or-false, true≢false}
-use mathlib.Core.Option.{Option, none, some}
 use lib.ListN.{length}
 use lib.Dec.{leb, eqb}
 use native.Mathlib.Decide.{ℕ_discrete}
@@ -20,35 +20,33 @@ use Rattle.image.specs.Entries.{node_in}
 use Rattle.image.proofs.Parts.{text-inside}
 use Rattle.records.specs.Fields.{Kind, Container, Choice, Command, Divert, Glue, Operator, Tag, BoolValue, IntValue, FloatValue, StringValue, ListValue, TargetValue, PointerValue, Assignment, Reference, Void, Unknown, kind_table, kind_in, kind_of}
 use Rattle.views.specs.declared.Span.{Span}
-use Rattle.views.specs.declared.KindAnswer.{KindAnswer}
-use Rattle.views.specs.declared.KindAnswer.TheVariants as kindly
-use Rattle.views.specs.declared.NodeAnswer.TheVariants as node
 use Rattle.views.specs.View.{span, shown, of_command, of_operator, with_text, kind_view, with_kind, record_view, node_view}
 use Rattle.notes.specs.Notes.{is_note, note_in, note_at}
 use Rattle.promises.specs.Rules.{TextRight}
 use Rattle.promises.proofs.Views.{shown-right}
+use Rattle.views.specs.declared.NodeKindView.{NodeKindView}
 
 module _ (s : Sections) (i : ℕ) where
-  abbrev note_of : KindAnswer → Bool
+  abbrev note_of : Option NodeKindView → Bool
   note_of a = note_in s.strings (with_kind s.strings (length s.payload) (node_in s i) a)
 
   -- node i is a note if its kind were k
   abbrev pub note_by : Kind → Bool
   note_by k = note_of (kind_view s.strings (length s.payload) (node_in s i) k)
 
-  tested : (b : Bool) (a : KindAnswer) → note_of a ≡ false → note_of (cond b a kindly.NotFound) ≡ false
+  tested : (b : Bool) (a : Option NodeKindView) → note_of a ≡ false → note_of (cond b a None) ≡ false
   tested true a e = e
   tested false a e = refl
 
   command_note : (o : Option CommandType) → note_of (of_command o) ≡ false
-  command_note none = refl
-  command_note (some c) = refl
+  command_note None = refl
+  command_note (Some c) = refl
 
   operator_note : (o : Option Op) → note_of (of_operator o) ≡ false
-  operator_note none = refl
-  operator_note (some c) = refl
+  operator_note None = refl
+  operator_note (Some c) = refl
 
-  with_note : (g : Span → KindAnswer) → note_of (g (span (f s i 0) (f s i 1))) ≡ false → note_of (with_text s.strings (node_in s i) g) ≡ false
+  with_note : (g : Span → Option NodeKindView) → note_of (g (span (f s i 0) (f s i 1))) ≡ false → note_of (with_text s.strings (node_in s i) g) ≡ false
   unfolding with_text
   with_note g e = tested (shown (length s.strings) (f s i 0) (f s i 1)) _ e
 
@@ -88,7 +86,7 @@ module _ (s : Sections) (i : ℕ) where
   unfolding note_at node_view record_view
   no_note e = by (inside s i)
     where
-      by : (b : Bool) → note_in s.strings (cond b (record_view s.strings (length s.payload) (node_in s i)) node.NotFound) ≡ false
+      by : (b : Bool) → note_in s.strings (cond b (record_view s.strings (length s.payload) (node_in s i)) None) ≡ false
       by true = e
       by false = refl
 

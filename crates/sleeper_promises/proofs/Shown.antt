@@ -1,9 +1,10 @@
 -- What the sleeper can count on in an image that the sleeper's load accepts.
+use Rattle.std.specs.Prelude.{None, Option, Some, Err, Ok, Result, ℕ}
 use Prim.Native.Nat.{ℕ, zero, suc, ◌≤◌, ◌<◌}
 use mathlib.Core.Path.{◌≡◌, refl, sym, ap, ◌∙◌, subst}
 use mathlib.Core.List.{List, Memᴰ}
 use mathlib.Core.Bool.{Bool, true, false, cond, true≢false}
-use mathlib.Core.Option.{some, none-ne-some}
+use Rattle.std.proofs.lemmas.Option.{none-some}
 use native.Mathlib.Omega.{arith}
 use lib.ListN.{length}
 use Rattle.laws.specs.Lists.{Below}
@@ -13,19 +14,13 @@ use Rattle.image.specs.Sections.{Sections, list_head_size, node_count, tag_of, f
 use Rattle.image.specs.Header.{view_of, sections_by, sections_of}
 use Rattle.image.proofs.OpenedHeader.{opens}
 use Rattle.records.specs.Fields.{Kind, fields, kind_of, payload}
-use Rattle.load.specs.declared.Loaded.{Loaded}
-use Rattle.load.specs.declared.Loaded.TheVariants as loaded
 use Rattle.load.specs.Load.{load_rule, loaded_of}
 use Rattle.views.specs.declared.Span.{Span}
-use Rattle.views.specs.declared.OptionalText.{OptionalText}
-use Rattle.views.specs.declared.OptionalText.TheVariants as text
 use Rattle.views.specs.declared.ValueView.{ValueView}
 use Rattle.views.specs.declared.ValueView.TheVariants as value
 use Rattle.views.specs.declared.NodeKindView.{NodeKindView}
 use Rattle.views.specs.declared.NodeKindView.TheVariants as kind
 use Rattle.views.specs.declared.NodeView.{NodeView}
-use Rattle.views.specs.declared.NodeAnswer.{NodeAnswer}
-use Rattle.views.specs.declared.NodeAnswer.TheVariants as node
 use Rattle.views.specs.View.{node_view}
 use Rattle.views.specs.Children.{named_query}
 use Rattle.views.specs.Lists.{list_part, list_entry, list_origin, definition_query, item_entry, item_query}
@@ -161,7 +156,7 @@ module _ (s : Sections) where
 
   view-seen : (i : ℕ) (v : NodeView) → of_node (node_view s i) ≡ given v → of_sleeper (sleeper_view s i) ≡ given (seen_node v)
   unfolding sleeper_view hidden
-  view-seen i v e = ap (λ (a : NodeAnswer). of_sleeper (view_seen (hide_in s.strings a))) (node-given (node_view s i) v e)
+  view-seen i v e = ap (λ (a : Option NodeView). of_sleeper (view_seen (hide_in s.strings a))) (node-given (node_view s i) v e)
 
   -- ---- climbing: a note keeps its parent
 
@@ -169,9 +164,9 @@ module _ (s : Sections) where
   unfolding sleeper_view hidden
   step_same i = by (node_view s i)
     where
-      by : (a : NodeAnswer) → step_seen i (view_seen (hide_in s.strings a)) ≡ step_up i a
-      by (node.View v) = refl
-      by node.NotFound = refl
+      by : (a : Option NodeView) → step_seen i (view_seen (hide_in s.strings a)) ≡ step_up i a
+      by (Some v) = refl
+      by None = refl
 
   ascend-same : (k i : ℕ) → ascend_seen s k i ≡ ascend s k i
   unfolding ascend_seen ascend
@@ -192,26 +187,26 @@ module _ (s : Sections) where
 module _ (s : Sections) (g : Kept s) where
   -- ---- texts
 
-  given-text : (w : Which) (t : List ℕ) → sleeper_text s w ≡ some t → TextGiven s w
+  given-text : (w : Which) (t : List ℕ) → sleeper_text s w ≡ Some t → TextGiven s w
   given-text w t e = record { bytes = t; found = ap of_bytes e; encoded = texts-good s g w t (ap of_bytes e) }
 
-  text_if_lem : (w : Which) (o : OptionalText) → sleeper_text s w ≡ bytes_if s.strings o → TextIf (presence o) s w
-  text_if_lem w (text.Present t) e = given-text w (text_or_empty s.strings t.offset t.len) e
-  text_if_lem w text.Absent e = ap of_bytes e
+  text_if_lem : (w : Which) (o : Option Span) → sleeper_text s w ≡ bytes_if s.strings o → TextIf (presence o) s w
+  text_if_lem w (Some t) e = given-text w (text_or_empty s.strings t.offset t.len) e
+  text_if_lem w None e = ap of_bytes e
 
   node-text : (i : ℕ) (v : NodeView) → of_node (node_view s i) ≡ given v → TextIf (has_text (kind_seen (hidden_kind s v))) s (which.Node i)
   unfolding sleeper_text text_place hidden
   node-text i v e =
       subst (λ (b : Bool). TextIf b s (which.Node i)) (text-told (hidden_kind s v))
       (text_if_lem (which.Node i) (kind_text (hidden_kind s v))
-      (ap (λ (a : NodeAnswer). bytes_if s.strings (of_kind kind_text (hide_in s.strings a))) (node-given (node_view s i) v e)))
+      (ap (λ (a : Option NodeView). bytes_if s.strings (of_kind kind_text (hide_in s.strings a))) (node-given (node_view s i) v e)))
 
   node-variable : (i : ℕ) (v : NodeView) → of_node (node_view s i) ≡ given v → TextIf (has_variable (kind_seen (hidden_kind s v))) s (which.Variable i)
   unfolding sleeper_text text_place hidden
   node-variable i v e =
       subst (λ (b : Bool). TextIf b s (which.Variable i)) (variable-told (hidden_kind s v))
       (text_if_lem (which.Variable i) (kind_variable (hidden_kind s v))
-      (ap (λ (a : NodeAnswer). bytes_if s.strings (of_kind kind_variable (hide_in s.strings a))) (node-given (node_view s i) v e)))
+      (ap (λ (a : Option NodeView). bytes_if s.strings (of_kind kind_variable (hide_in s.strings a))) (node-given (node_view s i) v e)))
 
   named-shown : (i j : ℕ) → NamedRead s i j → NamedShown s i j
   named-shown i j n =
@@ -328,17 +323,17 @@ module _ (s : Sections) (g : Kept s) where
 -- ---- after a load
 
 -- the sleeper's load answers a view only where the technician's does
-record BothLoaded (r : Loaded) (v : SleeperView) : Type 0 where
+record BothLoaded (r : Result ImageView ℕ) (v : SleeperView) : Type 0 where
   pub technician : ImageView
-  pub loaded : r ≡ loaded.View technician
+  pub loaded : r ≡ Ok technician
   pub kept : without_places technician ≡ v
 
-both-loaded : (r : Loaded) (v : SleeperView) → of_sleeper_loaded (loaded_seen r) ≡ given v → BothLoaded r v
-both-loaded (loaded.View w) v e = record { technician = w; loaded = refl; kept = given-equal (without_places w) v e }
-both-loaded (loaded.Refused n) v e = absurd (none-ne-some v (ap (λ (a : Answer SleeperView). a.value) e))
+both-loaded : (r : Result ImageView ℕ) (v : SleeperView) → of_sleeper_loaded (loaded_seen r) ≡ given v → BothLoaded r v
+both-loaded (Ok w) v e = record { technician = w; loaded = refl; kept = given-equal (without_places w) v e }
+both-loaded (Err n) v e = absurd (none-some v (ap (λ (a : Answer SleeperView). a.value) e))
 
 -- by the technician's view
-image-shown : (bs : List ℕ) (work : ℕ) (v : ImageView) → Below 256 bs → loaded_of bs work ≡ loaded.View v → ImageShown bs work (without_places v)
+image-shown : (bs : List ℕ) (work : ℕ) (v : ImageView) → Below 256 bs → loaded_of bs work ≡ Ok v → ImageShown bs work (without_places v)
 unfolding loaded_of
 image-shown bs work v b e =
     let a = answered (load_rule bs work) (view_of bs) v e in

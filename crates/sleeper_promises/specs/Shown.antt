@@ -1,5 +1,5 @@
 -- What the sleeper can count on in an image that the sleeper's load accepts, by the answers of the sleeper's reader.
-use Rattle.std.specs.Prelude.{ℕ, zero, suc, ◌≤◌, ◌<◌, ◌≡◌, List, Bool, true, false, ℤ}
+use Rattle.std.specs.Prelude.{ℕ, zero, suc, ◌≤◌, ◌<◌, ◌≡◌, List, Bool, true, false, ℤ, None, Option, Some}
 use Rattle.laws.specs.Lists.{Below}
 use Rattle.image.specs.declared.ImageView.{ImageView}
 use Rattle.image.specs.Sections.{Sections, good_bytes, node_count, definition_count, item_count, f, is_container}
@@ -7,7 +7,6 @@ use Rattle.image.specs.Header.{sections_by}
 use Rattle.image.specs.Refusals.{not_found}
 use Rattle.load.specs.Load.{loaded_of}
 use Rattle.definitions.specs.Definitions.{first_item}
-use Rattle.views.specs.declared.OptionalWord.TheVariants as word
 use Rattle.views.specs.declared.NodeView.{NodeView}
 use Rattle.views.specs.View.{node_view}
 use Rattle.views.specs.Children.{child_count_of, named_count_of, child_query}
@@ -25,8 +24,6 @@ use Rattle.sleeper.specs.declared.SleeperValue.TheVariants as value
 use Rattle.sleeper.specs.declared.SleeperKind.{SleeperKind}
 use Rattle.sleeper.specs.declared.SleeperKind.TheVariants as kind
 use Rattle.sleeper.specs.declared.SleeperNode.{SleeperNode}
-use Rattle.sleeper.specs.declared.SleeperAnswer.{SleeperAnswer}
-use Rattle.sleeper.specs.declared.SleeperAnswer.TheVariants as node
 use Rattle.sleeper.specs.declared.SleeperEntry.{SleeperEntry}
 use Rattle.sleeper.specs.Reader.{without_places, sleeper_sections, sleeper_loaded}
 use Rattle.sleeper.specs.Seen.{sleeper_view, sleeper_named, sleeper_definition, sleeper_first_item, sleeper_item, sleeper_definition_item}
@@ -91,9 +88,9 @@ has_variable kind.Void = false
 -- ---- climbing by views
 
 -- the node that the view names as parent; where there is none, the same node
-abbrev pub step_seen : ℕ → SleeperAnswer → ℕ
-step_seen i (node.View v) = or_stay i v.parent
-step_seen i node.NotFound = i
+abbrev pub step_seen : ℕ → Option SleeperNode → ℕ
+step_seen i (Some v) = or_stay i v.parent
+step_seen i None = i
 
 -- the node after k such steps
 unfoldable pub ascend_seen : Sections → ℕ → ℕ → ℕ
@@ -136,8 +133,8 @@ pub record ChildShown (s : Sections) (i j : ℕ) : Type 0 where
   pub found : of_found (child_query s i j) ≡ given child
   pub view : SleeperNode
   pub viewed : of_sleeper (sleeper_view s child) ≡ given view
-  pub parent : view.parent ≡ word.Present i
-  pub place : view.child_index ≡ word.Present j
+  pub parent : view.parent ≡ Some i
+  pub place : view.child_index ≡ Some j
 
 -- named child j is found, its name is given, and its view names the node
 pub record NamedShown (s : Sections) (i j : ℕ) : Type 0 where
@@ -146,7 +143,7 @@ pub record NamedShown (s : Sections) (i j : ℕ) : Type 0 where
   pub name : TextGiven s (which.NamedChild i j)
   pub view : SleeperNode
   pub viewed : of_sleeper (sleeper_view s child) ≡ given view
-  pub parent : view.parent ≡ word.Present i
+  pub parent : view.parent ≡ Some i
 
 -- ---- the sleeper at node i
 
@@ -164,7 +161,7 @@ pub record NodeShown (s : Sections) (i : ℕ) : Type 0 where
   pub list : view.kind ≡ kind.Value value.List → ListShown s i
   -- fewer steps than nodes lead to node 0, which alone has no parent
   pub ascends : (k : ℕ) → node_count s ≤ suc k → ascend_seen s k i ≡ 0
-  pub parentless : view.parent ≡ word.Absent → i ≡ 0
+  pub parentless : view.parent ≡ None → i ≡ 0
   pub depth : DepthShown s i
   -- a container has both counts; below them no child is missing
   pub child-count : is_container s i ≡ true → of_count (child_count_of s i) ≡ given (f s i 4)

@@ -1,9 +1,9 @@
 -- The call's number, test by test in the order of the code, and what is left in nodes and work words.
+use Rattle.std.specs.Prelude.{None, Option, Some, ℕ}
 use Prim.Native.Nat.{ℕ, zero, suc, ◌/◌, ◌≤◌, ◌<◌}
 use mathlib.Core.Path.{◌≡◌, refl, sym, ap, ◌∙◌}
 use mathlib.Core.List.{List, ◌++◌}
 use mathlib.Core.Bool.{Bool, true, false, cond}
-use mathlib.Core.Option.{Option, none, some}
 use native.Mathlib.Omega.{arith}
 use lib.ListN.{length, drop, replicate}
 use lib.Dec.{leb}
@@ -18,8 +18,6 @@ use Rattle.draft.specs.PathList.{path_of, list_right, follows, path_node_rule, p
 use Rattle.draft_image.specs.Encode.{untouched, encode_work_after}
 use Rattle.draft_image.proofs.Numbers.{of_test, of_count_lem, of_both, of_first, reach_clears, shape_clears, both-clear}
 use Rattle.walks.specs.Walk.{component_words}
-use Rattle.views.specs.declared.Found.{Found}
-use Rattle.views.specs.declared.Found.TheVariants as found
 use Rattle.static_targets.specs.Late.{late_rule, Late}
 use Rattle.target_finding.specs.Targets.{PathList, path_list_rule, path_end, ends_in_index, needs_container, end_rule, entry_rule, target_rule, resolve_rule, resolved_nodes, nodes_after}
 
@@ -39,33 +37,33 @@ path-tables_leave s entries =
     Leaves : ℕ → Type 0
     Leaves r = (r ≡ 0 → ⊥) → untouched r ≡ true
 
-    none : Leaves 0
-    none d = absurd (d refl)
+    nothing : Leaves 0
+    nothing d = absurd (d refl)
 
     test : (t : Bool) → Leaves (unless t 19)
-    test t = of_test Leaves 19 none (λ d. refl) t
+    test t = of_test Leaves 19 nothing (λ d. refl) t
 
     count : (r : ℕ) → Leaves (counts_as 19 r)
-    count r = of_count_lem Leaves 19 none (λ d. refl) r
+    count r = of_count_lem Leaves 19 nothing (λ d. refl) r
 
     two : (a b : ℕ) → Leaves a → Leaves b → Leaves (a ▸ b)
     two a b p q = of_both Leaves a b p q
 
     all : (n : ℕ) (f : ℕ → ℕ) → ((i : ℕ) → Leaves (f i)) → Leaves (first_of n f)
-    all n f p = of_first Leaves none n f p
+    all n f p = of_first Leaves nothing n f p
 
 -- 25 and 26 clear them
 target_clears : (s : Sections) (p : PathList) (i : ℕ) → untouched (target_rule s p i) ≡ false
 unfolding target_rule
 target_clears s p i = by_follows (follows s p.entries i)
   where
-    by_end : (due : Bool) (x : Found) → untouched (end_rule s due x) ≡ false
-    by_end due found.NotFound = refl
-    by_end due (found.Node n) = of_test (λ r. untouched r ≡ false) 26 refl refl _
+    by_end : (due : Bool) (x : Option ℕ) → untouched (end_rule s due x) ≡ false
+    by_end due None = refl
+    by_end due (Some n) = of_test (λ r. untouched r ≡ false) 26 refl refl _
 
     by_entry : (x : Option ℕ) → untouched (entry_rule s p i x) ≡ false
-    by_entry none = refl
-    by_entry (some k) = by_end (needs_container (tag_of s i) (ends_in_index p k)) (path_end s p i k)
+    by_entry None = refl
+    by_entry (Some k) = by_end (needs_container (tag_of s i) (ends_in_index p k)) (path_end s p i k)
 
     by_follows : (b : Bool) → untouched (cond b (entry_rule s p i (path_of p.entries i)) 0) ≡ false
     by_follows true = by_entry (path_of p.entries i)

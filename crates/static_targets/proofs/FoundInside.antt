@@ -1,4 +1,5 @@
 -- The node at the end of a path, in a draft that keeps 19, but for the targets that are to be found, and 21.
+use Rattle.std.specs.Prelude.{Some}
 use Prim.Native.Nat.{ℕ}
 use mathlib.Core.Path.{◌≡◌}
 use mathlib.Core.List.{List}
@@ -9,7 +10,6 @@ use Rattle.draft.specs.Draft.{shape_rule}
 use Rattle.draft.specs.PathList.{path_tables_rule}
 use Rattle.draft.proofs.Rules.{shape}
 use Rattle.draft.proofs.PathTables.{path-tables}
-use Rattle.views.specs.declared.Found.TheVariants.{Node}
 use Rattle.walks.specs.Walk.{components}
 use Rattle.walks.proofs.WalkEnds.{Leads, EndsInside, found_inside}
 use Rattle.target_finding.specs.Targets.{PathList, path_components, path_end}
@@ -31,5 +31,5 @@ module _ (s : Sections) (l : Leads s) where
   unfolding path_end
   end_inside p i k n h = found_inside s l _ i (components p.names (path_components p k)) n h
 
-  pub end_some : (p : PathList) (i k n : ℕ) → path_end s p i k ≡ Node n → n ≡ NONE → ⊥
+  pub end_some : (p : PathList) (i k n : ℕ) → path_end s p i k ≡ Some n → n ≡ NONE → ⊥
   end_some p i k n h = (node_of_lem s n (end_inside p i k n h)).some

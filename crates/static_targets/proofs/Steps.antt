@@ -1,12 +1,11 @@
 -- The steps with the work words: what each asks, and what its answer comes to.
+use Rattle.std.specs.Prelude.{None, Option, Some, ℕ, is_some}
 use Prim.Native.Nat.{ℕ, ◌+◌, ◌*◌, ◌-◌, ◌/◌, ◌≤◌}
 use mathlib.Core.Path.{◌≡◌, refl, sym, ◌∙◌, subst}
 use mathlib.Core.List.{List}
 use mathlib.Core.Bool.{Bool, true, false, true≢false}
-use mathlib.Core.Option.{Option, none, some}
 use native.Mathlib.Omega.{arith}
 use lib.ListN.{length}
-use Rattle.laws.specs.Lists.{is_some}
 use Rattle.laws.specs.Refusal.{◌▸◌}
 use Rattle.laws.proofs.First.{both, second, first_all, pass, fail}
 use Rattle.laws.proofs.Chains.{refused}
@@ -23,8 +22,6 @@ use Rattle.draft.specs.Shown.{TablesPassed}
 use Rattle.draft.specs.Source.{draft_of}
 use Rattle.draft.proofs.PathTables.{path-tables, path-whole, path_fit, path-passed}
 use Rattle.draft_tree.specs.Testing.{Testable}
-use Rattle.views.specs.declared.Found.{Found}
-use Rattle.views.specs.declared.Found.TheVariants as found
 use Rattle.walks.specs.Walk.{component_words}
 use Rattle.write_numbering.specs.Work.{tree_of, Leads}
 use Rattle.write_numbering.proofs.WholeDraft.{whole-seen, fit_tree, leads_tree}
@@ -40,13 +37,13 @@ use Rattle.static_targets.proofs.FoundInside.{leads, end_some}
 -- ---- a node that follows a path and passes has a target
 
 module _ (s : Sections) (p : PathList) (t : path_tables_rule s p.entries ≡ 0) (q : shape_rule s ≡ 0) (i : ℕ) where
-  end_is_node : (k : ℕ) (due : Bool) (y : Found) → path_end s p i k ≡ y → end_rule s due y ≡ 0 → found_node y ≡ NONE → ⊥
-  end_is_node k due found.NotFound e r z = omega arith
-  end_is_node k due (found.Node n) e r z = end_some s (leads s p.entries t q) p i k n e z
+  end_is_node : (k : ℕ) (due : Bool) (y : Option ℕ) → path_end s p i k ≡ y → end_rule s due y ≡ 0 → found_node y ≡ NONE → ⊥
+  end_is_node k due None e r z = omega arith
+  end_is_node k due (Some n) e r z = end_some s (leads s p.entries t q) p i k n e z
 
   by_entry : (x : Option ℕ) → is_some x ≡ true → entry_rule s p i x ≡ 0 → entry_target s p i x ≡ NONE → ⊥
-  by_entry none l r z = true≢false (sym l)
-  by_entry (some k) l r z = end_is_node k (needs_container (tag_of s i) (ends_in_index p k)) (path_end s p i k) refl r z
+  by_entry None l r z = true≢false (sym l)
+  by_entry (Some k) l r z = end_is_node k (needs_container (tag_of s i) (ends_in_index p k)) (path_end s p i k) refl r z
 
   target-there : target_rule s p i ≡ 0 → follows s p.entries i ≡ true → target_found s p i ≡ NONE → ⊥
   unfolding target_rule target_found

@@ -1,9 +1,11 @@
 -- Nothing sticks at the edge: on accepted bytes an exported query answers exactly if the inner one does, with its words.
+use Rattle.std.specs.Prelude.{None, Option, Some, ℕ}
 use Prim.Native.Nat.{ℕ, ◌+◌, ◌≤◌, ◌<◌, ◌^◌}
 use mathlib.Core.Path.{◌≡◌, refl, sym, ap, ◌∙◌}
 use mathlib.Core.List.{List, [], ◌∷◌}
 use mathlib.Core.Bool.{Bool, true, false, cond}
-use mathlib.Core.Option.{Option, none, some, some-injective, none-ne-some}
+use Rattle.std.proofs.lemmas.Option.{same_Some}
+use Rattle.std.proofs.lemmas.Option.{none-some}
 use native.Mathlib.Omega.{arith}
 use lib.ListN.{length}
 use lib.Dec.{leb}
@@ -19,20 +21,6 @@ use Rattle.image.proofs.OpenedHeader.{Opens, opens, view-inside, view-counts, le
 use Rattle.definitions.specs.Definitions.{definitions_rule}
 use Rattle.load.specs.Load.{load_rule, loaded_of, loaded_by}
 use Rattle.views.specs.declared.Span.{Span}
-use Rattle.views.specs.declared.Count.{Count}
-use Rattle.views.specs.declared.Count.TheVariants as count
-use Rattle.views.specs.declared.NamedAnswer.{NamedAnswer}
-use Rattle.views.specs.declared.NamedAnswer.TheVariants as named
-use Rattle.views.specs.declared.TextAnswer.{TextAnswer}
-use Rattle.views.specs.declared.TextAnswer.TheVariants as place
-use Rattle.views.specs.declared.EntryAnswer.{EntryAnswer}
-use Rattle.views.specs.declared.EntryAnswer.TheVariants as entry
-use Rattle.views.specs.declared.DefinitionAnswer.{DefinitionAnswer}
-use Rattle.views.specs.declared.DefinitionAnswer.TheVariants as definition
-use Rattle.views.specs.declared.ItemAnswer.{ItemAnswer}
-use Rattle.views.specs.declared.ItemAnswer.TheVariants as item
-use Rattle.views.specs.declared.NodeAnswer.{NodeAnswer}
-use Rattle.views.specs.declared.NodeAnswer.TheVariants as node
 use Rattle.views.specs.View.{span, shown, node_view}
 use Rattle.views.specs.Children.{child_count_of, named_count_of, child_query, named_query, text_query}
 use Rattle.views.specs.Lists.{list_part, list_entry, list_origin, definition_query, item_query}
@@ -48,11 +36,11 @@ use Rattle.promises.specs.Answers.{Answer, given, of_count, of_loaded}
 use Rattle.promises.proofs.Acceptance.{load-accepted, accepted-passed}
 use Rattle.technician.specs.Technician.{strings_count_at, header_word, HeaderTells}
 use Rattle.technician.proofs.Accepted.{accepted-header}
-use Rattle.answers.specs.AnswerWords.{answer_after, count_answer, named_answer, place_answer, part_words, part_answer, entry_answer, definition_answer, item_answer, list_item_answer, list_count_words}
+use Rattle.answers.specs.AnswerWords.{answer_after, found_answer, named_answer, place_answer, part_words, part_answer, entry_answer, definition_answer, item_answer, list_item_answer, list_count_words}
 use Rattle.answers.specs.Exports.{Answers}
 use Rattle.answers.specs.NodeViewWords.{node_answer, list_place}
 use Rattle.answers.proofs.AnswerSlices.{count-some, part-some}
-use Rattle.answers.proofs.Sizes.{Size, some_size, none-size, found-size, count-size, list-item-size, answering}
+use Rattle.answers.proofs.Sizes.{Size, some_size, none-size, found-size, list-item-size, answering}
 use Rattle.answers.proofs.ItemNumbers.{definitions_few, item-words}
 use Rattle.answers.proofs.Records.{eight}
 use Rattle.answers.proofs.ListPlaces.{Lies, list-lies}
@@ -62,51 +50,56 @@ use Rattle.story_image.specs.Accepted.{ViewOf, PageExports, CountExports, Export
 use Rattle.story_image.proofs.Views.{view-back, enough, searched-under}
 use Rattle.story_image.proofs.Pages.{page-under}
 use Rattle.story_image.proofs.TargetCounts.{count_under, count-exports}
+use Rattle.views.specs.declared.ItemView.{ItemView}
+use Rattle.views.specs.declared.ListEntry.{ListEntry}
+use Rattle.views.specs.declared.NodeView.{NodeView}
+use Rattle.views.specs.declared.NamedChildView.{NamedChildView}
+use Rattle.views.specs.declared.DefinitionView.{DefinitionView}
 
 -- ---- how many words an answer has
 
-named-size : (a : NamedAnswer) → Size 3 (named_answer a)
-named-size (named.Named e) = some_size 3 _ refl
-named-size named.NotFound = none-size 3
+named-size : (a : Option NamedChildView) → Size 3 (named_answer a)
+named-size (Some e) = some_size 3 _ refl
+named-size None = none-size 3
 
-text-size : (strings : ℕ) (a : TextAnswer) → Size 2 (words_of_text strings a)
-text-size strings (place.Text t) = some_size 2 _ refl
-text-size strings place.NotFound = none-size 2
+text-size : (strings : ℕ) (a : Option Span) → Size 2 (words_of_text strings a)
+text-size strings (Some t) = some_size 2 _ refl
+text-size strings None = none-size 2
 
-place-size : (a : TextAnswer) → Size 2 (place_answer a)
-place-size (place.Text t) = some_size 2 _ refl
-place-size place.NotFound = none-size 2
+place-size : (a : Option Span) → Size 2 (place_answer a)
+place-size (Some t) = some_size 2 _ refl
+place-size None = none-size 2
 
-entry-size : (a : EntryAnswer) → Size 5 (entry_answer a)
-entry-size (entry.Entry e) = some_size 5 _ refl
-entry-size entry.NotFound = none-size 5
+entry-size : (a : Option ListEntry) → Size 5 (entry_answer a)
+entry-size (Some e) = some_size 5 _ refl
+entry-size None = none-size 5
 
-definition-size : (a : DefinitionAnswer) → Size 3 (definition_answer a)
-definition-size (definition.Definition d) = some_size 3 _ refl
-definition-size definition.NotFound = none-size 3
+definition-size : (a : Option DefinitionView) → Size 3 (definition_answer a)
+definition-size (Some d) = some_size 3 _ refl
+definition-size None = none-size 3
 
-first-size : (s : Sections) (d : ℕ) (a : DefinitionAnswer) → Size 1 (first_words s d a)
-first-size s d (definition.Definition x) = some_size 1 _ refl
-first-size s d definition.NotFound = none-size 1
+first-size : (s : Sections) (d : ℕ) (a : Option DefinitionView) → Size 1 (first_words s d a)
+first-size s d (Some x) = some_size 1 _ refl
+first-size s d None = none-size 1
 
-item-size : (a : ItemAnswer) → Size 3 (item_answer a)
-item-size (item.Item i) = some_size 3 _ refl
-item-size item.NotFound = none-size 3
+item-size : (a : Option ItemView) → Size 3 (item_answer a)
+item-size (Some i) = some_size 3 _ refl
+item-size None = none-size 3
 
-node-size : (a : NodeAnswer) → Size 10 (node_answer a)
-node-size (node.View v) = let e = eight v.kind in some_size 10 _ (omega arith)
-node-size node.NotFound = none-size 10
+node-size : (a : Option NodeView) → Size 10 (node_answer a)
+node-size (Some v) = let e = eight v.kind in some_size 10 _ (omega arith)
+node-size None = none-size 10
 
 counts-size : (payload : List ℕ) → Size 2 (list_count_words payload)
 counts-size payload = by (leb 8 (length payload))
   where
-    by : (b : Bool) → Size 2 (cond b (some (word_at payload 0 ∷ word_at payload 4 ∷ [])) none)
+    by : (b : Bool) → Size 2 (cond b (Some (word_at payload 0 ∷ word_at payload 4 ∷ [])) None)
     by true = some_size 2 _ refl
     by false = none-size 2
 
 list-size : (k : ℕ) (o : Option Span) (query : Span → Option (List ℕ)) → ((t : Span) → Size k (query t)) → Size k (at_list o query)
-list-size k none query h = none-size k
-list-size k (some t) query h = h t
+list-size k None query h = none-size k
+list-size k (Some t) query h = h t
 
 -- ---- the view that a load wrote
 
@@ -140,17 +133,17 @@ module _ (bs view : List ℕ) (versioned : (view_of bs).version ≡ version) (v 
       count-exports bs view (sections_by bs (view_of bs)) summary adds (sym p.0) (sym p.1)
 
   searched_as : (name searched : List ℕ)
-      → searched_after bs view name searched ≡ answer_after (some ((list_search (sections_by bs (view_of bs)) name).searched ∷ [])) searched
+      → searched_after bs view name searched ≡ answer_after (Some ((list_search (sections_by bs (view_of bs)) name).searched ∷ [])) searched
   searched_as name searched = sym (searched-under bs view name searched view-long (view_of bs) view-same _ refl _ refl)
 
 -- ---- words of the header
 
 -- a count that is given, in words
-count-given : (a : Count) (n : ℕ) → of_count a ≡ given n → Answers 1 (count_answer a) (some (n ∷ []))
-count-given (count.Of m) n e =
-    let same : m ≡ n = some-injective m n (ap (λ (x : Answer ℕ). x.value) e) in
-    answering 1 _ _ (ap (λ (k : ℕ). some (k ∷ [])) same) (some_size 1 (n ∷ []) refl)
-count-given count.NotFound n e = absurd (none-ne-some n (ap (λ (x : Answer ℕ). x.value) e))
+count-given : (a : Option ℕ) (n : ℕ) → of_count a ≡ given n → Answers 1 (found_answer a) (Some (n ∷ []))
+count-given (Some m) n e =
+    let same : m ≡ n = same_Some m n (ap (λ (x : Answer ℕ). x.value) e) in
+    answering 1 _ _ (ap (λ (k : ℕ). Some (k ∷ [])) same) (some_size 1 (n ∷ []) refl)
+count-given None n e = absurd (none-some n (ap (λ (x : Answer ℕ). x.value) e))
 
 -- ---- accepted bytes
 
@@ -163,8 +156,8 @@ module _ (bs : List ℕ) (o : Opens bs) (short : length bs < 2 ^ 32) where
   text-whole t = by (shown (length own.strings) t.offset t.len) refl
     where
       by : (b : Bool) → shown (length own.strings) t.offset t.len ≡ b
-          → part_answer (length bs) (view_of bs).strings.offset (cond b (place.Text t) place.NotFound)
-          ≡ words_of_text (view_of bs).strings.offset (cond b (place.Text t) place.NotFound)
+          → part_answer (length bs) (view_of bs).strings.offset (cond b (Some t) None)
+          ≡ words_of_text (view_of bs).strings.offset (cond b (Some t) None)
       by true e =
           let inside = leb-true (t.offset + t.len) (length own.strings) (both_true (present t.offset t.len) _ e).1 in
           let within = (view-inside bs o).strings in
@@ -173,9 +166,9 @@ module _ (bs : List ℕ) (o : Opens bs) (short : length bs < 2 ^ 32) where
       by false e = refl
 
   payload-whole : (p : Option Span) → Lies (length own.payload) p
-      → at_list p (λ t. part_words (length bs) (view_of bs).payload.offset t) ≡ at_list p (λ t. some (words_of_part (view_of bs).payload.offset t))
-  payload-whole none h = refl
-  payload-whole (some t) h =
+      → at_list p (λ t. part_words (length bs) (view_of bs).payload.offset t) ≡ at_list p (λ t. Some (words_of_part (view_of bs).payload.offset t))
+  payload-whole None h = refl
+  payload-whole (Some t) h =
       let inside = h t refl in
       let within = (view-inside bs o).payload in
       let long = (view-counts bs o).payload in
@@ -195,11 +188,11 @@ module _ (bs view : List ℕ) (o : Opens bs) (short : length bs < 2 ^ 32) (lists
         page = λ numbers slots. paged_as bs view (right-version bs o) v numbers slots;
         count = counted_as bs view (right-version bs o) v adds;
         slot-view = λ slot. answering 10 _ _ (asked_as bs view (right-version bs o) v _) (node-size (slot_view s slot));
-        depth = λ i. answering 1 _ _ (asked_as bs view (right-version bs o) v _) (count-size (depth_of s i));
+        depth = λ i. answering 1 _ _ (asked_as bs view (right-version bs o) v _) (found-size (depth_of s i));
         text = λ at len. answering 2 _ _ (asked_as bs view (right-version bs o) v _ ∙ text-whole bs o short (span at len)) (text-size _ (text_query s (span at len)));
-        child-count = λ i. answering 1 _ _ (asked_as bs view (right-version bs o) v _) (count-size (child_count_of s i));
+        child-count = λ i. answering 1 _ _ (asked_as bs view (right-version bs o) v _) (found-size (child_count_of s i));
         child = λ i j. answering 1 _ _ (asked_as bs view (right-version bs o) v _) (found-size (child_query s i j));
-        named-child-count = λ i. answering 1 _ _ (asked_as bs view (right-version bs o) v _) (count-size (named_count_of s i));
+        named-child-count = λ i. answering 1 _ _ (asked_as bs view (right-version bs o) v _) (found-size (named_count_of s i));
         named-child = λ i j. answering 3 _ _ (asked_as bs view (right-version bs o) v _) (named-size (named_query s i j));
         find-named-child = λ i name. answering 1 _ _ (asked_as bs view (right-version bs o) v _) (found-size (find_named s i name));
         list-payload = λ i.

@@ -1,4 +1,5 @@
 -- The exported load: its number, and the lent words on return.
+use Rattle.std.specs.Prelude.{Err, Ok, Result, ℕ}
 use Prim.Native.Nat.{ℕ, ◌≤◌, ◌<◌}
 use mathlib.Core.Path.{◌≡◌, sym, ap, ◌∙◌}
 use mathlib.Core.List.{List}
@@ -8,8 +9,6 @@ use borrow.Author.Tests.{le-leb, lt-leb}
 use Rattle.image.specs.declared.ImageView.{ImageView}
 use Rattle.image.specs.Header.{view_of}
 use Rattle.load.specs.Load.{load_rule, loaded_of, early, work_after}
-use Rattle.load.specs.declared.Loaded.{Loaded}
-use Rattle.load.specs.declared.Loaded.TheVariants.{View, Refused}
 use Rattle.load.proofs.Answers.{left_alone}
 use Rattle.load.proofs.Numbered.{viewed, refused, early-without, early-some}
 use Rattle.answers.proofs.LentSlices.{words_left}
@@ -27,21 +26,21 @@ no_view bs work view ws needed r h e =
     let q : early r ≡ true = ap early e ∙ early-without bs in
     (e ∙ ap (load_rule bs) (lent_none (length view) (length work) h), left_alone needed r work q, words_left r ws view (early-some r q))
 
-module _ (bs : List ℕ) (work : ℕ) (a : Loaded) (view : ℕ) (h : view_length ≤ view) (e : a ≡ loaded_of bs work) where
-  pub accepted-number : (u : ImageView) → a ≡ View u → 0 ≡ load_rule bs (lent_words view work)
+module _ (bs : List ℕ) (work : ℕ) (a : Result ImageView ℕ) (view : ℕ) (h : view_length ≤ view) (e : a ≡ loaded_of bs work) where
+  pub accepted-number : (u : ImageView) → a ≡ Ok u → 0 ≡ load_rule bs (lent_words view work)
   accepted-number u q = (viewed bs work a e u q).0 ∙ ap (load_rule bs) (lent_all view work h)
 
-  pub refused-number : (k : ℕ) → a ≡ Refused k → k ≡ load_rule bs (lent_words view work)
+  pub refused-number : (k : ℕ) → a ≡ Err k → k ≡ load_rule bs (lent_words view work)
   refused-number k q = (refused bs work a e k q).0 ∙ ap (load_rule bs) (lent_all view work h)
 
-  pub accepted-words : (u : ImageView) (needed : ℕ) (w now : List ℕ) → a ≡ View u → now ≡ work_after needed (load_rule bs work) w → now ≡ work_after needed 0 w
+  pub accepted-words : (u : ImageView) (needed : ℕ) (w now : List ℕ) → a ≡ Ok u → now ≡ work_after needed (load_rule bs work) w → now ≡ work_after needed 0 w
   accepted-words u needed w now q p = p ∙ ap (λ (r : ℕ). work_after needed r w) (sym (viewed bs work a e u q).0)
 
-  pub refused-words : (k : ℕ) (needed : ℕ) (w now : List ℕ) → a ≡ Refused k → now ≡ work_after needed (load_rule bs work) w → now ≡ work_after needed k w
+  pub refused-words : (k : ℕ) (needed : ℕ) (w now : List ℕ) → a ≡ Err k → now ≡ work_after needed (load_rule bs work) w → now ≡ work_after needed k w
   refused-words k needed w now q p = p ∙ ap (λ (r : ℕ). work_after needed r w) (sym (refused bs work a e k q).0)
 
-  pub accepted-view : (u : ImageView) (xs now : List ℕ) → a ≡ View u → now ≡ written_after 0 (words_of_view u) xs → now ≡ written_after 0 (words_of_view (view_of bs)) xs
+  pub accepted-view : (u : ImageView) (xs now : List ℕ) → a ≡ Ok u → now ≡ written_after 0 (words_of_view u) xs → now ≡ written_after 0 (words_of_view (view_of bs)) xs
   accepted-view u xs now q p = p ∙ ap (λ (v : ImageView). written_after 0 (words_of_view v) xs) (viewed bs work a e u q).1
 
-  pub refused-view : (k : ℕ) (ws xs : List ℕ) → a ≡ Refused k → xs ≡ written_after k ws xs
+  pub refused-view : (k : ℕ) (ws xs : List ℕ) → a ≡ Err k → xs ≡ written_after k ws xs
   refused-view k ws xs q = words_left k ws xs (refused bs work a e k q).1

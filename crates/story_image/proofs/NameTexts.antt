@@ -1,10 +1,10 @@
 -- Texts of commands and operators: their numbers, and the bytes that hold them.
-use Prim.Native.Nat.{ℕ, ◌-◌, ◌≤◌, ◌<◌}
+use Rattle.std.specs.Prelude.{None, Some}
+use Prim.Native.Nat.{ℕ, zero, suc, ◌-◌, ◌≤◌, ◌<◌}
 use mathlib.Core.Path.{◌≡◌, refl, sym, ◌∙◌}
 use mathlib.Core.List.{List, [], ◌∷◌}
-use mathlib.Core.Option.{none, some}
 use native.Mathlib.Omega.{arith}
-use native.Mathlib.Nat.{not-suc-le-zero}
+use native.Mathlib.Nat.{not-suc-le-zero, le_of_suc-le-suc}
 use lib.ListN.{length, get_or, replicate, length-replicate, length-append}
 use lib.Seq.{length-take-le}
 use lib.Dec.{leb}
@@ -14,7 +14,7 @@ use Rattle.names.specs.Names.{commands, operators, number_in, names}
 use Rattle.names.specs.Spelling.{element_at, name_of, spelled}
 use Rattle.names.specs.declared.Name.{Name}
 use Rattle.names.proofs.Distinct.{place-number}
-use Rattle.names.proofs.Numbers.{Numbered, every, at_element, past_element, named-number, named_yes}
+use Rattle.names.proofs.Numbers.{Numbered, every, at_element, named-number, named_yes}
 use Rattle.names.proofs.Spellings.{name-spelled}
 
 -- ---- a name fits its bytes
@@ -51,27 +51,33 @@ pub operator_count : length operators ≡ 31
 unfolding names
 operator_count = refl
 
+past_element : {A : Type 0} (xs : List A) (k : ℕ) → length xs ≤ k → element_at xs k ≡ None
+unfolding element_at
+past_element [] k h = refl
+past_element (x ∷ xs) zero h = absurd (not-suc-le-zero h)
+past_element (x ∷ xs) (suc k) h = past_element xs k (le_of_suc-le-suc h)
+
 module _ {A : Type 0} {number : A → ℕ} {kinds : List A} {names : List (List ℕ)} (n : Numbered number kinds names) (count : ℕ) (e : length names ≡ count) (k : ℕ) where
-  pub past-names : count ≤ k → element_at names k ≡ none
+  pub past-names : count ≤ k → element_at names k ≡ None
   past-names h = past_element names k (omega arith)
 
   -- a number below the count is that of a kind
-  pub some-kind : k < count → none ≡ element_at kinds k → ⊥
+  pub some-kind : k < count → None ≡ element_at kinds k → ⊥
   some-kind h q = none-some kinds (omega (arith, n.counts)) q
     where
-      none-some : (xs : List A) → k < length xs → none ≡ element_at xs k → ⊥
+      none-some : (xs : List A) → k < length xs → None ≡ element_at xs k → ⊥
       none-some [] l p = not-suc-le-zero l
       none-some (x ∷ xs) l p = let s = at_element (x ∷ xs) k x l in let z : ◌≡◌ {A = ℕ} 0 1 = cc in omega arith
 
-  module _ (h : k < count) (a : A) (q : some a ≡ element_at kinds k) where
+  module _ (h : k < count) (a : A) (q : Some a ≡ element_at kinds k) where
     pub kind-number : number a ≡ k
     kind-number =
         let t = get_or names k [] in
-        let p : number_in names t ≡ some k = place-number names n.apart k (omega arith) in
-        let u = named-number n t a (sym (named_yes kinds names t k (some a) (sym p) q)) in
-        let z : some k ≡ some (number a) = sym p ∙ u in
+        let p : number_in names t ≡ Some k = place-number names n.apart k (omega arith) in
+        let u = named-number n t a (sym (named_yes kinds names t k (Some a) (sym p) q)) in
+        let z : Some k ≡ Some (number a) = sym p ∙ u in
         cc
 
-    pub kind-spelled : (w : Name) → w ≡ name_of (get_or names (number a) []) → some (spelled w) ≡ element_at names k
+    pub kind-spelled : (w : Name) → w ≡ name_of (get_or names (number a) []) → Some (spelled w) ≡ element_at names k
     kind-spelled w g =
         rw (g, name-spelled (get_or names (number a) []), kind-number) (sym (at_element names k [] (omega arith)))

@@ -1,8 +1,8 @@
 -- The numbers that exported functions return.
+use Rattle.std.specs.Prelude.{None, Option, Some}
 use Prim.Native.Nat.{ℕ}
 use mathlib.Core.Path.{ap, ◌∙◌}
 use mathlib.Core.List.{List}
-use mathlib.Core.Option.{Option, none, some}
 use lib.ListN.{length}
 use Rattle.laws.specs.Lists.{has}
 use Rattle.answers.specs.AnswerWords.{number_of}
@@ -19,8 +19,8 @@ use Rattle.story_image.specs.Numbers.{page_export_numbers, count_export_numbers,
 
 query-number : (o : Option (List ℕ)) (n : ℕ) → In query_numbers (number_of o n)
 unfolding number_of has
-query-number none n = search numbers
-query-number (some ws) n = search numbers
+query-number None n = search numbers
+query-number (Some ws) n = search numbers
 
 page-number : (view count slots : ℕ) → In page_export_numbers (page_number view count slots)
 unfolding page_number page_rule has
@@ -32,8 +32,8 @@ count-number bytes view words = search numbers
 
 spell-number : (o : Option (List ℕ)) (room lent : ℕ) → In spell_numbers (spelled_number o room lent)
 unfolding has
-spell-number none room lent = search numbers
-spell-number (some t) room lent = search numbers
+spell-number None room lent = search numbers
+spell-number (Some t) room lent = search numbers
 
 pub export_numbers : ExportNumbers
 export_numbers =

@@ -1,10 +1,10 @@
 -- A page under lent words of a view, and the view of its slots against the lone call.
+use Rattle.std.specs.Prelude.{None}
 use Prim.Native.Nat.{ℕ, ◌*◌, ◌≤◌, ◌<◌}
 use mathlib.Core.Path.{◌≡◌, refl, ap, ◌∙◌}
 use mathlib.Core.List.{List}
 use mathlib.Core.Bool.{Bool, true, false, cond}
 use native.Mathlib.Omega.{arith}
-use mathlib.Core.Option.{none}
 use lib.ListN.{length, get_or, take, drop}
 use lib.Dec.{leb}
 use borrow.Author.Tests.{le-leb, lt-leb}
@@ -44,8 +44,8 @@ slot_same s numbers slots h k l = ap (slot_view s) ((pages-written s numbers slo
 
 -- what both calls answer under lent words of a view, by whether they are enough
 by_view : (s : Sections) (numbers slots : List ℕ) (k : ℕ) → k < length numbers → (b : Bool) → cond b (page_rule (length numbers) (length slots)) 18 ≡ 0
-    → cond b (node_answer (slot_view s (take slot_words (drop (slot_words * k) (cond b (page_after s numbers slots) slots))))) none
-    ≡ cond b (node_answer (node_view s (get_or numbers k 0))) none
+    → cond b (node_answer (slot_view s (take slot_words (drop (slot_words * k) (cond b (page_after s numbers slots) slots))))) None
+    ≡ cond b (node_answer (node_view s (get_or numbers k 0))) None
 by_view s numbers slots k l true z = ap node_answer (slot_same s numbers slots z k l)
 by_view s numbers slots k l false z = absurd (let e : ◌≡◌ {A = ℕ} 18 0 = z in omega arith)
 

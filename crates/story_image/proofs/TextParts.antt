@@ -1,9 +1,10 @@
 -- The part of the image that a text's words bound is the text.
+use Rattle.std.specs.Prelude.{None, Some}
 use Prim.Native.Nat.{ℕ, ◌+◌, ◌*◌, ◌≤◌}
 use mathlib.Core.Path.{◌≡◌, refl, sym, ◌∙◌}
 use mathlib.Core.List.{List, [], ◌∷◌}
 use mathlib.Core.Bool.{Bool, true, false, cond}
-use mathlib.Core.Option.{none, some, none-ne-some}
+use Rattle.std.proofs.lemmas.Option.{none-some}
 use native.Mathlib.Omega.{arith}
 use lib.ListN.{length}
 use lib.Dec.{leb}
@@ -15,7 +16,6 @@ use Rattle.image.specs.Sections.{part_at, present}
 use Rattle.image.specs.Header.{section_bytes, sections_by}
 use Rattle.image.proofs.Parts.{part_of_part, section-inside, section-outside, section-length}
 use Rattle.views.specs.declared.Span.{Span}
-use Rattle.views.specs.declared.TextAnswer.TheVariants as place
 use Rattle.views.specs.View.{shown}
 use Rattle.views.specs.Children.{text_query, shown_text}
 use Rattle.answers.specs.AnswerWords.{part_answer}
@@ -40,8 +40,8 @@ module _ (bs : List ℕ) (v : ImageView) (t : Span) where
   held_by false e h =
       let k = leb-false (v.strings.offset + v.strings.count * 1) (length bs) e in
       let q : t.offset + t.len ≤ 0 = rw (section-outside bs v.strings 1 k) at h in
-      let none : t.len ≡ 0 = omega arith in
-      empty bs section start t.offset t.len none
+      let None : t.len ≡ 0 = omega arith in
+      empty bs section start t.offset t.len None
 
   held : shown (length section) t.offset t.len ≡ true → part_at bs start t.len ≡ shown_text section t.offset t.len
   unfolding shown_text
@@ -50,24 +50,24 @@ module _ (bs : List ℕ) (v : ImageView) (t : Span) where
       rw h (held_by (leb (v.strings.offset + v.strings.count * 1) (length bs)) refl inside)
 
   -- what a query for a text hands over bounds the text's part of the image
-  pub text-held : (from len : ℕ) → part_answer (length bs) v.strings.offset (text_query (sections_by bs v) t) ≡ some (from ∷ len ∷ [])
+  pub text-held : (from len : ℕ) → part_answer (length bs) v.strings.offset (text_query (sections_by bs v) t) ≡ Some (from ∷ len ∷ [])
       → part_at bs from len ≡ shown_text (sections_by bs v).strings t.offset t.len
   unfolding text_query sections_by
   text-held from len e = shown_by (shown (length section) t.offset t.len) refl e
     where
-      same : some (start ∷ t.len ∷ []) ≡ some (from ∷ len ∷ []) → part_at bs start t.len ≡ part_at bs from len
+      same : Some (start ∷ t.len ∷ []) ≡ Some (from ∷ len ∷ []) → part_at bs start t.len ≡ part_at bs from len
       same e =
           let one : start ≡ from = cc in
           let two : t.len ≡ len = cc in
           rw (one, two)
 
-      fits_by : (a b : Bool) → cond a (cond b (some (start ∷ t.len ∷ [])) none) none ≡ some (from ∷ len ∷ []) → part_at bs start t.len ≡ part_at bs from len
+      fits_by : (a b : Bool) → cond a (cond b (Some (start ∷ t.len ∷ [])) None) None ≡ Some (from ∷ len ∷ []) → part_at bs start t.len ≡ part_at bs from len
       fits_by true true e = same e
-      fits_by true false e = absurd (none-ne-some _ e)
-      fits_by false b e = absurd (none-ne-some _ e)
+      fits_by true false e = absurd (none-some _ e)
+      fits_by false b e = absurd (none-some _ e)
 
       shown_by : (b : Bool) → shown (length section) t.offset t.len ≡ b
-          → part_answer (length bs) v.strings.offset (cond b (place.Text t) place.NotFound) ≡ some (from ∷ len ∷ [])
+          → part_answer (length bs) v.strings.offset (cond b (Some t) None) ≡ Some (from ∷ len ∷ [])
           → part_at bs from len ≡ shown_text section t.offset t.len
       shown_by true h e = sym (fits_by (leb (start + t.len) (length bs)) (leb start NONE) e) ∙ held h
-      shown_by false h e = absurd (none-ne-some _ e)
+      shown_by false h e = absurd (none-some _ e)

@@ -1,9 +1,9 @@
 -- What a query answers under lent words of a view.
+use Rattle.std.specs.Prelude.{None, Option, Some}
 use Prim.Native.Nat.{ℕ, ◌≤◌, ◌<◌}
 use mathlib.Core.Path.{◌≡◌, sym, ap, ◌∙◌}
 use mathlib.Core.List.{List, [], ◌∷◌}
 use mathlib.Core.Bool.{Bool, cond}
-use mathlib.Core.Option.{Option, none, some}
 use lib.ListN.{length}
 use borrow.Author.Tests.{le-leb, lt-leb}
 use Rattle.image.specs.declared.ImageView.{ImageView}
@@ -32,13 +32,13 @@ view-back v e =
     }
 
 module _ (view : List ℕ) (query : ImageView → Option (List ℕ)) where
-  pub too_few : length view < view_length → none ≡ under view query
+  pub too_few : length view < view_length → None ≡ under view query
   unfolding under
-  too_few h = sym (ap (λ (b : Bool). cond b (query (view_by view)) none) (lt-leb view_length (length view) h))
+  too_few h = sym (ap (λ (b : Bool). cond b (query (view_by view)) None) (lt-leb view_length (length view) h))
 
   pub enough : view_length ≤ length view → (v : ImageView) → v ≡ view_by view → query v ≡ under view query
   unfolding under
-  enough h v e = ap query e ∙ sym (ap (λ (b : Bool). cond b (query (view_by view)) none) (le-leb view_length (length view) h))
+  enough h v e = ap query e ∙ sym (ap (λ (b : Bool). cond b (query (view_by view)) None) (le-leb view_length (length view) h))
 
   -- too few words: 18
   pub no_view : (xs : List ℕ) → length view < view_length → Answered (under view query) xs xs 18
@@ -59,8 +59,8 @@ module _ (bytes view name searched : List ℕ) where
 
   -- otherwise the first gets what the search counts under their view
   pub searched-under : view_length ≤ length view → (v : ImageView) → v ≡ view_by view → (r : ItemSearch) → r ≡ list_search (sections_by bytes v) name
-      → (now : List ℕ) → now ≡ answer_after (some (r.searched ∷ [])) searched → now ≡ searched_after bytes view name searched
+      → (now : List ℕ) → now ≡ answer_after (Some (r.searched ∷ [])) searched → now ≡ searched_after bytes view name searched
   unfolding searched_after
   searched-under h v e r q now w =
       rw (le-leb view_length (length view) h)
-      (w ∙ ap (λ (x : ItemSearch). answer_after (some (x.searched ∷ [])) searched) (q ∙ ap (λ (u : ImageView). list_search (sections_by bytes u) name) e))
+      (w ∙ ap (λ (x : ItemSearch). answer_after (Some (x.searched ∷ [])) searched) (q ∙ ap (λ (u : ImageView). list_search (sections_by bytes u) name) e))

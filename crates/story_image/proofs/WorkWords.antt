@@ -1,4 +1,5 @@
 -- How many work words suffice.
+use Rattle.std.specs.Prelude.{None, Option, Some, ℕ}
 use Prim.Native.Nat.{ℕ, ◌≤◌}
 use mathlib.Core.Path.{◌≡◌, refl, sym, ap, ◌∙◌}
 use mathlib.Core.Bool.{Bool, true, false, cond, true≢false}
@@ -10,8 +11,6 @@ use Rattle.laws.specs.Refusal.{unless}
 use Rattle.image.specs.Header.{ink_right}
 use Rattle.load.specs.Load.{load_rule}
 use Rattle.load.proofs.WorkWords.{Other, other_test, other-count, other-both, other-first, words_suffice}
-use Rattle.draft.specs.declared.Needed.{Needed}
-use Rattle.draft.specs.declared.Needed.TheVariants.{Words, TooMany}
 use Rattle.draft.specs.Needs.{needed_of}
 use Rattle.draft.specs.Draft.{draft_node_rule, draft_child_rule, draft_named_rule, draft_definition_rule, draft_item_rule, tables_rule, write_words}
 use Rattle.draft_image.specs.Encode.{encode_rule, untouched}
@@ -23,20 +22,20 @@ use Rattle.story_image.specs.Needed.{words_to_write, largest_size, longest_slice
 
 -- ---- a writer's
 
-module _ (s : Sections) (a : Needed) (e : a ≡ needed_of (write_words s) largest_size) where
-  many_by : (b : Bool) → leb (write_words s) largest_size ≡ b → cond b (Words (write_words s)) TooMany ≡ TooMany → b ≡ false
+module _ (s : Sections) (a : Option ℕ) (e : a ≡ needed_of (write_words s) largest_size) where
+  many_by : (b : Bool) → leb (write_words s) largest_size ≡ b → cond b (Some (write_words s)) None ≡ None → b ≡ false
   many_by true q h = let z : ◌≡◌ {A = ℕ} 0 1 = cc in absurd (omega arith)
   many_by false q h = refl
 
-  pub most_to_write : a ≡ TooMany → largest_size ≡ words_to_write s
+  pub most_to_write : a ≡ None → largest_size ≡ words_to_write s
   unfolding words_to_write needed_of
   most_to_write h = rw (many_by (leb (write_words s) largest_size) refl (sym e ∙ h))
 
-  some_by : (b : Bool) (n : ℕ) → cond b (Words (write_words s)) TooMany ≡ Words n → (b ≡ true) × (n ≡ write_words s)
+  some_by : (b : Bool) (n : ℕ) → cond b (Some (write_words s)) None ≡ Some n → (b ≡ true) × (n ≡ write_words s)
   some_by true n h = (refl, cc)
   some_by false n h = let z : ◌≡◌ {A = ℕ} 0 1 = cc in absurd (omega arith)
 
-  pub some_to_write : (n : ℕ) → a ≡ Words n → n ≡ words_to_write s
+  pub some_to_write : (n : ℕ) → a ≡ Some n → n ≡ words_to_write s
   unfolding words_to_write needed_of
   some_to_write n h =
       let known = some_by (leb (write_words s) largest_size) n (sym e ∙ h) in

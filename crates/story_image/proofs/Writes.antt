@@ -14,8 +14,7 @@ use Rattle.image.specs.Sections.{Sections}
 use Rattle.draft.specs.Draft.{tables_rule, write_words}
 use Rattle.draft.proofs.Rules.{tables}
 use Rattle.draft_image.specs.Encode.{image_for, encode_rule, out_after, untouched, encode_work_after}
-use Rattle.writer.specs.declared.Encoded.{Encoded}
-use Rattle.writer.specs.declared.Encoded.TheVariants.{Written, Short, Refused}
+use Rattle.writer.specs.Encoded.{Encoded, Written, Short, Refused}
 use Rattle.writer.specs.Answer.{encoded_of, of_encoded}
 use Rattle.draft_image.proofs.Numbers.{tables_leave}
 use Rattle.writer.proofs.AnswerByRule.{number_by, written_by, short_by, refused_by}

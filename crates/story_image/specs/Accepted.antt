@@ -1,8 +1,7 @@
 -- What is promised of exported queries: of any bytes, how many words an answer has, so that 18 means that there is none where the view
 -- and the answer are long enough; of accepted bytes, that nothing sticks at the edge: an exported query answers exactly if the inner
 -- one does, with its words.
-use Rattle.std.specs.Prelude.{ℕ, ◌+◌, ◌*◌, ◌≤◌, ◌<◌, ◌≡◌, List, [], ◌∷◌, Bool, length, get_or, take, drop}
-use Rattle.std.proofs.Math.Option.{Option, none, some}
+use Rattle.std.specs.Prelude.{ℕ, ◌+◌, ◌*◌, ◌≤◌, ◌<◌, ◌≡◌, List, [], ◌∷◌, Bool, length, get_or, take, drop, None, Option, Some}
 use Rattle.laws.specs.Counted.{sum_of}
 use Rattle.laws.specs.Lists.{Below}
 use Rattle.checksum.specs.Crc.{checksum_of}
@@ -10,8 +9,6 @@ use Rattle.image.specs.Sections.{Sections, node_count, definition_count}
 use Rattle.image.specs.Header.{view_of, sections_of}
 use Rattle.load.specs.Load.{load_rule}
 use Rattle.views.specs.declared.Span.{Span}
-use Rattle.views.specs.declared.TextAnswer.{TextAnswer}
-use Rattle.views.specs.declared.TextAnswer.TheVariants as place
 use Rattle.views.specs.View.{span, node_view}
 use Rattle.views.specs.Children.{child_count_of, named_count_of, child_query, named_query, text_query}
 use Rattle.views.specs.Lists.{list_part, list_entry, list_origin, definition_query, item_query}
@@ -21,7 +18,7 @@ use Rattle.walks.specs.Walk.{components, resolve}
 use Rattle.depth.specs.Depth.{depth_of}
 use Rattle.pages.specs.Page.{slot_words, page_rule, page_after, slot_view}
 use Rattle.target_counts.specs.Summary.{RightSummary, targets_present, summary_rule, summary_after}
-use Rattle.answers.specs.AnswerWords.{answer_after, found_answer, count_answer, named_answer, place_answer, entry_answer, definition_answer, item_answer, list_count_words}
+use Rattle.answers.specs.AnswerWords.{answer_after, found_answer, named_answer, place_answer, entry_answer, definition_answer, item_answer, list_count_words}
 use Rattle.answers.specs.Exports.{Answers, words_of_list_item}
 use Rattle.answers.specs.NodeViewWords.{node_answer, list_place}
 use Rattle.story_image.specs.Exported.{view_length, words_of_view, written_after}
@@ -33,9 +30,9 @@ use Rattle.story_image.specs.Queries.{at_list, first_words, answer_of_node_view,
 abbrev pub words_of_part : ℕ → Span → List ℕ
 words_of_part section t = (section + t.offset) ∷ t.len ∷ []
 
-abbrev pub words_of_text : ℕ → TextAnswer → Option (List ℕ)
-words_of_text strings (place.Text t) = some (words_of_part strings t)
-words_of_text strings place.NotFound = none
+abbrev pub words_of_text : ℕ → Option Span → Option (List ℕ)
+words_of_text strings (Some t) = Some (words_of_part strings t)
+words_of_text strings None = None
 
 -- ---- an exported query against the inner one
 
@@ -65,32 +62,32 @@ pub record Exports (bs view : List ℕ) (s : Sections) : Type 0 where
   pub page : (numbers slots : List ℕ) → PageExports bs view s numbers slots
   pub count : (summary : List ℕ) → CountExports bs view s summary
   pub slot-view : (slot : List ℕ) → Answers 10 (answer_of_slot_view bs view slot) (node_answer (slot_view s slot))
-  pub depth : (i : ℕ) → Answers 1 (answer_of_depth bs view i) (count_answer (depth_of s i))
+  pub depth : (i : ℕ) → Answers 1 (answer_of_depth bs view i) (found_answer (depth_of s i))
   pub text : (at len : ℕ) → Answers 2 (answer_of_text bs view at len) (words_of_text (view_of bs).strings.offset (text_query s (span at len)))
-  pub child-count : (i : ℕ) → Answers 1 (answer_of_child_count bs view i) (count_answer (child_count_of s i))
+  pub child-count : (i : ℕ) → Answers 1 (answer_of_child_count bs view i) (found_answer (child_count_of s i))
   pub child : (i j : ℕ) → Answers 1 (answer_of_child bs view i j) (found_answer (child_query s i j))
-  pub named-child-count : (i : ℕ) → Answers 1 (answer_of_named_child_count bs view i) (count_answer (named_count_of s i))
+  pub named-child-count : (i : ℕ) → Answers 1 (answer_of_named_child_count bs view i) (found_answer (named_count_of s i))
   pub named-child : (i j : ℕ) → Answers 3 (answer_of_named_child bs view i j) (named_answer (named_query s i j))
   pub find-named-child : (i : ℕ) (name : List ℕ) → Answers 1 (answer_of_find_named_child bs view i name) (found_answer (find_named s i name))
   pub list-payload : (i : ℕ)
-      → Answers 2 (answer_of_list_payload bs view i) (at_list (list_place (node_view s i)) (λ t. some (words_of_part (view_of bs).payload.offset t)))
+      → Answers 2 (answer_of_list_payload bs view i) (at_list (list_place (node_view s i)) (λ t. Some (words_of_part (view_of bs).payload.offset t)))
   pub list_counts : (i : ℕ) → Answers 2 (answer_of_list_counts bs view i) (at_list (list_place (node_view s i)) (λ t. list_count_words (list_part s t)))
   pub list-entry : (i j : ℕ)
       → Answers 5 (answer_of_node_list_entry bs view i j) (at_list (list_place (node_view s i)) (λ t. entry_answer (list_entry (list_part s t) s.strings j)))
   pub list-origin : (i j : ℕ)
       → Answers 2 (answer_of_node_list_origin bs view i j) (at_list (list_place (node_view s i)) (λ t. place_answer (list_origin (list_part s t) s.strings j)))
-  pub definition-count : Answers 1 (answer_of_definition_count bs view) (some (definition_count s ∷ []))
+  pub definition-count : Answers 1 (answer_of_definition_count bs view) (Some (definition_count s ∷ []))
   pub definition : (d : ℕ) → Answers 3 (answer_of_definition bs view d) (definition_answer (definition_query s d))
   pub first-item : (d : ℕ) → Answers 1 (answer_of_first_item bs view d) (first_words s d (definition_query s d))
   pub definition-item : (d j : ℕ) → Answers 3 (answer_of_definition_item bs view d j) (item_answer (item_query s d j))
   pub list-item : (name : List ℕ) → Answers 3 (answer_of_list_item bs view name) (words_of_list_item (list_item s name))
-  pub searched : (name words : List ℕ) → searched_after bs view name words ≡ answer_after (some ((list_search s name).searched ∷ [])) words
+  pub searched : (name words : List ℕ) → searched_after bs view name words ≡ answer_after (Some ((list_search s name).searched ∷ [])) words
   pub walk : (origin : ℕ) (relative : Bool) (path names : List ℕ)
       → Answers 1 (answer_of_walk bs view origin relative path names) (found_answer (resolve s relative origin (components names path)))
   -- of the bytes alone
-  pub total-length : Answers 1 (answer_of_total_length bs) (some (length bs ∷ []))
-  pub strings-length : Answers 1 (answer_of_strings_length bs) (some (length s.strings ∷ []))
-  pub checksum : Answers 1 (answer_of_checksum bs) (some (checksum_of bs ∷ []))
+  pub total-length : Answers 1 (answer_of_total_length bs) (Some (length bs ∷ []))
+  pub strings-length : Answers 1 (answer_of_strings_length bs) (Some (length s.strings ∷ []))
+  pub checksum : Answers 1 (answer_of_checksum bs) (Some (checksum_of bs ∷ []))
 
 -- of all bytes that a load accepts
 abbrev pub AcceptedExports : Type 0

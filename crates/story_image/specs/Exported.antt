@@ -1,6 +1,5 @@
 -- A view in words, and what is asked under lent words of a view.
-use Rattle.std.specs.Prelude.{ℕ, ◌+◌, ◌*◌, List, [], ◌∷◌, cond, length, get_or, leb}
-use Rattle.std.proofs.Math.Option.{Option, none}
+use Rattle.std.specs.Prelude.{ℕ, ◌+◌, ◌*◌, List, [], ◌∷◌, cond, length, get_or, leb, None, Option}
 use Rattle.image.specs.declared.Section.{Section}
 use Rattle.image.specs.declared.ImageView.{ImageView}
 use Rattle.image.specs.Header.{version}
@@ -43,7 +42,7 @@ view_by ws =
 
 -- what a query answers under lent words of a view; too few words have no answer
 unfoldable pub under : List ℕ → (ImageView → Option (List ℕ)) → Option (List ℕ)
-under view query = cond (leb view_length (length view)) (query (view_by view)) none
+under view query = cond (leb view_length (length view)) (query (view_by view)) None
 
 -- work words that count: none where the lent view is too short
 abbrev pub lent_words : ℕ → ℕ → ℕ

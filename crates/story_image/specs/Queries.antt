@@ -1,13 +1,10 @@
 -- What each exported query answers, on an image's bytes and the words of a view: its words, or none.
-use Rattle.std.specs.Prelude.{ℕ, List, [], ◌∷◌, Bool, cond, length, leb}
-use Rattle.std.proofs.Math.Option.{Option, none, some}
+use Rattle.std.specs.Prelude.{ℕ, List, [], ◌∷◌, Bool, cond, length, leb, None, Option, Some}
 use Rattle.image.specs.Sections.{Sections, definition_count}
 use Rattle.image.specs.Header.{length_at, checksum_at, sections_by}
 use Rattle.image.specs.Refusals.{not_found}
 use Rattle.definitions.specs.Definitions.{first_item}
 use Rattle.views.specs.declared.Span.{Span}
-use Rattle.views.specs.declared.DefinitionAnswer.{DefinitionAnswer}
-use Rattle.views.specs.declared.DefinitionAnswer.TheVariants as definition
 use Rattle.views.specs.View.{span, node_view}
 use Rattle.views.specs.Children.{child_count_of, named_count_of, child_query, named_query, text_query}
 use Rattle.views.specs.Lists.{list_part, list_entry, list_origin, definition_query, item_query}
@@ -18,19 +15,20 @@ use Rattle.depth.specs.Depth.{depth_of}
 use Rattle.pages.specs.Page.{page_rule, page_after, slot_view}
 use Rattle.target_counts.specs.Summary.{summary_rule, summary_after}
 use Rattle.technician.specs.Technician.{strings_count_at, header_word}
-use Rattle.answers.specs.AnswerWords.{answer_after, count_words, found_answer, count_answer, named_answer, place_answer, part_words, part_answer, entry_answer, definition_answer, item_answer, list_item_answer, list_count_words}
+use Rattle.answers.specs.AnswerWords.{answer_after, count_words, found_answer, named_answer, place_answer, part_words, part_answer, entry_answer, definition_answer, item_answer, list_item_answer, list_count_words}
 use Rattle.answers.specs.NodeViewWords.{node_answer, list_place}
 use Rattle.story_image.specs.Exported.{view_length, view_by, under}
+use Rattle.views.specs.declared.DefinitionView.{DefinitionView}
 
 -- of a list value, where the node is one
 abbrev pub at_list : Option Span → (Span → Option (List ℕ)) → Option (List ℕ)
-at_list none query = none
-at_list (some t) query = query t
+at_list None query = None
+at_list (Some t) query = query t
 
 -- of a definition that is found, the number of its first item
-abbrev pub first_words : Sections → ℕ → DefinitionAnswer → Option (List ℕ)
-first_words s d (definition.Definition found) = some (first_item s d ∷ [])
-first_words s d definition.NotFound = none
+abbrev pub first_words : Sections → ℕ → Option DefinitionView → Option (List ℕ)
+first_words s d (Some found) = Some (first_item s d ∷ [])
+first_words s d None = None
 
 -- the number of a page, by how many words of a view, numbers and words of slots are lent: 18 before all else under too few of a view
 unfoldable pub page_number : ℕ → ℕ → ℕ → ℕ
@@ -59,20 +57,20 @@ module _ (bytes view : List ℕ) where
   answer_of_slot_view slot = under view (λ v. node_answer (slot_view (sections_by bytes v) slot))
 
   abbrev pub answer_of_depth : ℕ → Option (List ℕ)
-  answer_of_depth node = under view (λ v. count_answer (depth_of (sections_by bytes v) node))
+  answer_of_depth node = under view (λ v. found_answer (depth_of (sections_by bytes v) node))
 
   -- a text as a part of the image
   abbrev pub answer_of_text : ℕ → ℕ → Option (List ℕ)
   answer_of_text at len = under view (λ v. part_answer (length bytes) v.strings.offset (text_query (sections_by bytes v) (span at len)))
 
   abbrev pub answer_of_child_count : ℕ → Option (List ℕ)
-  answer_of_child_count node = under view (λ v. count_answer (child_count_of (sections_by bytes v) node))
+  answer_of_child_count node = under view (λ v. found_answer (child_count_of (sections_by bytes v) node))
 
   abbrev pub answer_of_child : ℕ → ℕ → Option (List ℕ)
   answer_of_child node j = under view (λ v. found_answer (child_query (sections_by bytes v) node j))
 
   abbrev pub answer_of_named_child_count : ℕ → Option (List ℕ)
-  answer_of_named_child_count node = under view (λ v. count_answer (named_count_of (sections_by bytes v) node))
+  answer_of_named_child_count node = under view (λ v. found_answer (named_count_of (sections_by bytes v) node))
 
   abbrev pub answer_of_named_child : ℕ → ℕ → Option (List ℕ)
   answer_of_named_child node j = under view (λ v. named_answer (named_query (sections_by bytes v) node j))
@@ -115,7 +113,7 @@ module _ (bytes view : List ℕ) where
   -- the words lent for the number of definitions that were searched, on return; under a view of too few words nothing is written
   unfoldable pub searched_after : List ℕ → List ℕ → List ℕ
   searched_after name searched =
-      cond (leb view_length (length view)) (answer_after (some ((list_search (sections_by bytes (view_by view)) name).searched ∷ [])) searched) searched
+      cond (leb view_length (length view)) (answer_after (Some ((list_search (sections_by bytes (view_by view)) name).searched ∷ [])) searched) searched
 
   abbrev pub answer_of_walk : ℕ → Bool → List ℕ → List ℕ → Option (List ℕ)
   answer_of_walk origin relative path names = under view (λ v. found_answer (resolve (sections_by bytes v) relative origin (components names path)))
@@ -129,10 +127,10 @@ answer_of_list_origin payload strings j = place_answer (list_origin payload stri
 
 -- of the bytes alone: words of the header
 abbrev pub answer_of_total_length : List ℕ → Option (List ℕ)
-answer_of_total_length bytes = count_answer (header_word bytes length_at)
+answer_of_total_length bytes = found_answer (header_word bytes length_at)
 
 abbrev pub answer_of_strings_length : List ℕ → Option (List ℕ)
-answer_of_strings_length bytes = count_answer (header_word bytes strings_count_at)
+answer_of_strings_length bytes = found_answer (header_word bytes strings_count_at)
 
 abbrev pub answer_of_checksum : List ℕ → Option (List ℕ)
-answer_of_checksum bytes = count_answer (header_word bytes checksum_at)
+answer_of_checksum bytes = found_answer (header_word bytes checksum_at)

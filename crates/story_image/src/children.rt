@@ -4,7 +4,7 @@ ghost use Rattle.answers.specs.AnswerWords.{Answered};
 ghost use Rattle.story_image.specs.Queries.{answer_of_child_count, answer_of_child, answer_of_named_child_count, answer_of_named_child, answer_of_find_named_child};
 
 use crate::{VIEW_WORDS, view_of};
-use image::refusal::NOT_FOUND;
+use answers::NOT_FOUND;
 
 // How many ordered children a container has.
 #[unsafe(no_mangle)]
@@ -19,7 +19,7 @@ pub extern "C" fn story_image_child_count(
     if view.len() < VIEW_WORDS {
         return NOT_FOUND;
     }
-    answers::put_count(
+    answers::put_found(
         views::children::child_count(bytes, view_of(view), node),
         answer,
     )
@@ -58,7 +58,7 @@ pub extern "C" fn story_image_named_child_count(
     if view.len() < VIEW_WORDS {
         return NOT_FOUND;
     }
-    answers::put_count(
+    answers::put_found(
         views::children::named_child_count(bytes, view_of(view), node),
         answer,
     )

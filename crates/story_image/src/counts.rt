@@ -7,7 +7,9 @@ ghost use Rattle.target_changes.specs.Change.{set_target_rule, nodes_after_set, 
 ghost use Rattle.story_image.specs.Queries.{count_number, count_written};
 
 use crate::{VIEW_WORDS, view_of};
-use image::refusal::NOT_FOUND;
+use answers::NOT_FOUND;
+use draft::source::Draft;
+use image::refusal::number_of;
 
 // How many targets of an image name each node, one word a node; words past the nodes stay. 27 where fewer words than nodes are lent.
 #[unsafe(no_mangle)]
@@ -18,7 +20,7 @@ pub extern "C" fn story_image_count_targets(bytes: &[u8], view: &[u32], summary:
     if view.len() < VIEW_WORDS {
         return NOT_FOUND;
     }
-    target_counts::count_targets(bytes, view_of(view), summary)
+    number_of(target_counts::count_targets(bytes, view_of(view), summary))
 }
 
 // The same of a draft; 19 before 27, and 27 also for a word that cannot be counted up so far.
@@ -42,7 +44,7 @@ pub extern "C" fn story_image_count_draft_targets(
         payload.now strings.now in
         summary.new ≡ summary_after (draft_count_rule s (length summary.old)) s summary.old }
 {
-    target_counts::count_draft_targets(
+    let draft = Draft {
         nodes,
         children,
         named,
@@ -50,8 +52,8 @@ pub extern "C" fn story_image_count_draft_targets(
         items,
         payload,
         strings,
-        summary,
-    )
+    };
+    number_of(target_counts::count_draft_targets(draft, summary))
 }
 
 // Sets the target of a draft's node, or clears it with NONE: the old node's word goes down by 1, the new one's up by 1. 19, 27 for too few
@@ -82,7 +84,7 @@ pub extern "C" fn story_image_set_target(
         payload.now strings.now in
         summary.new ≡ summary_after_set (set_target_rule s summary.old node target) s summary.old node target }
 {
-    target_changes::set_target(
+    number_of(target_changes::set_target(
         nodes,
         children,
         named,
@@ -93,5 +95,5 @@ pub extern "C" fn story_image_set_target(
         summary,
         node,
         target,
-    )
+    ))
 }

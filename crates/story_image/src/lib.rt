@@ -19,8 +19,8 @@ ghost use Rattle.image.specs.Header.{sections_of, view_of};
 ghost use Rattle.load.specs.Load.{load_rule, load_words, work_after};
 ghost use Rattle.story_image.specs.Exported.{words_of_view, view_by, view_length, lent_words, written_after};
 
+use image::refusal::number_of;
 use image::{ImageView, Section};
-use load::Loaded;
 
 // Words of a view: the ink version, then offset and count of each section.
 const VIEW_WORDS: usize = 17;
@@ -111,13 +111,13 @@ pub extern "C" fn story_image_load(bytes: &[u8], work: &mut [u32], view: &mut [u
     ensures written { view.new ≡ written_after result (words_of_view (view_of bytes.now)) view.old }
 {
     if view.len() < VIEW_WORDS {
-        return load::needed::load_without_words(bytes);
+        return number_of(load::needed::load_without_words(bytes));
     }
     match load::load(bytes, work) {
-        Loaded::View(found) => {
+        Ok(found) => {
             put_view(found, view);
             0
         }
-        Loaded::Refused(number) => number,
+        Err(refusal) => refusal.number(),
     }
 }

@@ -1,4 +1,5 @@
 // List values, definitions and items.
+// `put_first_item` answers the number that the C interface gives: 0, or NOT_FOUND.
 ghost use Rattle.std.specs.Prelude.{◌≡◌};
 ghost use Rattle.image.specs.Header.{sections_by};
 ghost use Rattle.views.specs.Lists.{definition_query};
@@ -9,11 +10,8 @@ ghost use Rattle.story_image.specs.Queries.{answer_of_definition_count, answer_o
 ghost use Rattle.story_image.specs.Queries.{answer_of_first_item, first_words};
 
 use crate::{VIEW_WORDS, view_of};
-use answers::lists::ListPlace;
+use answers::NOT_FOUND;
 use image::ImageView;
-use image::refusal::NOT_FOUND;
-use views::DefinitionAnswer;
-use views::entries::DefinitionFound;
 
 // Item `index` of a list value, out of its payload and the strings: origin, origin_length, name, name_length, value.
 #[unsafe(no_mangle)]
@@ -57,8 +55,8 @@ pub extern "C" fn story_image_list_payload(
     let found = view_of(view);
     let payload = found.payload;
     match answers::lists::list_place(bytes, found, node) {
-        ListPlace::NotFound => NOT_FOUND,
-        ListPlace::List(list) => answers::put_part(bytes.len(), payload.offset, list, answer),
+        None => NOT_FOUND,
+        Some(list) => answers::put_part(bytes.len(), payload.offset, list, answer),
     }
 }
 
@@ -77,8 +75,8 @@ pub extern "C" fn story_image_list_counts(
     }
     let found = view_of(view);
     match answers::lists::list_place(bytes, found, node) {
-        ListPlace::NotFound => NOT_FOUND,
-        ListPlace::List(list) => answers::lists::put_list_counts(
+        None => NOT_FOUND,
+        Some(list) => answers::lists::put_list_counts(
             views::lists::list_payload(bytes, found, list),
             answer,
         ),
@@ -101,8 +99,8 @@ pub extern "C" fn story_image_node_list_entry(
     }
     let found = view_of(view);
     match answers::lists::list_place(bytes, found, node) {
-        ListPlace::NotFound => NOT_FOUND,
-        ListPlace::List(list) => {
+        None => NOT_FOUND,
+        Some(list) => {
             let payload = views::lists::list_payload(bytes, found, list);
             let strings = image::section_part(bytes, found.strings, ImageView::STRINGS_SIZE);
             answers::lists::put_entry(views::lists::list_entry(payload, strings, index), answer)
@@ -126,8 +124,8 @@ pub extern "C" fn story_image_node_list_origin(
     }
     let found = view_of(view);
     match answers::lists::list_place(bytes, found, node) {
-        ListPlace::NotFound => NOT_FOUND,
-        ListPlace::List(list) => {
+        None => NOT_FOUND,
+        Some(list) => {
             let payload = views::lists::list_payload(bytes, found, list);
             let strings = image::section_part(bytes, found.strings, ImageView::STRINGS_SIZE);
             answers::put_place(views::lists::list_origin(payload, strings, index), answer)
@@ -192,14 +190,10 @@ fn put_first_item(bytes: &[u8], view: ImageView, index: u32, answer: &mut [u32])
         Answered (first_words s index (definition_query s index)) answer.old answer.new result }
 {
     match views::lists::definition(bytes, view, index) {
-        DefinitionAnswer::NotFound => NOT_FOUND,
-        DefinitionAnswer::Definition(_) => match views::entries::definition_of(
-            bytes,
-            view,
-            index as usize,
-        ) {
-            DefinitionFound::NotFound => NOT_FOUND,
-            DefinitionFound::Definition(definition) => {
+        None => NOT_FOUND,
+        Some(_) => match views::entries::definition_of(bytes, view, index as usize) {
+            None => NOT_FOUND,
+            Some(definition) => {
                 let words = [definition.first];
                 answers::put_answer(&words, answer)
             }

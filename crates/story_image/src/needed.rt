@@ -6,8 +6,7 @@ ghost use Rattle.story_image.specs.Exported.{view_length};
 ghost use Rattle.story_image.specs.Needed.{words_to_load, words_to_write};
 
 use crate::VIEW_WORDS;
-use draft::Needed;
-use draft::source::Source;
+use draft::source::{Draft, Source};
 use image::ImageView;
 
 // The largest number of a size.
@@ -45,9 +44,18 @@ pub extern "C" fn story_image_write_words(
     let source = Source {
         version: ImageView::VERSION,
     };
-    let counts = draft::entry_counts(nodes, children, named, definitions, items, payload, source);
+    let draft = Draft {
+        nodes,
+        children,
+        named,
+        definitions,
+        items,
+        payload,
+        strings: b"",
+    };
+    let counts = draft::entry_counts(draft, source);
     match draft::work_words_fit(counts, LARGEST_SIZE) {
-        Needed::TooMany => LARGEST_SIZE,
-        Needed::Words(words) => words,
+        None => LARGEST_SIZE,
+        Some(words) => words,
     }
 }

@@ -4,7 +4,7 @@ ghost use Rattle.answers.specs.AnswerWords.{Answered};
 ghost use Rattle.story_image.specs.Queries.{answer_of_node_view, answer_of_depth, answer_of_text};
 
 use crate::{VIEW_WORDS, view_of};
-use image::refusal::NOT_FOUND;
+use answers::NOT_FOUND;
 use views::Span;
 
 // A node's view: parent, place, kind, text, text_length, variable, variable_length, target, value, flags.
@@ -36,7 +36,7 @@ pub extern "C" fn story_image_depth(
     if view.len() < VIEW_WORDS {
         return NOT_FOUND;
     }
-    answers::put_count(depth::depth(bytes, view_of(view), node), answer)
+    answers::put_found(depth::depth(bytes, view_of(view), node), answer)
 }
 
 // Start and length, in the image's bytes, of a text of the strings.

@@ -4,7 +4,8 @@ ghost use Rattle.answers.specs.AnswerWords.{Answered};
 ghost use Rattle.story_image.specs.Queries.{page_number, page_written, answer_of_slot_view};
 
 use crate::{VIEW_WORDS, view_of};
-use image::refusal::NOT_FOUND;
+use answers::NOT_FOUND;
+use image::refusal::number_of;
 
 // The slot of each number: parent, place, tag and f0 to f6, then 0 and 0; 18 and eleven zeros for a node without a view. 24 where
 // fewer than twelve words a number are lent.
@@ -21,7 +22,7 @@ pub extern "C" fn story_image_page(
     if view.len() < VIEW_WORDS {
         return NOT_FOUND;
     }
-    pages::page(bytes, view_of(view), numbers, slots)
+    number_of(pages::page(bytes, view_of(view), numbers, slots))
 }
 
 // The view of a slot's words, in the words of a node's view.

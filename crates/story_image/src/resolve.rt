@@ -6,6 +6,8 @@ ghost use Rattle.draft.specs.Draft.{write_words};
 ghost use Rattle.draft_image.specs.Encode.{encode_work_after};
 ghost use Rattle.target_finding.specs.Targets.{resolve_rule, nodes_after, path_list};
 
+use image::refusal::number_of;
+
 // Sets the targets of the nodes that follow a path of the list; or gives the number of the first rule broken, and leaves the nodes as they
 // were.
 #[unsafe(no_mangle)]
@@ -36,7 +38,7 @@ pub extern "C" fn story_image_resolve_static_targets(
         let p = path_list paths.now components.now names.now in
         work.new ≡ encode_work_after (write_words s) (resolve_rule ink s p (length work.old)) work.old }
 {
-    static_targets::resolve_static_targets(
+    number_of(static_targets::resolve_static_targets(
         ink,
         nodes,
         children,
@@ -49,5 +51,5 @@ pub extern "C" fn story_image_resolve_static_targets(
         components,
         names,
         work,
-    )
+    ))
 }

@@ -1,19 +1,16 @@
 // Texts of commands and operators, by number.
-ghost use Rattle.std.proofs.Math.Option.{some};
 ghost use Rattle.std.specs.Prelude.{◌≤◌, ◌≡◌, length};
 ghost use Rattle.names.specs.Names.{commands, operators};
 ghost use Rattle.names.specs.Spelling.{spelled, element_at};
 ghost use Rattle.answers.specs.Lent.{Spelled};
 
-use image::refusal::NOT_FOUND;
+use answers::NOT_FOUND;
 use names::Name;
-use names::control_command::Command;
-use names::native_function_call::Operator;
 
 // Writes a name at the start of the text and its length as the first of the words that are lent for it.
 fn put_name(name: Name, text: &mut [u8], size: &mut [u32]) -> u32
     requires { (name.len ≤ 11) × (length name.bytes ≡ 11) }
-    ensures { Spelled (some (spelled name)) text.old text.new size.old size.new result }
+    ensures { Spelled (Some (spelled name)) text.old text.new size.old size.new result }
 {
     let len = name.len;
     let bytes = name.bytes;
@@ -29,8 +26,8 @@ pub extern "C" fn story_image_command_name(number: u32, text: &mut [u8], size: &
         return NOT_FOUND;
     }
     match names::control_command::command_of(number as u8) {
-        Command::Unknown => NOT_FOUND,
-        Command::Known(command) => put_name(names::control_command::get_name(command), text, size),
+        None => NOT_FOUND,
+        Some(command) => put_name(names::control_command::get_name(command), text, size),
     }
 }
 
@@ -43,7 +40,7 @@ pub extern "C" fn story_image_operator_name(number: u32, text: &mut [u8], size: 
         return NOT_FOUND;
     }
     match names::native_function_call::operator_of(number as u8) {
-        Operator::Unknown => NOT_FOUND,
-        Operator::Known(op) => put_name(names::native_function_call::get_name(op), text, size),
+        None => NOT_FOUND,
+        Some(op) => put_name(names::native_function_call::get_name(op), text, size),
     }
 }

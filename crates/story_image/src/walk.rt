@@ -4,7 +4,7 @@ ghost use Rattle.answers.specs.AnswerWords.{Answered};
 ghost use Rattle.story_image.specs.Queries.{answer_of_walk};
 
 use crate::{VIEW_WORDS, view_of};
-use image::refusal::NOT_FOUND;
+use answers::NOT_FOUND;
 
 // The node at the end of a path, three words a component.
 #[unsafe(no_mangle)]

@@ -1,58 +1,37 @@
 // Writing an image from a draft.
 ghost use Rattle.std.specs.Prelude.{◌≡◌, length};
 ghost use Rattle.image.specs.Header.{version};
-ghost use Rattle.draft.specs.Source.{draft_of};
+ghost use Rattle.draft.specs.Source.{drafted, draft_of};
 ghost use Rattle.draft_image.specs.Encode.{image_for, encode_rule, out_after};
+ghost use Rattle.writer.specs.Encoded.{encoded_in};
 ghost use Rattle.writer.specs.Answer.{of_encoded};
 ghost use Rattle.story_image.specs.Writing.{Wrote};
 
-use image::refusal::NO_ROOM;
-use writer::Encoded;
+use answers::NO_ROOM;
+use draft::source::Draft;
+use writer::EncodeError;
 
-// The number of an answer.
-fn number_of(answer: Encoded) -> u32
-    ensures { result ≡ (of_encoded answer).number }
+// The number of an answer, which is what the C interface gives.
+fn number_of(answer: Result<u32, EncodeError>) -> u32
+    ensures { result ≡ (of_encoded (encoded_in answer)).number }
 {
     match answer {
-        Encoded::Written(_) => 0,
-        Encoded::Short(_) => NO_ROOM,
-        Encoded::Refused(number) => number,
+        Ok(_) => 0,
+        Err(EncodeError::Short(_)) => NO_ROOM,
+        Err(EncodeError::Refused(refusal)) => refusal.number(),
     }
 }
 
 // The number of a draft that is written without work words.
-fn write_without_words(
-    ink: u32,
-    nodes: &[u32],
-    children: &[u32],
-    named: &[u32],
-    definitions: &[u32],
-    items: &[u32],
-    payload: &[u8],
-    strings: &[u8],
-    output: &mut [u8],
-) -> u32
-    ensures answer { let s = draft_of version nodes.now children.now named.now definitions.now
-        items.now payload.now strings.now in
+fn write_without_words(ink: u32, draft: Draft, output: &mut [u8]) -> u32
+    ensures answer { let s = drafted version draft.entry in
         result ≡ encode_rule ink s 0 (length output.old) }
-    ensures output { let s = draft_of version nodes.now children.now named.now definitions.now
-        items.now payload.now strings.now in
+    ensures output { let s = drafted version draft.entry in
         output.new ≡ out_after result (image_for ink s) output.old }
 {
     let mut word = [0u32; 1];
     let none: &mut [u32] = &mut word;
-    let answer = writer::encode(
-        ink,
-        nodes,
-        children,
-        named,
-        definitions,
-        items,
-        payload,
-        strings,
-        output,
-        &mut none[..0],
-    );
+    let answer = writer::encode(ink, draft, output, &mut none[..0]);
     number_of(answer)
 }
 
@@ -78,21 +57,7 @@ pub extern "C" fn story_image_write(
         Wrote ink s output.old output.new work.old work.new
         written.old written.new result }
 {
-    if written.len() < 1 {
-        return write_without_words(
-            ink,
-            nodes,
-            children,
-            named,
-            definitions,
-            items,
-            payload,
-            strings,
-            output,
-        );
-    }
-    match writer::encode(
-        ink,
+    let draft = Draft {
         nodes,
         children,
         named,
@@ -100,17 +65,19 @@ pub extern "C" fn story_image_write(
         items,
         payload,
         strings,
-        output,
-        work,
-    ) {
-        Encoded::Written(length) => {
+    };
+    if written.len() < 1 {
+        return write_without_words(ink, draft, output);
+    }
+    match writer::encode(ink, draft, output, work) {
+        Ok(length) => {
             written[0] = length;
             0
         }
-        Encoded::Short(needed) => {
+        Err(EncodeError::Short(needed)) => {
             written[0] = needed;
             NO_ROOM
         }
-        Encoded::Refused(number) => number,
+        Err(EncodeError::Refused(refusal)) => refusal.number(),
     }
 }

@@ -5,15 +5,16 @@ mod steps; // steps.rt: the words of the old and the new node
 mod target_field; // target_field.rt: what may be a target, and its word
 
 ghost use Rattle.std.specs.Prelude.{◌≡◌, []};
+ghost use Rattle.image.specs.Refusals.{refusal_in};
 ghost use Rattle.image.specs.Header.{version};
 ghost use Rattle.draft.specs.Source.{draft_of};
 ghost use Rattle.target_changes.specs.Change.{set_target_rule, nodes_after_set, summary_after_set};
 ghost use Rattle.target_changes.specs.Steps.{Summarised, Moved};
 
-use draft::source::Source;
+use draft::source::{Draft, Source};
 use draft::{source, tables};
 use image::ImageView;
-use image::refusal::{BAD_SUMMARY, NOT_FOUND};
+use image::refusal::Refusal;
 
 // Sets the target of a node, of a draft whose targets are nodes, and takes the words of the old and the new node one step; or gives 18, or 27
 // for a word that cannot take its step.
@@ -23,25 +24,22 @@ fn move_target(
     node: u32,
     target: u32,
     source: Source,
-) -> u32
+) -> Result<(), Refusal>
     requires { Summarised (draft_of source.version nodes.old [] [] [] [] [] []) summary.old }
     ensures { Moved (draft_of source.version nodes.old [] [] [] [] [] []) summary.old node target
-        nodes.new summary.new result }
+        nodes.new summary.new (refusal_in result) }
 {
     let count = source::node_count(nodes, source);
     if !image::is_inside(count, node) {
-        return NOT_FOUND;
+        return Err(Refusal::NotFound);
     }
     let record = source::node_at(nodes, node as usize, source);
     let target_tag = source::tag_at(nodes, target, source);
     if !target_field::is_allowed(record.tag, count, target, target_tag) {
-        return NOT_FOUND;
+        return Err(Refusal::NotFound);
     }
     let old = records::target_of(record);
-    let stuck = steps::step_rule(summary, old, target);
-    if stuck != 0 {
-        return stuck;
-    }
+    steps::step_rule(summary, old, target)?;
     target_field::put_target(
         nodes,
         node as usize * source::node_words(source),
@@ -49,11 +47,11 @@ fn move_target(
         target,
     );
     steps::step(summary, old, target);
-    0
+    Ok(())
 }
 
-// Sets the target of a draft's node, or clears it with NONE, and takes the words of the old and the new node one step: 0, or 19 for a broken
-// draft, 27 for a short summary, 18, or 27 for a word that cannot take its step; then draft and summary stay.
+// Sets the target of a draft's node, or clears it with NONE, and takes the words of the old and the new node one step. Refused are a broken
+// draft (19), a short summary (27), what is no node or no target of it (18) and a word that cannot take its step (27); then draft and summary stay.
 pub fn set_target(
     nodes: &mut [u32],
     children: &[u32],
@@ -65,11 +63,11 @@ pub fn set_target(
     summary: &mut [u32],
     node: u32,
     target: u32,
-) -> u32
+) -> Result<(), Refusal>
     ensures number { let s =
         draft_of version nodes.old children.now named.now definitions.now items.now
         payload.now strings.now in
-        result ≡ set_target_rule s summary.old node target }
+        refusal_in result ≡ set_target_rule s summary.old node target }
     ensures draft { let s =
         draft_of version nodes.old children.now named.now definitions.now items.now
         payload.now strings.now in
@@ -82,21 +80,18 @@ pub fn set_target(
     let source = Source {
         version: ImageView::VERSION,
     };
-    let refused = tables::plain_tables_rule(
-        nodes,
+    let draft = Draft {
+        nodes: &*nodes,
         children,
         named,
         definitions,
         items,
         payload,
         strings,
-        source,
-    );
-    if refused != 0 {
-        return refused;
-    }
+    };
+    tables::plain_tables_rule(draft, source)?;
     if summary.len() < source::node_count(nodes, source) {
-        return BAD_SUMMARY;
+        return Err(Refusal::BadSummary);
     }
     move_target(nodes, summary, node, target, source)
 }

@@ -1,11 +1,12 @@
 // The words of the old and the new node. NONE has no word.
 ghost use Rattle.std.specs.Prelude.{◌≡◌};
+ghost use Rattle.image.specs.Refusals.{refusal_in};
 ghost use Rattle.target_changes.specs.Change.{can_fall, can_rise, step_rule, fallen, risen, stepped};
 ghost use Rattle.target_changes.specs.Steps.{Falls, Rises, Steps};
 
 use draft::source;
 use image::NONE;
-use image::refusal::BAD_SUMMARY;
+use image::refusal::Refusal;
 
 // Whether the word of a node can go down by 1.
 fn can_fall(summary: &[u32], n: u32) -> bool
@@ -27,20 +28,20 @@ fn can_rise(summary: &[u32], n: u32) -> bool
     source::word(summary, n as usize) < NONE
 }
 
-// 27 if a word cannot take its step, or 0.
-pub fn step_rule(summary: &[u32], old: u32, new: u32) -> u32
-    ensures { result ≡ step_rule summary.now old new }
+// Whether the words can take their step.
+pub fn step_rule(summary: &[u32], old: u32, new: u32) -> Result<(), Refusal>
+    ensures { refusal_in result ≡ step_rule summary.now old new }
 {
     if old == new {
-        return 0;
+        return Ok(());
     }
     if !can_fall(summary, old) {
-        return BAD_SUMMARY;
+        return Err(Refusal::BadSummary);
     }
     if can_rise(summary, new) {
-        0
+        Ok(())
     } else {
-        BAD_SUMMARY
+        Err(Refusal::BadSummary)
     }
 }
 
@@ -53,7 +54,7 @@ fn fall(summary: &mut [u32], n: u32)
         return;
     }
     let at = n as usize;
-    summary[at] = summary[at] - 1;
+    summary[at] -= 1;
 }
 
 // Takes the word of a node up by 1.
@@ -65,7 +66,7 @@ fn rise(summary: &mut [u32], n: u32)
         return;
     }
     let at = n as usize;
-    summary[at] = summary[at] + 1;
+    summary[at] += 1;
 }
 
 // One word down, one up; none where the target stays.

@@ -22,7 +22,7 @@ fn add(summary: &mut [u32], count: usize, target: u32)
     if count <= at {
         return;
     }
-    summary[at] = summary[at] + 1;
+    summary[at] += 1;
 }
 
 // Counts the nodes of an image, whose bytes are lent.
@@ -31,11 +31,9 @@ pub fn image_nodes(part: &[u8], version: u32, count: usize, summary: &mut [u32])
     ensures { summary.new ≡ summary_of (draft_of version (words_of part.now) [] [] [] [] [] []) ++ drop count summary.old }
 {
     tree::clear(summary, count);
-    let mut i = 0;
-    while i < count {
+    for i in 0..count {
         let node = image::node_record(part, version, i);
         add(summary, count, records::target_of(node));
-        i += 1;
     }
 }
 
@@ -55,10 +53,8 @@ fn pointed_at(nodes: &[u32], n: usize, source: Source) -> usize
 {
     let count = source::node_count(nodes, source);
     let mut pointed = 0;
-    let mut i = 0;
-    while i < count {
+    for i in 0..count {
         pointed += points_at(records::target_of(source::node_at(nodes, i, source)), n);
-        i += 1;
     }
     pointed
 }
@@ -72,27 +68,24 @@ pub fn words_hold(nodes: &[u32], source: Source) -> bool
     if count <= NONE as usize {
         return true;
     }
-    let mut n = 0;
-    while n < count {
+    for n in 0..count {
         if (NONE as usize) < pointed_at(nodes, n, source) {
             return false;
         }
-        n += 1;
     }
     true
 }
 
 // Counts the nodes of a draft, whose words are lent.
+// Over words; its twin over bytes is `image_nodes`.
 pub fn draft_nodes(nodes: &[u32], count: usize, summary: &mut [u32], source: Source)
     requires { (count ≡ length nodes.now / node_words source.version) × (count ≤ length summary.old)
         × (words_hold (draft_of source.version nodes.now [] [] [] [] [] []) ≡ true) }
     ensures { summary.new ≡ summary_of (draft_of source.version nodes.now [] [] [] [] [] []) ++ drop count summary.old }
 {
     tree::clear(summary, count);
-    let mut i = 0;
-    while i < count {
+    for i in 0..count {
         let node = source::node_at(nodes, i, source);
         add(summary, count, records::target_of(node));
-        i += 1;
     }
 }

@@ -1,9 +1,9 @@
 -- The loop over the entries of the list, in any order: the lowest node that has failed so far and its number, the targets that were found in the
 -- work words, and NONE in those of the other nodes.
+use Rattle.std.specs.Prelude.{None, Option, Some, Err, Ok, Result, ℕ}
 use Prim.Native.Nat.{ℕ, ◌+◌, ◌/◌, ◌≤◌, ◌<◌}
 use mathlib.Core.Path.{◌≡◌, refl, sym, ap, ◌∙◌}
 use mathlib.Core.List.{List}
-use mathlib.Core.Option.{Option, none, some}
 use native.Mathlib.Omega.{arith}
 use native.Mathlib.Decide.{ℕ_discrete, dec_lt}
 use lib.ListN.{length, get_or, set, length-set}
@@ -16,8 +16,6 @@ use Rattle.draft.specs.declared.path_list.PathEntry.{PathEntry}
 use Rattle.draft.specs.PathList.{path_count, path_origin, path_of}
 use Rattle.draft.specs.PathEntries.{path_entry}
 use Rattle.draft.specs.Source.{draft_of}
-use Rattle.target_finding.specs.declared.Target.{Target}
-use Rattle.target_finding.specs.declared.Target.TheVariants.{At, Refused}
 use Rattle.target_finding.specs.Targets.{PathList, target_rule, target_found, path_list}
 use Rattle.target_finding.specs.Finding.{OriginsInside, OriginsApart, NoneBelow, target_by, entry_answer, AllFound}
 use Rattle.target_finding.proofs.Finding.{by_at, by_refused, path-there, path-nowhere, not_listed, by_entry}
@@ -40,7 +38,7 @@ none_end work at n h so i l = so i (omega arith)
 -- ---- a list whose entries are of different nodes
 
 -- entry k is the entry of its node
-path_is : (entries : List ℕ) → OriginsApart entries → (k : ℕ) → k < path_count entries → path_of entries (path_origin entries k) ≡ some k
+path_is : (entries : List ℕ) → OriginsApart entries → (k : ℕ) → k < path_count entries → path_of entries (path_origin entries k) ≡ Some k
 path_is entries apart k h = go (path_of entries (path_origin entries k)) refl
   where
     one : (j : ℕ) → j < path_count entries → path_origin entries j ≡ path_origin entries k → Dec (j ≡ k) → Dec (j < k) → j ≡ k
@@ -48,11 +46,11 @@ path_is entries apart k h = go (path_of entries (path_origin entries k)) refl
     one j l e (no d) (yes b) = absurd (apart j k b h e)
     one j l e (no d) (no b) = absurd (apart k j (omega arith) l (sym e))
 
-    go : (x : Option ℕ) → path_of entries (path_origin entries k) ≡ x → path_of entries (path_origin entries k) ≡ some k
-    go none e = absurd (path-nowhere entries (path_origin entries k) e k h refl)
-    go (some j) e =
+    go : (x : Option ℕ) → path_of entries (path_origin entries k) ≡ x → path_of entries (path_origin entries k) ≡ Some k
+    go None e = absurd (path-nowhere entries (path_origin entries k) e k h refl)
+    go (Some j) e =
         let there = path-there entries (path_origin entries k) j e in
-        e ∙ ap some (one j there.0 there.1 (ℕ_discrete j k) (dec_lt j k))
+        e ∙ ap Some (one j there.0 there.1 (ℕ_discrete j k) (dec_lt j k))
 
 -- ---- of a draft
 
@@ -69,8 +67,8 @@ module _ (s : Sections) (entries lent names work : List ℕ) (failing answer : �
   abbrev p : PathList
   p = path_list entries lent names
 
-  unlisted : (i : ℕ) → path_of entries i ≡ none → (target_rule s p i ≡ 0) × (NONE ≡ target_found s p i)
-  unlisted i e = by_at (target_rule s p i) (target_found s p i) NONE (At NONE) (not_listed s entries lent names i e) refl
+  unlisted : (i : ℕ) → path_of entries i ≡ None → (target_rule s p i ≡ 0) × (NONE ≡ target_found s p i)
+  unlisted i e = by_at (target_rule s p i) (target_found s p i) NONE (Ok NONE) (not_listed s entries lent names i e) refl
 
   found-start : failing ≡ node_count s → answer ≡ 0 → FoundByEntry s p work failing answer 0
   found-start e z =
@@ -83,8 +81,8 @@ module _ (s : Sections) (entries lent names work : List ℕ) (failing answer : �
       node-passes i l = go (path_of entries i) refl
         where
           go : (x : Option ℕ) → path_of entries i ≡ x → target_rule s p i ≡ 0
-          go none e = (unlisted i e).0
-          go (some j) e =
+          go None e = (unlisted i e).0
+          go (Some j) e =
               let there = path-there entries i j e in
               rw (← there.1) (so.passed j (omega (arith, there.0)) (omega (arith, there.1)))
 
@@ -93,8 +91,8 @@ module _ (s : Sections) (entries lent names work : List ℕ) (failing answer : �
       found-done w rest = go (ℕ_discrete answer 0)
         where
           word : failing ≡ node_count s → (i : ℕ) → i < node_count s → (x : Option ℕ) → path_of entries i ≡ x → get_or work i 0 ≡ target_found s p i
-          word n i l none e = rest i l (λ j b. path-nowhere entries i e j (omega arith)) ∙ (unlisted i e).1
-          word n i l (some j) e =
+          word n i l None e = rest i l (λ j b. path-nowhere entries i e j (omega arith)) ∙ (unlisted i e).1
+          word n i l (Some j) e =
               let there = path-there entries i j e in
               rw (← there.1) (so.found j (omega (arith, there.0)) (rw there.1 (node-passes i (omega (arith, n)))))
 
@@ -114,14 +112,14 @@ module _ (s : Sections) (entries lent names work : List ℕ) (failing answer : �
 
     -- at entry k, which was read
     module _ (apart : OriginsApart entries) (h : k < path_count entries) (entry : PathEntry) (e : entry ≡ path_entry entries k)
-        (a : Target) (q : a ≡ entry_answer s lent names entry) where
+        (a : Result ℕ ℕ) (q : a ≡ entry_answer s lent names entry) where
       abbrev own : ℕ
       own = path_origin entries k
 
       is_answer : a ≡ target_by (target_rule s p own) (target_found s p own)
       is_answer = by_entry s entries lent names own k (path_is entries apart k h) entry e a q
 
-      module _ (number : ℕ) (z : a ≡ Refused number) where
+      module _ (number : ℕ) (z : a ≡ Err number) where
         broken : (number ≡ target_rule s p own) × (number ≡ 0 → ⊥)
         broken = by_refused (target_rule s p own) (target_found s p own) number a is_answer z
 
@@ -156,7 +154,7 @@ module _ (s : Sections) (entries lent names work : List ℕ) (failing answer : �
             pass j b m (yes y) = let w : path_origin entries j ≡ own = ap (path_origin entries) y in absurd (omega arith)
             pass j b m (no d) = so.passed j (omega arith) m
 
-      found-next : own < length work → (target : ℕ) → a ≡ At target → FoundByEntry s p (set work own target) failing answer (k + 1)
+      found-next : own < length work → (target : ℕ) → a ≡ Ok target → FoundByEntry s p (set work own target) failing answer (k + 1)
       found-next l target z =
           record {
             passed = λ j b m. pass j b m (ℕ_discrete j k);
@@ -188,7 +186,7 @@ pub record EntriesSoFar (version : ℕ) (ns cs ms ss entries lent names work₀ 
   pub found : (ds is ps : List ℕ) → FoundByEntry (draft_of version ns cs ms ds is ps ss) (path_list entries lent names) work failing answer k
 
 module _ (version : ℕ) (ns cs ms ss entries lent names work₀ : List ℕ) where
-  abbrev Answers : PathEntry → Target → Type 0
+  abbrev Answers : PathEntry → Result ℕ ℕ → Type 0
   Answers entry a = (ds is ps : List ℕ) → a ≡ entry_answer (draft_of version ns cs ms ds is ps ss) lent names entry
 
   abbrev SoFar : List ℕ → ℕ → ℕ → ℕ → Type 0
@@ -223,8 +221,8 @@ module _ (version : ℕ) (ns cs ms ss entries lent names work₀ : List ℕ) whe
       pub entry-room : entry.node < length work
       entry-room = omega (arith, entry-among, so.enough)
 
-      module _ (apart : OriginsApart entries) (a : Target) (q : Answers entry a) where
-        module _ (number : ℕ) (z : a ≡ Refused number) where
+      module _ (apart : OriginsApart entries) (a : Result ℕ ℕ) (q : Answers entry a) where
+        module _ (number : ℕ) (z : a ≡ Err number) where
           pub entries-lower : entry.node < failing → SoFar work entry.node number (k + 1)
           entries-lower l =
               rw origin
@@ -250,7 +248,7 @@ module _ (version : ℕ) (ns cs ms ss entries lent names work₀ : List ℕ) whe
                     (omega (arith, origin));
               }
 
-        pub entries_next : (target : ℕ) → a ≡ At target → SoFar (set work entry.node target) failing answer (k + 1)
+        pub entries_next : (target : ℕ) → a ≡ Ok target → SoFar (set work entry.node target) failing answer (k + 1)
         entries_next target z =
             rw origin
             (record {

@@ -1,6 +1,5 @@
 -- Targets found from paths: where the path of each node leads, what is refused, and the resolved draft.
-use Rattle.std.specs.Prelude.{ℕ, ◌+◌, ◌-◌, ◌*◌, ◌/◌, List, [], ◌∷◌, Bool, cond, ◌&&◌, ◌||◌, not, length, get_or, leb, ltb, eqb}
-use Rattle.std.proofs.Math.Option.{Option, none, some}
+use Rattle.std.specs.Prelude.{ℕ, ◌+◌, ◌-◌, ◌*◌, ◌/◌, List, [], ◌∷◌, Bool, cond, ◌&&◌, ◌||◌, not, length, get_or, leb, ltb, eqb, None, Option, Some}
 use Rattle.laws.specs.Refusal.{unless, ◌▸◌, first_of}
 use Rattle.laws.specs.Counted.{join_of}
 use Rattle.words.specs.Words.{NONE}
@@ -11,8 +10,6 @@ use Rattle.image.specs.Tags.{choice_tag, divert_tag, reference_tag}
 use Rattle.records.specs.Fields.{target_place, kind_of}
 use Rattle.draft.specs.Draft.{write_words, reach_rule, shape_rule}
 use Rattle.draft.specs.PathList.{path_word, path_of, list_right, follows, path_tables_rule, path_lists}
-use Rattle.views.specs.declared.Found.{Found}
-use Rattle.views.specs.declared.Found.TheVariants as found
 use Rattle.walks.specs.Walk.{component_words, index_kind, components, resolve, walks}
 
 -- ---- the list beside the draft
@@ -37,7 +34,7 @@ unfoldable pub path_components : PathList → ℕ → List ℕ
 path_components p k = part_at p.components (component_words * path_word p.entries k 2) (component_words * path_word p.entries k 3)
 
 -- the node at the end of entry k, which is of node i
-unfoldable pub path_end : Sections → PathList → ℕ → ℕ → Found
+unfoldable pub path_end : Sections → PathList → ℕ → ℕ → Option ℕ
 path_end s p i k = resolve s (eqb (path_word p.entries k 1) 1) i (components p.names (path_components p k))
 
 -- the last of so many of the lent components, from component `first` on, is an index
@@ -53,14 +50,14 @@ unfoldable pub needs_container : ℕ → Bool → Bool
 needs_container tag index = eqb tag choice_tag || eqb tag reference_tag || eqb tag divert_tag && not index
 
 -- 25 where no node is at the path, 26 where it is no container though one is due
-abbrev pub end_rule : Sections → Bool → Found → ℕ
-end_rule s due found.NotFound = no_target
-end_rule s due (found.Node n) = unless (not due || is_container s n) no_container
+abbrev pub end_rule : Sections → Bool → Option ℕ → ℕ
+end_rule s due None = no_target
+end_rule s due (Some n) = unless (not due || is_container s n) no_container
 
 -- what is refused of node i, if that is its entry
 abbrev pub entry_rule : Sections → PathList → ℕ → Option ℕ → ℕ
-entry_rule s p i none = 0
-entry_rule s p i (some k) = end_rule s (needs_container (tag_of s i) (ends_in_index p k)) (path_end s p i k)
+entry_rule s p i None = 0
+entry_rule s p i (Some k) = end_rule s (needs_container (tag_of s i) (ends_in_index p k)) (path_end s p i k)
 
 unfoldable pub target_rule : Sections → PathList → ℕ → ℕ
 target_rule s p i = cond (follows s p.entries i) (entry_rule s p i (path_of p.entries i)) 0
@@ -78,13 +75,13 @@ resolve_rule ink s p work =
 
 -- ---- the resolved draft
 
-abbrev pub found_node : Found → ℕ
-found_node found.NotFound = NONE
-found_node (found.Node n) = n
+abbrev pub found_node : Option ℕ → ℕ
+found_node None = NONE
+found_node (Some n) = n
 
 abbrev pub entry_target : Sections → PathList → ℕ → Option ℕ → ℕ
-entry_target s p i none = NONE
-entry_target s p i (some k) = found_node (path_end s p i k)
+entry_target s p i None = NONE
+entry_target s p i (Some k) = found_node (path_end s p i k)
 
 -- the target that is found for node i, NONE for a node that is passed over
 unfoldable pub target_found : Sections → PathList → ℕ → ℕ

@@ -1,7 +1,10 @@
 // Rules 25 and 26: where the paths lead. The target of each node goes into the work words, nothing of the draft is written.
+// The work words are lent by C's caller: no heap is used.
 #![tactic(auto)]
 
 ghost use Rattle.std.specs.Prelude.{◌≡◌, List, ℕ, ◌+◌, ◌*◌, ◌/◌, ◌≤◌, ◌<◌, length};
+ghost use Rattle.image.specs.Refusals.{refusal_in};
+ghost use Rattle.image.specs.Refusals.{numbered};
 ghost use Rattle.image.specs.Sections.{node_words};
 ghost use Rattle.draft.specs.Source.{draft_of};
 ghost use Rattle.walks.specs.Walk.{component_words};
@@ -11,18 +14,10 @@ ghost use Rattle.target_finding.specs.Finding.{ComponentsInside, OriginsInside, 
 use draft::path_list::PathEntry;
 use draft::source::Source;
 use draft::{path_list, source};
-use image::refusal::{NO_CONTAINER, NO_TARGET};
+use image::refusal::Refusal;
 use image::tag::{CHOICE, CONTAINER, DIVERT, REFERENCE};
 use image::{NONE, NodeRecord};
-use views::Found;
 use walks::{COMPONENT_WORDS, INDEX};
-
-// The target of a node, NONE if the node is passed over, or the number of the rule that its path breaks.
-#[derive(Clone, Copy)]
-pub enum Target {
-    At(u32),
-    Refused(u32),
-}
 
 // Whether the last of so many components, from component `first` on, is an index.
 fn ends_in_index(components: &[u32], first: u32, count: u32) -> bool
@@ -62,11 +57,11 @@ fn follow(
     components: &[u32],
     names: &[u8],
     source: Source,
-) -> Target
+) -> Result<u32, Refusal>
     requires { component_words * (entry.first + entry.count) ≤ length components.now }
     ensures { (definitions items payload : List ℕ) → let s = draft_of source.version nodes.now children.now
         named.now definitions items payload strings.now in
-        result ≡ end_target s (due_of components.now tag entry) (end_of s components.now names.now entry) }
+        numbered result ≡ end_target s (due_of components.now tag entry) (end_of s components.now names.now entry) }
 {
     let from = COMPONENT_WORDS * entry.first as usize;
     let to = from + COMPONENT_WORDS * entry.count as usize;
@@ -81,15 +76,15 @@ fn follow(
         names,
         source,
     ) {
-        Found::NotFound => Target::Refused(NO_TARGET),
-        Found::Node(n) => {
+        None => Err(Refusal::NoTarget),
+        Some(n) => {
             if !needs_container(tag, components, entry.first, entry.count) {
-                return Target::At(n);
+                return Ok(n);
             }
             if source::word_of(nodes, n, NodeRecord::TAG, source) != CONTAINER {
-                return Target::Refused(NO_CONTAINER);
+                return Err(Refusal::NoContainer);
             }
-            Target::At(n)
+            Ok(n)
         }
     }
 }
@@ -104,16 +99,16 @@ fn entry_target(
     components: &[u32],
     names: &[u8],
     source: Source,
-) -> Target
+) -> Result<u32, Refusal>
     requires { (entry.node < length nodes.now / node_words source.version)
         × (component_words * (entry.first + entry.count) ≤ length components.now) }
     ensures { (definitions items payload : List ℕ) → let s = draft_of source.version nodes.now children.now
         named.now definitions items payload strings.now in
-        result ≡ entry_answer s components.now names.now entry }
+        numbered result ≡ entry_answer s components.now names.now entry }
 {
     let node = source::node_at(nodes, entry.node as usize, source);
     if !path_list::may_follow(node) {
-        return Target::At(NONE);
+        return Ok(NONE);
     }
     follow(
         nodes, children, named, strings, node.tag, entry, components, names, source,
@@ -125,10 +120,8 @@ fn fill_none(work: &mut [u32], n: usize)
     requires { n ≤ length work.old }
     ensures { NoneBelow work.new n }
 {
-    let mut at = 0;
-    while at < n {
+    for at in 0..n {
         work[at] = NONE;
-        at += 1;
     }
 }
 
@@ -144,33 +137,31 @@ pub fn targets_rule(
     names: &[u8],
     work: &mut [u32],
     source: Source,
-) -> u32
+) -> Result<(), Refusal>
     requires { (length nodes.now / node_words source.version ≤ length work.old) × ComponentsInside paths.now components.now
         × OriginsInside (length nodes.now / node_words source.version) paths.now × OriginsApart paths.now }
     ensures { (definitions items payload : List ℕ) → let s = draft_of source.version nodes.now children.now
         named.now definitions items payload strings.now in
-        AllFound s (path_list paths.now components.now names.now) work.new result }
+        AllFound s (path_list paths.now components.now names.now) work.new (refusal_in result) }
 {
     let total = source::node_count(nodes, source);
     fill_none(work, total);
     let count = path_list::path_count(paths);
     let mut failing = total;
-    let mut answer = 0;
-    let mut k = 0;
-    while k < count {
+    let mut answer = Ok(());
+    for k in 0..count {
         let entry = path_list::entry_at(paths, k);
         let node = entry.node as usize;
-        k += 1;
         match entry_target(
             nodes, children, named, strings, entry, components, names, source,
         ) {
-            Target::Refused(number) => {
+            Err(refusal) => {
                 if node < failing {
                     failing = node;
-                    answer = number;
+                    answer = Err(refusal);
                 }
             }
-            Target::At(target) => {
+            Ok(target) => {
                 work[node] = target;
             }
         }

@@ -1,13 +1,12 @@
 -- The loop that sets the targets: the nodes of entries before k are set, the words of the others are as they were.
+use Rattle.std.specs.Prelude.{None, Option, Some, is_some}
 use Prim.Native.Nat.{ℕ, ◌+◌, ◌*◌, ◌-◌, ◌/◌, ◌≤◌, ◌<◌}
 use mathlib.Core.Path.{◌≡◌, refl, sym, ap, ◌∙◌}
 use mathlib.Core.List.{List}
 use mathlib.Core.Bool.{true, true≢false}
-use mathlib.Core.Option.{Option, none, some}
 use native.Mathlib.Omega.{arith}
 use native.Mathlib.Decide.{ℕ_discrete, dec_lt}
 use lib.ListN.{length, get_or}
-use Rattle.laws.specs.Lists.{is_some}
 use Rattle.words.specs.Words.{NONE}
 use Rattle.image.specs.Sections.{common_words, node_words}
 use Rattle.image.proofs.Widths.{node-within, words-some, later-node}
@@ -52,16 +51,16 @@ module _ (version : ℕ) (work paths nodes₀ : List ℕ) where
     pub set_end : (count : ℕ) → count ≡ path_count paths → count ≤ k → AllSet version nodes₀ work nodes
     set_end count e h = record { long = s.long; each = λ i q l m. by i q l m (path_of paths i) refl }
       where
-        no_target_lem : (i : ℕ) → i < length nodes₀ / node_words version → path_of paths i ≡ none → Dec (get_or work i 0 ≡ NONE) → get_or work i 0 ≡ NONE
+        no_target_lem : (i : ℕ) → i < length nodes₀ / node_words version → path_of paths i ≡ None → Dec (get_or work i 0 ≡ NONE) → get_or work i 0 ≡ NONE
         no_target_lem i l p (yes z) = z
         no_target_lem i l p (no d) = absurd (true≢false (sym (can.has i l d) ∙ ap is_some p))
 
         by : (i q : ℕ) → i < length nodes₀ / node_words version → q < node_words version → (x : Option ℕ) → path_of paths i ≡ x
             → word_of version nodes i q ≡ set_word (word_of version nodes₀ i 2) (get_or work i 0) q (word_of version nodes₀ i q)
-        by i q l m none p =
+        by i q l m None p =
             s.rest i q m (λ j b. path-nowhere paths i p j (omega (arith, s.within)))
             ∙ sym (none-word (word_of version nodes₀ i 2) (get_or work i 0) q (word_of version nodes₀ i q) (no_target_lem i l p (ℕ_discrete (get_or work i 0) NONE)))
-        by i q l m (some j) p =
+        by i q l m (Some j) p =
             let there = path-there paths i j p in
             rw (← there.1) (s.done j q (omega (arith, e, there.0)) m)
 

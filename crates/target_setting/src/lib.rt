@@ -42,10 +42,8 @@ pub fn set_targets(nodes: &mut [u32], work: &[u32], paths: &[u32], source: Sourc
     ensures { AllSet source.version nodes.old work.now nodes.new }
 {
     let count = path_list::path_count(paths);
-    let mut k = 0;
-    while k < count {
+    for k in 0..count {
         let i = path_list::entry_at(paths, k).node as usize;
         set_target(nodes, i * source::node_words(source), work[i]);
-        k += 1;
     }
 }

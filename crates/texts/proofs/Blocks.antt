@@ -15,8 +15,8 @@ use lib.Seq.{drop-drop, get_or-take, get_or-drop, length-take-le}
 use Rattle.laws.specs.Counted.{all_of}
 use Rattle.laws.proofs.Flags.{both_true, or_zero}
 use Rattle.laws.proofs.Lists.{drop-next}
-use Rattle.texts.specs.declared.Order.{Order}
-use Rattle.texts.specs.declared.Order.TheVariants.{Less, Greater}
+use Rattle.std.specs.declared.cmp.Ordering.{Ordering}
+use Rattle.std.specs.declared.cmp.Ordering.TheVariants.{Less, Greater}
 use Rattle.texts.specs.Text.{order_of}
 use Rattle.texts.specs.Blocks.{Alike, number_from, WordAt}
 use Rattle.texts.proofs.Text.{order-turned, turned, byte-like}
@@ -38,9 +38,6 @@ like_at a b i j = eqb (get_or a (i + j) 0) (get_or b (i + j) 0)
 pub bits-next : (a b : List ℕ) (i j bits : ℕ) → eqb bits 0 ≡ all_of j (like_at a b i) → eqb (bit_or bits (bit_xor (get_or a (i + j) 0) (get_or b (i + j) 0))) 0 ≡ all_of (j + 1) (like_at a b i)
 unfolding all_of
 bits-next a b i j bits e = rw (add-one, or_zero bits (bit_xor (get_or a (i + j) 0) (get_or b (i + j) 0)), xor_zero (get_or a (i + j) 0) (get_or b (i + j) 0), ← e)
-
-pub bits_all : (a b : List ℕ) (i j n bits : ℕ) → eqb bits 0 ≡ all_of j (like_at a b i) → j ≤ n → n ≤ j → eqb bits 0 ≡ all_of n (like_at a b i)
-bits_all a b i j n bits e h k = let d : j ≡ n = omega arith in rw d at e
 
 -- ---- texts that begin alike
 
@@ -135,14 +132,13 @@ eight_of_lem s i h =
       drop-next s (i + 7) (i + 8) (omega arith) (omega arith),
     )
 
--- the number of eight bytes from those of four
-pub by_halves : (s : List ℕ) (i x y : ℕ)
-    → i + 8 ≤ length s
-    → x ≡ number_from 0 (get_or s i 0 ∷ get_or s (i + 1) 0 ∷ get_or s (i + 2) 0 ∷ get_or s (i + 3) 0 ∷ [])
-    → y ≡ number_from 0 (get_or s (i + 4) 0 ∷ get_or s (i + 5) 0 ∷ get_or s (i + 6) 0 ∷ get_or s (i + 7) 0 ∷ [])
-    → 4294967296 * x + y ≡ number_from 0 (take 8 (drop i s))
+-- their number, as a sum
+pub eight_bytes : (s : List ℕ) (i n : ℕ) → i + 8 ≤ length s
+    → n
+    ≡ get_or s (i + 7) 0 + 256 * (get_or s (i + 6) 0 + 256 * (get_or s (i + 5) 0 + 256 * (get_or s (i + 4) 0 + 256 * (get_or s (i + 3) 0 + 256 * (get_or s (i + 2) 0 + 256 * (get_or s (i + 1) 0 + 256 * get_or s i 0))))))
+    → n ≡ number_from 0 (take 8 (drop i s))
 unfolding number_from
-by_halves s i x y h p q = rw (eight_of_lem s i h) (omega arith)
+eight_bytes s i n h p = rw (eight_of_lem s i h) (omega arith)
 
 taken-bytes : (s : List ℕ) (n i : ℕ) → Bytes s → Bytes (take n (drop i s))
 taken-bytes s n i f k =
@@ -157,7 +153,7 @@ module _ {a b : List ℕ} {i x y : ℕ} (p : Alike a b i) (u : WordAt a i x) (v 
       length-take-le 8 (drop i a) (simp length-drop (omega (arith, u.room)))
       ∙ sym (length-take-le 8 (drop i b) (simp length-drop (omega (arith, v.room))))
 
-  word-order : (o : Order) → order_of (take 8 (drop i a) ++ drop (i + 8) a) (take 8 (drop i b) ++ drop (i + 8) b) ≡ o → order_of a b ≡ o
+  word-order : (o : Ordering) → order_of (take 8 (drop i a) ++ drop (i + 8) a) (take 8 (drop i b) ++ drop (i + 8) b) ≡ o → order_of a b ≡ o
   word-order o e = p.rest ∙ sym (ap₂ order_of (eight a i) (eight b i)) ∙ e
 
   pub word-less : x < y → Less ≡ order_of a b

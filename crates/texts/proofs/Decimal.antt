@@ -1,5 +1,5 @@
 -- Laws of a number in decimal: one digit more, what its bytes are, that it reads as the number; the steps of a loop over its digits.
-use Prim.Native.Nat.{ℕ, zero, suc, ◌+◌, ◌-◌, ◌*◌, ◌/◌, ◌%◌, ◌^◌, ◌<◌, ◌≤◌}
+use Prim.Native.Nat.{ℕ, zero, suc, ◌+◌, ◌-◌, ◌*◌, ◌/◌, ◌%◌, ◌^◌, ◌<◌, ◌≤◌, max}
 use mathlib.Core.Path.{◌≡◌, refl, sym, ap, ◌∙◌}
 use mathlib.Core.Logic.{⊎_elim}
 use mathlib.Core.List.Memᴰ
@@ -69,6 +69,13 @@ length_one n h = ap length (decimal_one n h)
 pub length_more : (n : ℕ) → 10 ≤ n → length (decimal n) ≡ length (decimal (n / 10)) + 1
 length_more n h = ap length (decimal-more n h) ∙ length-append (decimal (n / 10)) (digit (n % 10) ∷ [])
 
+-- one digit, or more
+pub few_digits : (n : ℕ) → length (decimal n) ≤ 1 → n < 10
+few_digits n h = elim (dec_lt n 10) [ yes l ↦ l | no g ↦ absurd (omega (arith, length_more n (omega arith), decimal-some (n / 10))) ]
+
+pub many_digits : (n : ℕ) → 1 < length (decimal n) → 10 ≤ n
+many_digits n h = elim (dec_lt n 10) [ yes l ↦ absurd (omega (arith, length_one n l)) | no g ↦ omega arith ]
+
 pub decimal-length : (k n : ℕ) → n < 10 ^ suc k → length (decimal n) ≤ suc k
 decimal-length zero n h = omega (arith, length_one n h)
 decimal-length (suc k) n h = by (dec_lt n 10) (λ g. decimal-length k (n / 10) (let e = pow-suc 10 (suc k) in omega arith))
@@ -76,6 +83,25 @@ decimal-length (suc k) n h = by (dec_lt n 10) (λ g. decimal-length k (n / 10) (
     by : Dec (n < 10) → (10 ≤ n → length (decimal (n / 10)) ≤ suc k) → length (decimal n) ≤ suc (suc k)
     by (yes l) p = omega (arith, length_one n l)
     by (no g) p = omega (arith, length_more n (omega arith), p (omega arith))
+
+-- as many digits as the greatest power of ten that is not above the number has
+pub length_by_power : (k n : ℕ) → 10 ^ k ≤ n → n < 10 * 10 ^ k → length (decimal n) ≡ k + 1
+length_by_power zero n h l = length_one n (omega arith)
+length_by_power (suc k) n h l =
+    let e = pow-suc 10 k in
+    omega (arith, length_more n (let g = le-pow k in omega arith), length_by_power k (n / 10) (omega arith) (omega arith))
+  where
+    le-pow : (k : ℕ) → 1 ≤ 10 ^ k
+    le-pow zero = omega arith
+    le-pow (suc k) = let e = pow-suc 10 k in omega (arith, le-pow k)
+
+-- 0 has as many as 1
+pub length-max : (n m : ℕ) → m ≡ max n 1 → length (decimal m) ≡ length (decimal n)
+length-max n m e =
+    elim (dec_lt n 1) [
+      | yes h ↦ let one : m ≡ 1 = omega arith in let none : n ≡ 0 = omega arith in rw (one, none) (length_one 1 (omega arith) ∙ sym (length_one 0 (omega arith)))
+      | no h ↦ let z : m ≡ n = omega arith in ap (λ x. length (decimal x)) z
+    ]
 
 -- a word has ten digits at most
 pub word-length : (n : ℕ) → n < 2 ^ 32 → length (decimal n) ≤ 10

@@ -1,15 +1,18 @@
--- Laws of the first dot of a text, and the steps of a search for it.
-use Prim.Native.Nat.{ℕ, zero, suc, ◌+◌, ◌<◌, ◌≤◌}
+-- Laws of the first dot of a text.
+use Prim.Native.Nat.{ℕ, zero, suc, ◌<◌, ◌≤◌}
 use mathlib.Core.Path.{◌≡◌, refl, sym, ap, ◌∙◌}
 use mathlib.Core.List.{List, [], ◌∷◌, ◌++◌, Memᴰ}
-use mathlib.Core.Bool.{Bool, true, false}
+use mathlib.Core.Bool.{Bool, true, false, cond}
 use native.Mathlib.Omega.{arith}
 use native.Mathlib.Nat.{not-suc-le-zero}
-use native.Mathlib.Numerals.{add-one}
-use lib.Dec.{eqb}
-use lib.ListN.{length, get_or, take, drop, drop_of_length-le}
-use lib.Seq.{drop-cons, split_at, length-take-le}
-use borrow.Author.Tests.{eqb-true, eqb-false, eq-eqb, ne_eqb, ltb-true, lt-ltb, le-ltb}
+use native.Mathlib.Numerals.{one-add}
+use lib.Dec.{eqb, ltb}
+use lib.ListN.{length, get_or, take, drop}
+use lib.Seq.{split_at, length-take-le}
+use borrow.Author.Tests.{eqb-true, eqb-false, eq-eqb, ne_eqb, ltb-true, ltb-false, lt-ltb, le-ltb}
+use Rattle.std.specs.Prelude.{Option, Some, None, unwrap_or}
+use Rattle.std.specs.List.{position, position_or_len}
+use Rattle.std.proofs.lemmas.List.Recursion.{is_position_or_len}
 use Rattle.texts.specs.Dots.{dot, first_dot, has_dot, before_dot, after_dot}
 
 -- ---- one byte
@@ -93,15 +96,16 @@ before-none =
     by_byte (λ t. first_dot (take (first_dot t) t) ≡ length (take (first_dot t) t)) refl (λ b t e. rw (dot_here b t e))
     (λ b t d p. rw (dot_later b t d) (dot_later b (take (first_dot t) t) d ∙ ap suc p))
 
--- ---- a search from the index i on
+-- ---- a search
 
-module _ (t : List ℕ) (i : ℕ) where
-  pub dot_found : i < length t → get_or t i 0 ≡ dot → first_dot t ≡ i + first_dot (drop i t) → first_dot t ≡ i
-  dot_found h e p = rw (drop-cons t i 0, dot_here (get_or t i 0) (drop (suc i) t) e) at p ∙ omega arith
+-- the place is that of the first byte that is a dot
+first_dot_is : (t : List ℕ) → first_dot t ≡ position_or_len (λ b. eqb b dot) t
+unfolding first_dot
+first_dot_is = is_position_or_len first_dot (λ b. eqb b dot) refl (λ b t. rw one-add)
 
-  pub dot_passed : i < length t → (get_or t i 0 ≡ dot → ⊥) → first_dot t ≡ i + first_dot (drop i t) → first_dot t ≡ i + 1 + first_dot (drop (i + 1) t)
-  dot_passed h d p = rw add-one (rw (drop-cons t i 0, dot_later (get_or t i 0) (drop (suc i) t) d) at p ∙ omega arith)
-
-  pub dot_missed : length t ≤ i → first_dot t ≡ i + first_dot (drop i t) → first_dot t ≡ i
-  unfolding first_dot
-  dot_missed h p = rw (drop_of_length-le t h) at p ∙ omega arith
+pub dot_or_end : (t : List ℕ) (r : Option ℕ) → r ≡ position (λ b. eqb b dot) t → unwrap_or r (length t) ≡ first_dot t
+dot_or_end t r e = rw (e, ← first_dot_is t) (by (ltb (first_dot t) (length t)) refl)
+  where
+    by : (b : Bool) → ltb (first_dot t) (length t) ≡ b → unwrap_or (cond b (Some (first_dot t)) None) (length t) ≡ first_dot t
+    by true p = refl
+    by false p = omega (arith, ltb-false (first_dot t) (length t) p, dot_within t)

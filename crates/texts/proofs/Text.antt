@@ -10,8 +10,8 @@ use lib.Dec.{ltb}
 use lib.ListN.{length, get_or, drop, drop_of_length-le}
 use lib.Seq.{drop-cons}
 use borrow.Author.Tests.{ltb-true, ltb-false, lt-ltb, le-ltb}
-use Rattle.texts.specs.declared.Order.{Order}
-use Rattle.texts.specs.declared.Order.TheVariants.{Less, Equal, Greater}
+use Rattle.std.specs.declared.cmp.Ordering.{Ordering}
+use Rattle.std.specs.declared.cmp.Ordering.TheVariants.{Less, Equal, Greater}
 use Rattle.texts.specs.Text.{by_head, order_of, is_less, is_equal, before, same}
 
 -- what two first bytes say, by cases
@@ -37,7 +37,7 @@ order-self [] = refl
 order-self (a ∷ s) = rw (le-ltb a a (omega arith)) (order-self s)
 
 -- the order of two texts, taken the other way round
-abbrev pub turned : Order → Order
+abbrev pub turned : Ordering → Ordering
 turned Less = Greater
 turned Equal = Equal
 turned Greater = Less
@@ -101,7 +101,7 @@ pub same-equal : (s t : List ℕ) → same s t ≡ true → s ≡ t
 unfolding same
 same-equal s t p = order-equal s t (by (order_of s t) p)
   where
-    by : (o : Order) → is_equal o ≡ true → o ≡ Equal
+    by : (o : Ordering) → is_equal o ≡ true → o ≡ Equal
     by Less q = absurd (false≢true q)
     by Equal q = refl
     by Greater q = absurd (false≢true q)
@@ -119,6 +119,9 @@ unlike-same s t d = by (same s t) refl
 pub same-unlike : (s t : List ℕ) → same s t ≡ false → s ≡ t → ⊥
 same-unlike s t p e = false≢true (sym p ∙ equal-same s t e)
 
+pub not-equal-same : (s t : List ℕ) → (order_of s t ≡ Equal → ⊥) → false ≡ same s t
+not-equal-same s t d = sym (unlike-same s t (λ e. d (rw e (order-self t))))
+
 -- two questions with one answer
 pub same_iff : (s t u v : List ℕ) → (s ≡ t → u ≡ v) → (u ≡ v → s ≡ t) → same s t ≡ same u v
 same_iff s t u v f g = by (same s t) refl
@@ -134,14 +137,14 @@ pub same-turned : (s t : List ℕ) → same t s ≡ same s t
 unfolding same
 same-turned s t = rw (order-turned s t) (by (order_of s t))
   where
-    by : (o : Order) → is_equal (turned o) ≡ is_equal o
+    by : (o : Ordering) → is_equal (turned o) ≡ is_equal o
     by Less = refl
     by Equal = refl
     by Greater = refl
 
 -- ---- before
 
-less-only : (o : Order) → is_less o ≡ true → o ≡ Less
+less-only : (o : Ordering) → is_less o ≡ true → o ≡ Less
 less-only Less q = refl
 less-only Equal q = absurd (false≢true q)
 less-only Greater q = absurd (false≢true q)
@@ -149,6 +152,13 @@ less-only Greater q = absurd (false≢true q)
 pub before-less : (s t : List ℕ) → before s t ≡ true → order_of s t ≡ Less
 unfolding before
 before-less s t p = less-only (order_of s t) p
+
+pub not-less-before : (s t : List ℕ) → (order_of s t ≡ Less → ⊥) → false ≡ before s t
+not-less-before s t d = by (before s t) (before-less s t)
+  where
+    by : (b : Bool) → (b ≡ true → order_of s t ≡ Less) → false ≡ b
+    by true f = absurd (d (f refl))
+    by false f = refl
 
 pub less-before : (s t : List ℕ) → order_of s t ≡ Less → before s t ≡ true
 unfolding before
@@ -178,7 +188,7 @@ before-trans s t u p q = less-before s u (order_trans s t u (before-less s t p) 
 pub trichotomy : (s t : List ℕ) → (before s t ≡ true) ⊎ ((s ≡ t) ⊎ (before t s ≡ true))
 trichotomy s t = by (order_of s t) refl
   where
-    by : (o : Order) → order_of s t ≡ o → (before s t ≡ true) ⊎ ((s ≡ t) ⊎ (before t s ≡ true))
+    by : (o : Ordering) → order_of s t ≡ o → (before s t ≡ true) ⊎ ((s ≡ t) ⊎ (before t s ≡ true))
     by Less e = inl (less-before s t e)
     by Equal e = inr (inl (order-equal s t e))
     by Greater e = inr (inr (greater_before s t e))

@@ -2,28 +2,28 @@
 use Rattle.std.specs.Prelude.{ℕ, zero, suc, List, [], ◌∷◌, Bool, true, false, ◌||◌, ltb}
 use Prim.Native.Char.{code}
 use Prim.Native.String.{String, [] as empty, ◌∷◌ as ◌then◌}
-use Rattle.texts.specs.declared.Order.{Order}
-use Rattle.texts.specs.declared.Order.TheVariants.{Less, Equal, Greater}
+use Rattle.std.specs.declared.cmp.Ordering.{Ordering}
+use Rattle.std.specs.declared.cmp.Ordering.TheVariants.{Less, Equal, Greater}
 
 -- by two first bytes, of which the first or the second is less, or else by what follows
-abbrev pub by_head : Bool → Bool → Order → Order
+abbrev pub by_head : Bool → Bool → Ordering → Ordering
 by_head true u r = Less
 by_head false true r = Greater
 by_head false false r = r
 
 -- text order is strict byte order: a shorter text comes before its extensions
-unfoldable pub order_of : List ℕ → List ℕ → Order
+unfoldable pub order_of : List ℕ → List ℕ → Ordering
 order_of [] [] = Equal
 order_of [] (b ∷ t) = Less
 order_of (a ∷ s) [] = Greater
 order_of (a ∷ s) (b ∷ t) = let r = order_of s t in by_head (ltb a b) (ltb b a) r
 
-abbrev pub is_less : Order → Bool
+abbrev pub is_less : Ordering → Bool
 is_less Less = true
 is_less Equal = false
 is_less Greater = false
 
-abbrev pub is_equal : Order → Bool
+abbrev pub is_equal : Ordering → Bool
 is_equal Less = false
 is_equal Equal = true
 is_equal Greater = false

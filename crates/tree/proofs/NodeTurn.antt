@@ -82,6 +82,18 @@ module _ (rule₁ node₁ rule₂ node₂ : ℕ → ℕ) (c₁ c₂ base depth :
 
 -- ---- a node by its tag
 
+-- what is refused leaves no depth
+pub any-depth : (test : ℕ) (push : List ℕ) (base depth : ℕ) (w₀ w : List ℕ) (r d : ℕ) → Entered test push base depth w₀ w r d → (r ≡ 0 → ⊥) → (d' : ℕ)
+    → Entered test push base depth w₀ w r d'
+any-depth test push base depth w₀ w r d e nz d' =
+    record {
+      answer = e.answer;
+      low = e.low;
+      high = e.high;
+      deeper = λ z. absurd (nz z);
+      stack = e.stack;
+    }
+
 module _ (s : Sections) (i : ℕ) (node : NodeRecord) (n : IsNode s i node) where
   pub leaf : (node.tag ≡ 1 → ⊥) → is_container s i ≡ false
   leaf d = ne_eqb (tag_of s i) 1 (λ e. d (n.tag ∙ e))

@@ -1,14 +1,17 @@
 // The tree: the rules of a container's entries, and the walk from the root.
+// The work words are lent by C's caller: no heap is used.
 #![tactic(auto)]
 
 ghost use Rattle.std.specs.Prelude.{◌≡◌, [], ◌++◌, reverse, ℕ, ◌+◌, ◌*◌, ◌≤◌, ◌<◌, length, get_or, drop, replicate};
 ghost use Rattle.laws.specs.Counted.{all_of};
+ghost use Rattle.image.specs.Refusals.{refusal_in, value_in};
 ghost use Rattle.image.specs.Sections.{text_entry_size, node_count, child_count, named_count, f, inside_container};
 ghost use Rattle.tree.specs.Tree.{right_child, named_rule, entry_nodes, tree_rule};
 ghost use Rattle.tree.specs.Work.{LoadWalkResult, tree_words, marked};
 ghost use Rattle.tree.specs.Parts.{parts_of, Fit, ChildrenPushed, NamedPushed, NodeEntered};
 
-use image::{NodeRecord, refusal, tag};
+use image::refusal::Refusal;
+use image::{NodeRecord, tag};
 
 // Whether the word is a node, its parent is `id` and it stands at `place` among the ordered children.
 fn right_child(nodes: &[u8], child: u32, id: usize, place: usize, version: u32) -> bool
@@ -34,7 +37,7 @@ pub fn is_container(nodes: &[u8], node: u32, version: u32) -> bool
     image::node_word(nodes, version, node as usize, NodeRecord::TAG) == tag::CONTAINER
 }
 
-// The refusal of the named entry that stands at `place` among those of container `id`, which start at `first`, or 0.
+// The refusal of the named entry that stands at `place` among those of container `id`, which start at `first`.
 fn named_rule(
     nodes: &[u8],
     named: &[u8],
@@ -43,25 +46,25 @@ fn named_rule(
     first: usize,
     place: usize,
     version: u32,
-) -> u32
+) -> Result<(), Refusal>
     requires text_entry_size_in_bounds { text_entry_size * (first + place) + text_entry_size ≤ length named.now }
     requires first_value { first ≡ f (parts_of version nodes.now [] named.now strings.now) id 5 }
-    ensures { result ≡ named_rule (parts_of version nodes.now [] named.now strings.now) id place }
+    ensures { refusal_in result ≡ named_rule (parts_of version nodes.now [] named.now strings.now) id place }
 {
     let entry = image::text_entry(named, first + place);
     if !image::good_text(strings, entry.offset, entry.len) {
-        return refusal::BAD_CHILD;
+        return Err(Refusal::BadChild);
     }
     if !image::order::entry_rises(named, strings, first, place) {
-        return refusal::BAD_CHILD;
+        return Err(Refusal::BadChild);
     }
     if !is_container(nodes, entry.value, version) {
-        return refusal::BAD_NODE;
+        return Err(Refusal::BadNode);
     }
     if image::node_word(nodes, version, entry.value as usize, NodeRecord::PARENT) as usize == id {
-        0
+        Ok(())
     } else {
-        refusal::BAD_CHILD
+        Err(Refusal::BadChild)
     }
 }
 
@@ -76,22 +79,20 @@ fn push_children(
     base: usize,
     depth: usize,
     version: u32,
-) -> u32
+) -> Result<(), Refusal>
     requires start_value { start ≡ f (parts_of version nodes.now children.now [] []) id 3 }
     requires count_bound { (start + count ≤ child_count (parts_of version nodes.now children.now [] [])) × (base + depth + count ≤ length work.old) }
     ensures { ChildrenPushed version nodes.now children.now
-        id count base depth work.old work.new result }
+        id count base depth work.old work.new (refusal_in result) }
 {
-    let mut j = 0;
-    while j < count {
+    for j in 0..count {
         let child = image::part_word(children, start + j);
         if !right_child(nodes, child, id, j, version) {
-            return refusal::BAD_CHILD;
+            return Err(Refusal::BadChild);
         }
         work[base + depth + j] = child;
-        j += 1;
     }
-    0
+    Ok(())
 }
 
 // Tests the named children of container `id` and pushes them onto the stack, up to the first that is refused.
@@ -106,33 +107,22 @@ fn push_named(
     base: usize,
     depth: usize,
     version: u32,
-) -> u32
+) -> Result<(), Refusal>
     requires start_value { start ≡ f (parts_of version nodes.now [] named.now strings.now) id 5 }
     requires count_bound { (start + count ≤ named_count (parts_of version nodes.now [] named.now strings.now)) × (base + depth + count ≤ length work.old) }
     ensures { NamedPushed version nodes.now named.now strings.now
-        id count base depth work.old work.new result }
+        id count base depth work.old work.new (refusal_in result) }
 {
-    let mut j = 0;
-    while j < count {
-        let refused = named_rule(nodes, named, strings, id, start, j, version);
-        if refused != 0 {
-            return refused;
-        }
+    for j in 0..count {
+        named_rule(nodes, named, strings, id, start, j, version)?;
         let entry = image::text_entry(named, start + j);
         work[base + depth + j] = entry.value;
-        j += 1;
     }
-    0
+    Ok(())
 }
 
-// What taking a node comes to: a refusal or 0, and the depth of the stack.
-#[derive(Clone, Copy)]
-struct Step {
-    refused: u32,
-    depth: usize,
-}
-
-// Tests and pushes the entries of node `id`: ordered children, then named ones. A node that is no container has none.
+// Tests and pushes the entries of node `id`: ordered children, then named ones; answers the depth of the stack. A node that is no container
+// has none.
 fn enter(
     nodes: &[u8],
     children: &[u8],
@@ -143,38 +133,29 @@ fn enter(
     base: usize,
     depth: usize,
     version: u32,
-) -> Step
+) -> Result<usize, Refusal>
     requires fit { Fit (parts_of version nodes.now children.now named.now strings.now) }
     requires id_bound { id < node_count (parts_of version nodes.now children.now named.now strings.now) }
     requires id_in_bounds { base + depth + length (reverse (entry_nodes (parts_of version nodes.now children.now named.now strings.now) id)) ≤ length work.old }
     ensures { let s = parts_of version nodes.now children.now named.now strings.now in
-        NodeEntered s id base depth work.old work.new result.refused result.depth }
+        NodeEntered s id base depth work.old work.new (refusal_in result) (value_in result) }
 {
     let node = image::node_record(nodes, version, id);
     if node.tag != tag::CONTAINER {
-        return Step { refused: 0, depth };
+        return Ok(depth);
     }
     let start = node.f3 as usize;
     let ordered = node.f4 as usize;
-    let first = push_children(
+    push_children(
         nodes, children, id, start, ordered, work, base, depth, version,
-    );
-    if first != 0 {
-        return Step {
-            refused: first,
-            depth,
-        };
-    }
+    )?;
     let start = node.f5 as usize;
     let count = node.f6 as usize;
     let top = depth + ordered;
-    let second = push_named(
+    push_named(
         nodes, named, strings, id, start, count, work, base, top, version,
-    );
-    Step {
-        refused: second,
-        depth: top + count,
-    }
+    )?;
+    Ok(top + count)
 }
 
 // Zero for the first n words.
@@ -182,10 +163,8 @@ pub fn clear(work: &mut [u32], n: usize)
     requires { n ≤ length work.old }
     ensures { work.new ≡ replicate n 0 ++ drop n work.old }
 {
-    let mut i = 0;
-    while i < n {
+    for i in 0..n {
         work[i] = 0;
-        i += 1;
     }
 }
 
@@ -194,17 +173,16 @@ pub fn all_marked(work: &[u32], n: usize) -> bool
     requires { n ≤ length work.now }
     ensures { result ≡ all_of n (marked work.now) }
 {
-    let mut i = 0;
-    while i < n {
+    for i in 0..n {
         if work[i] == 0 {
             return false;
         }
-        i += 1;
     }
     true
 }
 
 // The walk from the root, newest entry first: marks in the first `count` words, which are 0, and the stack behind them.
+// A `while`: the stack grows as it is walked.
 fn walk(
     nodes: &[u8],
     children: &[u8],
@@ -213,13 +191,13 @@ fn walk(
     work: &mut [u32],
     count: usize,
     version: u32,
-) -> u32
+) -> Result<(), Refusal>
     requires fit { Fit (parts_of version nodes.now children.now named.now strings.now) }
     requires count_value { count ≡ node_count (parts_of version nodes.now children.now named.now strings.now) }
     requires strings_in_bounds { tree_words (parts_of version nodes.now children.now named.now strings.now) ≤ length work.old }
     requires by_index { (i : ℕ) → i < count → get_or work.old i 0 ≡ 0 }
     ensures { let s = parts_of version nodes.now children.now named.now strings.now in
-        LoadWalkResult s work.old work.new result }
+        LoadWalkResult s work.old work.new (refusal_in result) }
 {
     work[count] = 0;
     let mut depth = 1;
@@ -228,16 +206,12 @@ fn walk(
         let id = work[count + depth] as usize;
         if work[id] == 0 {
             work[id] = 1;
-            let step = enter(
+            depth = enter(
                 nodes, children, named, strings, id, work, count, depth, version,
-            );
-            if step.refused != 0 {
-                return step.refused;
-            }
-            depth = step.depth;
+            )?;
         }
     }
-    0
+    Ok(())
 }
 
 // Rows 14 (with 9 for a named target) and 15 of sections whose record rules have passed. The words that it needs are not zero afterwards.
@@ -248,22 +222,19 @@ pub fn tree_rule(
     strings: &[u8],
     work: &mut [u32],
     version: u32,
-) -> u32
+) -> Result<(), Refusal>
     requires fit { Fit (parts_of version nodes.now children.now named.now strings.now) }
     requires strings_in_bounds { tree_words (parts_of version nodes.now children.now named.now strings.now) ≤ length work.old }
-    ensures answer { result ≡ tree_rule (parts_of version nodes.now children.now named.now strings.now) }
+    ensures answer { refusal_in result ≡ tree_rule (parts_of version nodes.now children.now named.now strings.now) }
     ensures rest { let s = parts_of version nodes.now children.now named.now strings.now in
         drop (tree_words s) work.new ≡ drop (tree_words s) work.old }
 {
     let count = image::node_count(nodes, version);
     clear(work, count);
-    let refused = walk(nodes, children, named, strings, work, count, version);
-    if refused != 0 {
-        return refused;
-    }
+    walk(nodes, children, named, strings, work, count, version)?;
     if all_marked(work, count) {
-        0
+        Ok(())
     } else {
-        refusal::UNREACHED
+        Err(Refusal::Unreached)
     }
 }

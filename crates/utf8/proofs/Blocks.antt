@@ -175,9 +175,6 @@ pub fault_next : (s : List ℕ) (i j e w : ℕ) → eqb e 0 ≡ all_of j (λ j. 
 unfolding all_of right_at
 fault_next s i j e w q f = rw (add-one, or_zero e w, ← q, flag-zero w _ f)
 
-pub all_same : (t : ℕ → Bool) (a : Bool) (j n : ℕ) → a ≡ all_of j t → j ≤ n → n ≤ j → a ≡ all_of n t
-all_same t a j n e h k = let d : j ≡ n = omega arith in rw d at e
-
 module _ (s : List ℕ) (i : ℕ) where
   -- two blocks
   pub two_right : (m n : ℕ) (a b : Bool) → a ≡ all_of m (λ j. right_at s (i + j)) → a ≡ true → b ≡ all_of n (λ j. right_at s (i + m + j)) → b ≡ all_of (m + n) (λ j. right_at s (i + j))

@@ -16,7 +16,8 @@ fn lies(b: u8, low: u8, high: u8) -> bool
     low <= b && b <= high
 }
 
-// 2 if the byte after `at` continues a sequence, else 0.
+// 2 if the byte after `at` continues a sequence, else 0. This and the two after it are written out: one for all lengths would have a loop
+// where each of them has its branches.
 fn two(s: &[u8], at: usize) -> usize
     requires { at < length s.now }
     ensures { result ≡ cond (fits_row (0x80 ·· 0xbf ∷ []) (drop (at + 1) s.now)) 2 0 }
@@ -117,16 +118,14 @@ fn sequence(s: &[u8], at: usize) -> usize
     four(s, at, lowest(b), highest(b))
 }
 
-// Whether the eight bytes from `at` on are ASCII.
-fn eight_ascii(s: &[u8], at: usize) -> bool
-    requires { at + 8 ≤ length s.now }
-    ensures { result ≡ all_of 8 (λ j. ltb (get_or s.now (at + j) 0) 0x80) }
+// Whether the N bytes from `at` on are ASCII.
+fn all_ascii<const N: usize>(s: &[u8], at: usize) -> bool
+    requires { at + N ≤ length s.now }
+    ensures { result ≡ all_of N (λ j. ltb (get_or s.now (at + j) 0) 0x80) }
 {
-    let mut bits: u8 = 0;
-    let mut j = 0;
-    while j < 8 {
-        bits = bits | s[at + j];
-        j += 1;
+    let mut bits = 0;
+    for j in 0..N {
+        bits |= s[at + j];
     }
     bits < 0x80
 }
@@ -140,8 +139,10 @@ fn ascii_head(s: &[u8]) -> usize
         return 0;
     }
     let mut i = 0;
+
+    // By index: the place where the eights end is asked for.
     while 8 <= s.len() - i {
-        if !eight_ascii(s, i) {
+        if !all_ascii::<8>(s, i) {
             return i;
         }
         i += 8;
@@ -149,13 +150,14 @@ fn ascii_head(s: &[u8]) -> usize
     if i == s.len() {
         return i;
     }
-    if eight_ascii(s, s.len() - 8) {
+    if all_ascii::<8>(s, s.len() - 8) {
         return s.len();
     }
     i
 }
 
 // Whether s, ASCII before `at`, is well-formed UTF-8, sequence by sequence.
+// A `while`: each step is as long as its sequence.
 fn valid_short(s: &[u8], at: usize) -> bool
     requires { AsciiTo s.now at }
     ensures { result ≡ utf8 s.now }
@@ -175,7 +177,7 @@ fn valid_short(s: &[u8], at: usize) -> bool
 fn bit(c: bool) -> u8
     ensures { result ≡ flag c }
 {
-    if c { 1 } else { 0 }
+    u8::from(c)
 }
 
 // 1 where a sequence is not whole after p3, p2 and p1, the nearest, else 0.
@@ -229,11 +231,9 @@ fn block_right(s: &[u8], at: usize) -> bool
     requires { at + 35 ≤ length s.now }
     ensures { result ≡ all_of 32 (λ j. right_at s.now (at + j)) }
 {
-    let mut e: u8 = 0;
-    let mut j = 0;
-    while j < 32 {
-        e = e | fault(s[at + j], s[at + j + 1], s[at + j + 2], s[at + j + 3]);
-        j += 1;
+    let mut e = 0;
+    for j in 0..32 {
+        e |= fault(s[at + j], s[at + j + 1], s[at + j + 2], s[at + j + 3]);
     }
     e == 0
 }
@@ -250,11 +250,9 @@ fn blocks_short(s: &[u8], at: usize) -> bool
     requires { at + 67 ≤ length s.now }
     ensures { result ≡ true → all_of 64 (λ j. right_at s.now (at + j)) ≡ true }
 {
-    let mut e: u8 = bit(0xe0 <= s[at]) | bit(0xe0 <= s[at + 1]) | bit(0xe0 <= s[at + 2]);
-    let mut j = 0;
-    while j < 64 {
-        e = e | short_fault(s[at + j + 2], s[at + j + 3]);
-        j += 1;
+    let mut e = bit(0xe0 <= s[at]) | bit(0xe0 <= s[at + 1]) | bit(0xe0 <= s[at + 2]);
+    for j in 0..64 {
+        e |= short_fault(s[at + j + 2], s[at + j + 3]);
     }
     e == 0
 }
@@ -306,6 +304,8 @@ fn valid_from(s: &[u8], at: usize) -> bool
     ensures { result ≡ utf8 s.now }
 {
     let mut i = at;
+
+    // By index: where the blocks end the rest is taken up.
     while 67 <= s.len() - i {
         if !blocks_right(s, i) {
             return false;
@@ -329,20 +329,6 @@ fn valid_after(s: &[u8], at: usize) -> bool
     valid_from(s, 0)
 }
 
-// Whether the 32 bytes from `at` on are ASCII.
-fn all_ascii(s: &[u8], at: usize) -> bool
-    requires { at + 32 ≤ length s.now }
-    ensures { result ≡ all_of 32 (λ j. ltb (get_or s.now (at + j) 0) 0x80) }
-{
-    let mut bits: u8 = 0;
-    let mut j = 0;
-    while j < 32 {
-        bits = bits | s[at + j];
-        j += 1;
-    }
-    bits < 0x80
-}
-
 // Where the ASCII ends that begins s and reaches to `at` at least, or before: fewer than 64 bytes are left, which are tested by blocks of
 // 32, the last of which may lie over bytes that have passed.
 fn ascii_last(s: &[u8], at: usize) -> usize
@@ -350,45 +336,33 @@ fn ascii_last(s: &[u8], at: usize) -> usize
     ensures { AsciiTo s.now result }
 {
     if s.len() - at < 32 {
-        if all_ascii(s, s.len() - 32) {
+        if all_ascii::<32>(s, s.len() - 32) {
             return s.len();
         }
         return at;
     }
-    if !all_ascii(s, at) {
+    if !all_ascii::<32>(s, at) {
         return at;
     }
-    if all_ascii(s, s.len() - 32) {
+    if all_ascii::<32>(s, s.len() - 32) {
         return s.len();
     }
     at + 32
 }
 
-// Whether the n bytes from `at` on are ASCII. It has one caller, so that it becomes part of its loop.
-fn block_ascii(s: &[u8], at: usize, n: usize) -> bool
-    requires { at + n ≤ length s.now }
-    ensures { result ≡ all_of n (λ j. ltb (get_or s.now (at + j) 0) 0x80) }
-{
-    let mut bits: u8 = 0;
-    let mut j = 0;
-    while j < n {
-        bits = bits | s[at + j];
-        j += 1;
-    }
-    bits < 0x80
-}
-
-// Goes from `at`, before which s is ASCII, past blocks of `size` bytes that are.
-fn ascii_blocks(s: &[u8], at: usize, size: usize) -> usize
-    requires { (0 < size) × AsciiTo s.now at }
+// Goes from `at`, before which s is ASCII, past blocks of N bytes that are.
+fn ascii_blocks<const N: usize>(s: &[u8], at: usize) -> usize
+    requires { (0 < N) × AsciiTo s.now at }
     ensures { AsciiTo s.now result }
 {
     let mut i = at;
-    while size <= s.len() - i {
-        if !block_ascii(s, i, size) {
+
+    // By index: the place where the blocks end is the answer.
+    while N <= s.len() - i {
+        if !all_ascii::<N>(s, i) {
             return i;
         }
-        i += size;
+        i += N;
     }
     i
 }
@@ -398,8 +372,8 @@ fn ascii_end(s: &[u8]) -> usize
     requires { 32 ≤ length s.now }
     ensures { AsciiTo s.now result }
 {
-    let wide = ascii_blocks(s, 0, 256);
-    let i = ascii_blocks(s, wide, 64);
+    let wide = ascii_blocks::<256>(s, 0);
+    let i = ascii_blocks::<64>(s, wide);
     if 64 <= s.len() - i {
         return i;
     }
@@ -470,10 +444,7 @@ pub fn valid(s: &[u8]) -> bool
 fn byte(s: &[u8], i: usize) -> u8
     ensures { result ≡ get_or s.now i 0 }
 {
-    if i < s.len() {
-        return s[i];
-    }
-    0
+    s.get(i).copied().unwrap_or(0)
 }
 
 // Whether a sequence of s is cut before i: the byte there continues one.
@@ -553,6 +524,7 @@ fn white(b: u8, c: u8, d: u8) -> usize
 }
 
 // Whether s is empty or White_Space alone.
+// A `while`: each step is as long as its character.
 pub fn is_blank(s: &[u8]) -> bool
     ensures { result ≡ blank s.now }
 {

@@ -1,4 +1,5 @@
 -- What a query answers, by the entries that were found and the tests that were made.
+use Rattle.std.specs.Prelude.{None, Option, Some, ℕ}
 use Prim.Native.Nat.{ℕ, ◌+◌, ◌*◌, ◌≤◌, ◌<◌}
 use mathlib.Core.Path.{◌≡◌, sym, ap, ◌∙◌}
 use mathlib.Core.List.{List, []}
@@ -22,40 +23,24 @@ use Rattle.image.proofs.Parts.{text-inside}
 use Rattle.image.proofs.Views.{payload_by, strings_by}
 use Rattle.definitions.specs.Definitions.{number_of_items}
 use Rattle.views.specs.declared.Span.{Span}
-use Rattle.views.specs.declared.OptionalText.{OptionalText}
-use Rattle.views.specs.declared.NodeAnswer.{NodeAnswer}
-use Rattle.views.specs.declared.NodeAnswer.TheVariants as view
-use Rattle.views.specs.declared.Found.{Found}
-use Rattle.views.specs.declared.Found.TheVariants as found
-use Rattle.views.specs.declared.Count.TheVariants as count
-use Rattle.views.specs.declared.NamedAnswer.TheVariants as named
-use Rattle.views.specs.declared.TextAnswer.TheVariants as text
-use Rattle.views.specs.declared.EntryAnswer.TheVariants as list
-use Rattle.views.specs.declared.DefinitionAnswer.TheVariants as definition
-use Rattle.views.specs.declared.ItemAnswer.{ItemAnswer}
-use Rattle.views.specs.declared.ItemAnswer.TheVariants as item
-use Rattle.views.specs.declared.NamedAnswer.{NamedAnswer}
-use Rattle.views.specs.declared.entries.RecordFound.{RecordFound}
-use Rattle.views.specs.declared.entries.RecordFound.TheVariants as node
-use Rattle.views.specs.declared.entries.EntryFound.{EntryFound}
-use Rattle.views.specs.declared.entries.EntryFound.TheVariants as entry
-use Rattle.views.specs.declared.entries.DefinitionFound.{DefinitionFound}
-use Rattle.views.specs.declared.entries.DefinitionFound.TheVariants as row
 use Rattle.views.specs.View.{signed, span, shown, optional_text, record_view, node_view}
 use Rattle.views.specs.Found.{node_found, container_found, child_found, named_found, definition_found, item_found}
 use Rattle.views.specs.Children.{child_count_of, named_count_of, child_query, named_entry, named_query, text_query, shown_text}
 use Rattle.views.specs.Lists.{list_part, list_entry, list_origin, definition_query, item_entry, item_query}
 use Rattle.views.proofs.Reading.{no_node, a_node, no_container_lem, a_container, no_named, a_named, no_item, an_item, no_definition, a_definition}
+use Rattle.views.specs.declared.NodeView.{NodeView}
+use Rattle.views.specs.declared.NamedChildView.{NamedChildView}
+use Rattle.views.specs.declared.ItemView.{ItemView}
 
 -- ---- a node's view
 
-module _ (s : Sections) (i : ℕ) (r : RecordFound) (e : r ≡ node_found s i) where
-  pub view-missing : r ≡ node.NotFound → view.NotFound ≡ node_view s i
+module _ (s : Sections) (i : ℕ) (r : Option NodeRecord) (e : r ≡ node_found s i) where
+  pub view-missing : r ≡ None → None ≡ node_view s i
   unfolding node_view
   view-missing h = rw (no_node s i r e h)
 
-  pub view-found : (x : NodeRecord) → r ≡ node.Record x → (payload : ℕ) (strings : List ℕ) → length s.payload ≡ payload → s.strings ≡ strings
-      → (a : NodeAnswer) → a ≡ record_view strings payload x → a ≡ node_view s i
+  pub view-found : (x : NodeRecord) → r ≡ Some x → (payload : ℕ) (strings : List ℕ) → length s.payload ≡ payload → s.strings ≡ strings
+      → (a : Option NodeView) → a ≡ record_view strings payload x → a ≡ node_view s i
   unfolding node_view
   view-found x h payload strings p q a g =
       let known = a_node s i r e x h in
@@ -63,54 +48,54 @@ module _ (s : Sections) (i : ℕ) (r : RecordFound) (e : r ≡ node_found s i) w
 
 -- ---- children
 
-module _ (s : Sections) (i : ℕ) (r : RecordFound) (e : r ≡ container_found s i) where
-  pub child-count-missing : r ≡ node.NotFound → count.NotFound ≡ child_count_of s i
+module _ (s : Sections) (i : ℕ) (r : Option NodeRecord) (e : r ≡ container_found s i) where
+  pub child-count-missing : r ≡ None → None ≡ child_count_of s i
   unfolding child_count_of
   child-count-missing h = rw (no_container_lem s i r e h)
 
-  pub named-count-missing : r ≡ node.NotFound → count.NotFound ≡ named_count_of s i
+  pub named-count-missing : r ≡ None → None ≡ named_count_of s i
   unfolding named_count_of
   named-count-missing h = rw (no_container_lem s i r e h)
 
-  pub child-missing : (j : ℕ) → r ≡ node.NotFound → found.NotFound ≡ child_query s i j
+  pub child-missing : (j : ℕ) → r ≡ None → None ≡ child_query s i j
   unfolding child_query
   child-missing j h = rw (no_container_lem s i r e h)
 
-  pub named-missing : (j : ℕ) → r ≡ node.NotFound → named.NotFound ≡ named_query s i j
+  pub named-missing : (j : ℕ) → r ≡ None → None ≡ named_query s i j
   unfolding named_query
   named-missing j h = rw (no_container_lem s i r e h)
 
-  module _ (x : NodeRecord) (h : r ≡ node.Record x) where
+  module _ (x : NodeRecord) (h : r ≡ Some x) where
     yes_container : inside_container s i ≡ true
     yes_container = (a_container s i r e x h).0
 
     same_record : x ≡ node_in s i
     same_record = (a_container s i r e x h).1
 
-    pub child-count-found : count.Of x.f4 ≡ child_count_of s i
+    pub child-count-found : Some x.f4 ≡ child_count_of s i
     unfolding child_count_of
-    child-count-found = rw yes_container (λ k. count.Of (same_record k).f4)
+    child-count-found = rw yes_container (λ k. Some (same_record k).f4)
 
-    pub named-count-found : count.Of x.f6 ≡ named_count_of s i
+    pub named-count-found : Some x.f6 ≡ named_count_of s i
     unfolding named_count_of
-    named-count-found = rw yes_container (λ k. count.Of (same_record k).f6)
+    named-count-found = rw yes_container (λ k. Some (same_record k).f6)
 
     module _ (j : ℕ) where
-      pub child-past : x.f4 ≤ j → found.NotFound ≡ child_query s i j
+      pub child-past : x.f4 ≤ j → None ≡ child_query s i j
       unfolding child_query
       child-past l = rw (yes_container, le-ltb j (f s i 4) (rw (ap (λ (y : NodeRecord). y.f4) same_record) at l))
 
-      pub child-found : j < x.f4 → (a : Found) → a ≡ child_found s (x.f3 + j) → a ≡ child_query s i j
+      pub child-found : j < x.f4 → (a : Option ℕ) → a ≡ child_found s (x.f3 + j) → a ≡ child_query s i j
       unfolding child_query child_found
       child-found l a g =
           rw (yes_container, lt-ltb j (f s i 4) (rw (ap (λ (y : NodeRecord). y.f4) same_record) at l))
           (g ∙ λ k. child_found s ((same_record k).f3 + j))
 
-      pub named_past : x.f6 ≤ j → named.NotFound ≡ named_query s i j
+      pub named_past : x.f6 ≤ j → None ≡ named_query s i j
       unfolding named_query
       named_past l = rw (yes_container, le-ltb j (f s i 6) (rw (ap (λ (y : NodeRecord). y.f6) same_record) at l))
 
-      pub named-found : j < x.f6 → (a : NamedAnswer) → a ≡ named_entry s (x.f5 + j) → a ≡ named_query s i j
+      pub named-found : j < x.f6 → (a : Option NamedChildView) → a ≡ named_entry s (x.f5 + j) → a ≡ named_query s i j
       unfolding named_query
       named-found l a g =
           rw (yes_container, lt-ltb j (f s i 6) (rw (ap (λ (y : NodeRecord). y.f6) same_record) at l))
@@ -119,90 +104,90 @@ module _ (s : Sections) (i : ℕ) (r : RecordFound) (e : r ≡ container_found s
 -- ---- entries with a text: by the entry, and whether its text is shown
 
 module _ (s : Sections) (ss : List ℕ) (q : s.strings ≡ ss) where
-  module _ (k : ℕ) (r : EntryFound) where
+  module _ (k : ℕ) (r : Option TextEntry) where
     module _ (e : r ≡ named_found s k) where
-      pub entry-missing : r ≡ entry.NotFound → named.NotFound ≡ named_entry s k
+      pub entry-missing : r ≡ None → None ≡ named_entry s k
       unfolding named_entry
       entry-missing h = rw (no_named s k r e h)
 
-      module _ (x : TextEntry) (h : r ≡ entry.Entry x) (b : Bool) (g : b ≡ shown (length ss) x.offset x.len) where
+      module _ (x : TextEntry) (h : r ≡ Some x) (b : Bool) (g : b ≡ shown (length ss) x.offset x.len) where
         named-told : b ≡ shown (length s.strings) (named_word s k 0) (named_word s k 1)
         named-told = g ∙ λ j. shown (length (sym q j)) ((a_named s k r e x h).1 j).offset ((a_named s k r e x h).1 j).len
 
-        pub entry-hidden : b ≡ false → named.NotFound ≡ named_entry s k
+        pub entry-hidden : b ≡ false → None ≡ named_entry s k
         unfolding named_entry
         entry-hidden n = rw ((a_named s k r e x h).0, ← named-told, n)
 
-        pub entry-shown : b ≡ true → named.Named (record { name = span x.offset x.len; node = x.value }) ≡ named_entry s k
+        pub entry-shown : b ≡ true → Some (record { name = span x.offset x.len; node = x.value }) ≡ named_entry s k
         unfolding named_entry
         entry-shown y =
             rw ((a_named s k r e x h).0, ← named-told, y)
-            (λ j. let z = (a_named s k r e x h).1 j in named.Named (record { name = span z.offset z.len; node = z.value }))
+            (λ j. let z = (a_named s k r e x h).1 j in Some (record { name = span z.offset z.len; node = z.value }))
 
     module _ (e : r ≡ item_found s k) where
-      pub item-missing : r ≡ entry.NotFound → item.NotFound ≡ item_entry s k
+      pub item-missing : r ≡ None → None ≡ item_entry s k
       unfolding item_entry
       item-missing h = rw (no_item s k r e h)
 
-      module _ (x : TextEntry) (h : r ≡ entry.Entry x) (b : Bool) (g : b ≡ shown (length ss) x.offset x.len) where
+      module _ (x : TextEntry) (h : r ≡ Some x) (b : Bool) (g : b ≡ shown (length ss) x.offset x.len) where
         item-told : b ≡ shown (length s.strings) (item_word s k 0) (item_word s k 1)
         item-told = g ∙ λ j. shown (length (sym q j)) ((an_item s k r e x h).1 j).offset ((an_item s k r e x h).1 j).len
 
-        pub item-hidden : b ≡ false → item.NotFound ≡ item_entry s k
+        pub item-hidden : b ≡ false → None ≡ item_entry s k
         unfolding item_entry
         item-hidden n = rw ((an_item s k r e x h).0, ← item-told, n)
 
         pub item-shown : b ≡ true → (v : ℤ) → v ≡ signed x.value
-            → item.Item (record { name = span x.offset x.len; value = v }) ≡ item_entry s k
+            → Some (record { name = span x.offset x.len; value = v }) ≡ item_entry s k
         unfolding item_entry
         item-shown y v p =
             rw ((an_item s k r e x h).0, ← item-told, y, p)
-            (λ j. let z = (an_item s k r e x h).1 j in item.Item (record { name = span z.offset z.len; value = signed z.value }))
+            (λ j. let z = (an_item s k r e x h).1 j in Some (record { name = span z.offset z.len; value = signed z.value }))
 
-  module _ (d : ℕ) (r : DefinitionFound) (e : r ≡ definition_found s d) where
-    pub definition-missing : r ≡ row.NotFound → definition.NotFound ≡ definition_query s d
+  module _ (d : ℕ) (r : Option Definition) (e : r ≡ definition_found s d) where
+    pub definition-missing : r ≡ None → None ≡ definition_query s d
     unfolding definition_query
     definition-missing h = rw (no_definition s d r e h)
 
-    module _ (x : Definition) (h : r ≡ row.Definition x) (b : Bool) (g : b ≡ shown (length ss) x.offset x.len) where
+    module _ (x : Definition) (h : r ≡ Some x) (b : Bool) (g : b ≡ shown (length ss) x.offset x.len) where
       definition-told : b ≡ shown (length s.strings) (definition_word s d 0) (definition_word s d 1)
       definition-told = g ∙ λ j. shown (length (sym q j)) ((a_definition s d r e x h).1 j).offset ((a_definition s d r e x h).1 j).len
 
-      pub definition-hidden : b ≡ false → definition.NotFound ≡ definition_query s d
+      pub definition-hidden : b ≡ false → None ≡ definition_query s d
       unfolding definition_query
       definition-hidden n = rw ((a_definition s d r e x h).0, ← definition-told, n)
 
-      pub definition-shown : b ≡ true → definition.Definition (record { name = span x.offset x.len; items = x.count }) ≡ definition_query s d
+      pub definition-shown : b ≡ true → Some (record { name = span x.offset x.len; items = x.count }) ≡ definition_query s d
       unfolding definition_query
       definition-shown y =
           rw ((a_definition s d r e x h).0, ← definition-told, y)
-          (λ j. let z = (a_definition s d r e x h).1 j in definition.Definition (record { name = span z.offset z.len; items = z.count }))
+          (λ j. let z = (a_definition s d r e x h).1 j in Some (record { name = span z.offset z.len; items = z.count }))
 
   -- a text by its place
   module _ (t : Span) (b : Bool) (g : b ≡ shown (length ss) t.offset t.len) where
-    pub text-hidden : b ≡ false → text.NotFound ≡ text_query s t
+    pub text-hidden : b ≡ false → None ≡ text_query s t
     unfolding text_query
     text-hidden n = rw (q, ← g, n)
 
-    pub text-shown : b ≡ true → text.Text t ≡ text_query s t
+    pub text-shown : b ≡ true → Some t ≡ text_query s t
     unfolding text_query
     text-shown y = rw (q, ← g, y)
 
 -- the j-th item of a definition
-module _ (s : Sections) (d j : ℕ) (r : DefinitionFound) (e : r ≡ definition_found s d) where
-  pub items-missing : r ≡ row.NotFound → item.NotFound ≡ item_query s d j
+module _ (s : Sections) (d j : ℕ) (r : Option Definition) (e : r ≡ definition_found s d) where
+  pub items-missing : r ≡ None → None ≡ item_query s d j
   unfolding item_query
   items-missing h = rw (no_definition s d r e h)
 
-  module _ (x : Definition) (h : r ≡ row.Definition x) where
+  module _ (x : Definition) (h : r ≡ Some x) where
     same-definition : x ≡ definition_in s d
     same-definition = (a_definition s d r e x h).1
 
-    pub items-past : x.count ≤ j → item.NotFound ≡ item_query s d j
+    pub items-past : x.count ≤ j → None ≡ item_query s d j
     unfolding item_query
     items-past l = rw ((a_definition s d r e x h).0, le-ltb j (number_of_items s d) (rw (ap (λ (y : Definition). y.count) same-definition) at l))
 
-    pub items-found : j < x.count → (a : ItemAnswer) → a ≡ item_entry s (x.first + j) → a ≡ item_query s d j
+    pub items-found : j < x.count → (a : Option ItemView) → a ≡ item_entry s (x.first + j) → a ≡ item_query s d j
     unfolding item_query
     items-found l a g =
         rw ((a_definition s d r e x h).0, lt-ltb j (number_of_items s d) (rw (ap (λ (y : Definition). y.count) same-definition) at l))
@@ -245,52 +230,52 @@ module _ (strings at len : ℕ) where
 -- ---- entries of a list value
 
 module _ (payload strings : List ℕ) (j : ℕ) where
-  pub list-short : length payload < list_head_size + j * list_item_size + list_item_size → list.NotFound ≡ list_entry payload strings j
+  pub list-short : length payload < list_head_size + j * list_item_size + list_item_size → None ≡ list_entry payload strings j
   unfolding list_entry
   list-short h = rw (lt-leb (list_head_size + j * list_item_size + list_item_size) (length payload) h)
 
   module _ (long : list_head_size + j * list_item_size + list_item_size ≤ length payload) where
-    pub list-past : (w : ℕ) → w ≡ word_at payload 0 → w ≤ j → list.NotFound ≡ list_entry payload strings j
+    pub list-past : (w : ℕ) → w ≡ word_at payload 0 → w ≤ j → None ≡ list_entry payload strings j
     unfolding list_entry
     list-past w e h = rw (le-leb (list_head_size + j * list_item_size + list_item_size) (length payload) long, ← e, le-ltb j w h)
 
     module _ (w : ℕ) (e : w ≡ word_at payload 0) (h : j < w) (at len : ℕ) (a : at ≡ word_at payload (list_head_size + j * list_item_size + 8)) (l : len ≡ word_at payload (list_head_size + j * list_item_size + 12))
         (b : Bool) (g : b ≡ shown (length strings) at len) where
-      pub list-hidden : not b ≡ true → list.NotFound ≡ list_entry payload strings j
+      pub list-hidden : not b ≡ true → None ≡ list_entry payload strings j
       unfolding list_entry
       list-hidden n = rw (le-leb (list_head_size + j * list_item_size + list_item_size) (length payload) long, ← e, lt-ltb j w h, ← a, ← l, ← g, not-true b n)
 
       pub list-shown : not b ≡ false → (o p v : ℕ) → o ≡ word_at payload (list_head_size + j * list_item_size) → p ≡ word_at payload (list_head_size + j * list_item_size + 4)
-          → v ≡ word_at payload (list_head_size + j * list_item_size + 16) → (origin : OptionalText) → origin ≡ optional_text (length strings) o p → (value : ℤ) → value ≡ signed v
-          → list.Entry (record { origin = origin; name = span at len; value = value }) ≡ list_entry payload strings j
+          → v ≡ word_at payload (list_head_size + j * list_item_size + 16) → (origin : Option Span) → origin ≡ optional_text (length strings) o p → (value : ℤ) → value ≡ signed v
+          → Some (record { origin = origin; name = span at len; value = value }) ≡ list_entry payload strings j
       unfolding list_entry
       list-shown n o p v oe pe ve origin f value z =
           rw (le-leb (list_head_size + j * list_item_size + list_item_size) (length payload) long, ← e, lt-ltb j w h, ← a, ← l, ← g, not-false b n, f, z, oe, pe, ve, add-zero (list_head_size + j * list_item_size))
 
   -- ---- origins
 
-  pub origin-none : length payload < 8 → text.NotFound ≡ list_origin payload strings j
+  pub origin-none : length payload < 8 → None ≡ list_origin payload strings j
   unfolding list_origin
   origin-none h = rw (lt-leb (list_head_size + word_at payload 0 * list_item_size + j * list_origin_size + list_origin_size) (length payload) (omega arith))
 
   module _ (w : ℕ) (e : w ≡ word_at payload 0) where
-    pub origin-short : length payload < list_head_size + w * list_item_size + j * list_origin_size + list_origin_size → text.NotFound ≡ list_origin payload strings j
+    pub origin-short : length payload < list_head_size + w * list_item_size + j * list_origin_size + list_origin_size → None ≡ list_origin payload strings j
     unfolding list_origin
     origin-short h = rw (← e, lt-leb (list_head_size + w * list_item_size + j * list_origin_size + list_origin_size) (length payload) h)
 
     module _ (long : list_head_size + w * list_item_size + j * list_origin_size + list_origin_size ≤ length payload) (n : ℕ) (c : n ≡ word_at payload 4) where
-      pub origin-past : n ≤ j → text.NotFound ≡ list_origin payload strings j
+      pub origin-past : n ≤ j → None ≡ list_origin payload strings j
       unfolding list_origin
       origin-past h = rw (← e, le-leb (list_head_size + w * list_item_size + j * list_origin_size + list_origin_size) (length payload) long, ← c, le-ltb j n h)
 
       module _ (h : j < n) (at len : ℕ) (a : at ≡ word_at payload (list_head_size + w * list_item_size + j * list_origin_size)) (l : len ≡ word_at payload (list_head_size + w * list_item_size + j * list_origin_size + 4))
           (b : Bool) (g : b ≡ shown (length strings) at len) where
-        pub origin-hidden : b ≡ false → text.NotFound ≡ list_origin payload strings j
+        pub origin-hidden : b ≡ false → None ≡ list_origin payload strings j
         unfolding list_origin
         origin-hidden y =
             rw (← e, le-leb (list_head_size + w * list_item_size + j * list_origin_size + list_origin_size) (length payload) long, ← c, lt-ltb j n h, add-zero (list_head_size + w * list_item_size + j * list_origin_size), ← a, ← l, ← g, y)
 
-        pub origin-shown : b ≡ true → text.Text (span at len) ≡ list_origin payload strings j
+        pub origin-shown : b ≡ true → Some (span at len) ≡ list_origin payload strings j
         unfolding list_origin
         origin-shown y =
             rw (← e, le-leb (list_head_size + w * list_item_size + j * list_origin_size + list_origin_size) (length payload) long, ← c, lt-ltb j n h, add-zero (list_head_size + w * list_item_size + j * list_origin_size), ← a, ← l, ← g, y)

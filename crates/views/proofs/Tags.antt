@@ -1,4 +1,5 @@
 -- The decision over the tag's number answers what the record's kind shows.
+use Rattle.std.specs.Prelude.{None, Option, Some, ℕ}
 use Prim.Native.Nat.{ℕ, ◌≤◌, ◌<◌}
 use mathlib.Core.Path.{◌≡◌, refl, sym, ap, ◌∙◌}
 use mathlib.Core.Logic.{◌⊎◌, inl, inr, ⊎_elim}
@@ -12,22 +13,18 @@ use Rattle.records.specs.Fields.{kinds, kind_of}
 use Rattle.records.proofs.ByKind.{past-kinds}
 use borrow.Author.Tests.{ne_eqb}
 use Rattle.views.specs.declared.Span.{Span}
-use Rattle.views.specs.declared.OptionalText.{OptionalText}
-use Rattle.views.specs.declared.OptionalText.TheVariants as text
-use Rattle.views.specs.declared.OptionalWord.{OptionalWord}
 use Rattle.views.specs.declared.NodeKindView.TheVariants as kind
-use Rattle.views.specs.declared.KindAnswer.{KindAnswer}
-use Rattle.views.specs.declared.KindAnswer.TheVariants as kindly
 use Rattle.views.specs.View.{span, shown, optional_text, optional_word, with_text, kind_view}
 use Rattle.views.specs.Shown.{container_view, divert_view, command_view, operator_view, list_view, with_name, text_kind}
 use Rattle.views.proofs.Reading.{missing, there}
+use Rattle.views.specs.declared.NodeKindView.{NodeKindView}
 
 -- the answer at a tag that is known
-pub at_tag : (strings : List ℕ) (payload : ℕ) (r : NodeRecord) (k : ℕ) → r.tag ≡ k → (a : KindAnswer) → a ≡ kind_view strings payload r (kind_of k)
+pub at_tag : (strings : List ℕ) (payload : ℕ) (r : NodeRecord) (k : ℕ) → r.tag ≡ k → (a : Option NodeKindView) → a ≡ kind_view strings payload r (kind_of k)
     → a ≡ kind_view strings payload r (kind_of r.tag)
 at_tag strings payload r k e a h = h ∙ ap (λ (t : ℕ). kind_view strings payload r (kind_of t)) (sym e)
 
-module _ (strings : List ℕ) (payload : ℕ) (r : NodeRecord) (a : KindAnswer) where
+module _ (strings : List ℕ) (payload : ℕ) (r : NodeRecord) (a : Option NodeKindView) where
   abbrev Right : ℕ → Type 0
   Right t = a ≡ kind_view strings payload r (kind_of t)
 
@@ -67,10 +64,10 @@ module _ (strings : List ℕ) (payload : ℕ) (r : NodeRecord) (a : KindAnswer) 
 
 -- a tag of no kind
 pub at_unknown : (strings : List ℕ) (payload : ℕ) (r : NodeRecord) → (r.tag ≡ 0) ⊎ ((r.tag ≡ 15) ⊎ (19 ≤ r.tag))
-    → kindly.NotFound ≡ kind_view strings payload r (kind_of r.tag)
+    → None ≡ kind_view strings payload r (kind_of r.tag)
 unfolding kind_view kinds
-at_unknown strings payload r (inl e) = at_tag strings payload r 0 e kindly.NotFound refl
-at_unknown strings payload r (inr (inl e)) = at_tag strings payload r 15 e kindly.NotFound refl
+at_unknown strings payload r (inl e) = at_tag strings payload r 0 e None refl
+at_unknown strings payload r (inr (inl e)) = at_tag strings payload r 15 e None refl
 at_unknown strings payload r (inr (inr l)) = ap (kind_view strings payload r) (sym (past-kinds r.tag l))
 
 -- ---- tags in the decision's ranges
@@ -98,36 +95,36 @@ fifteen t r h l =
 pub from_nineteen : (t : ℕ) → Rest t → 18 ≤ t → 19 ≤ t
 from_nineteen t r h = up 18 t h r.1
 
-text-apart : (x : Span) → text.Present x ≡ text.Absent → ⊥
+text-apart : (x : Span) → Some x ≡ None → ⊥
 text-apart x h = let z : ◌≡◌ {A = ℕ} 0 1 = cc in omega arith
 
-text-equal : (x y : Span) → text.Present x ≡ text.Present y → x ≡ y
+text-equal : (x y : Span) → Some x ≡ Some y → x ≡ y
 text-equal x y h = cc
 
 -- ---- a kind that is made of a text
 
 -- by the tag, the text being there
-pub name_at_lem : (strings : List ℕ) (r : NodeRecord) (t : Span) (k : ℕ) → r.tag ≡ k → (a : KindAnswer) → a ≡ with_name k strings r t
+pub name_at_lem : (strings : List ℕ) (r : NodeRecord) (t : Span) (k : ℕ) → r.tag ≡ k → (a : Option NodeKindView) → a ≡ with_name k strings r t
     → a ≡ with_name r.tag strings r t
 name_at_lem strings r t k e a h = h ∙ ap (λ (x : ℕ). with_name x strings r t) (sym e)
 
 -- by the text
-module _ (strings : List ℕ) (r : NodeRecord) (a : KindAnswer) where
-  module _ (o : OptionalText) (e : o ≡ optional_text (length strings) r.f0 r.f1) where
-    pub text-absent : o ≡ text.Absent → a ≡ kindly.NotFound → a ≡ text_kind r.tag strings r
+module _ (strings : List ℕ) (r : NodeRecord) (a : Option NodeKindView) where
+  module _ (o : Option Span) (e : o ≡ optional_text (length strings) r.f0 r.f1) where
+    pub text-absent : o ≡ None → a ≡ None → a ≡ text_kind r.tag strings r
     unfolding text_kind with_text optional_text
     text-absent h q =
-        rw (missing text.Present text.Absent text-apart text-equal (shown (length strings) r.f0 r.f1) (span r.f0 r.f1) o e h) q
+        rw (missing Some None text-apart text-equal (shown (length strings) r.f0 r.f1) (span r.f0 r.f1) o e h) q
 
-    pub text-present : (t : Span) → o ≡ text.Present t → a ≡ with_name r.tag strings r t → a ≡ text_kind r.tag strings r
+    pub text-present : (t : Span) → o ≡ Some t → a ≡ with_name r.tag strings r t → a ≡ text_kind r.tag strings r
     unfolding text_kind with_text optional_text
     text-present t h q =
-        let known = there text.Present text.Absent text-apart text-equal (shown (length strings) r.f0 r.f1) (span r.f0 r.f1) t o e h in
+        let known = there Some None text-apart text-equal (shown (length strings) r.f0 r.f1) (span r.f0 r.f1) t o e h in
         rw known.0 (q ∙ ap (with_name r.tag strings r) known.1)
 
 -- the tag is none of those before
 pub name-other : (strings : List ℕ) (r : NodeRecord) (t : Span) (n : ℕ) → (n ≡ 3 → ⊥) → (n ≡ 6 → ⊥) → (n ≡ 7 → ⊥) → (n ≡ 11 → ⊥) → (n ≡ 13 → ⊥)
-    → (n ≡ 14 → ⊥) → (n ≡ 16 → ⊥) → (w : OptionalWord) → w ≡ optional_word r.f4 → kindly.Kind (kind.VariableReference t w) ≡ with_name n strings r t
+    → (n ≡ 14 → ⊥) → (n ≡ 16 → ⊥) → (w : Option ℕ) → w ≡ optional_word r.f4 → Some (kind.VariableReference t w) ≡ with_name n strings r t
 unfolding with_name
 name-other strings r t n a b c d e f g w q =
     rw (ne_eqb n 3 a, ne_eqb n 6 b, ne_eqb n 7 c, ne_eqb n 11 d, ne_eqb n 13 e, ne_eqb n 14 f, ne_eqb n 16 g, q)

@@ -18,19 +18,6 @@ pub struct Span {
 }
 
 #[derive(Clone, Copy)]
-pub enum OptionalText {
-    Present(Span),
-    Absent,
-}
-
-// A node or a place.
-#[derive(Clone, Copy)]
-pub enum OptionalWord {
-    Present(u32),
-    Absent,
-}
-
-#[derive(Clone, Copy)]
 pub enum PushPopType {
     Tunnel,
     Function,
@@ -53,17 +40,17 @@ pub enum ValueView {
 pub enum NodeKindView {
     Container {
         count_flags: i32,
-        name: OptionalText,
+        name: Option<Span>,
     },
     ChoicePoint {
         flags: i32,
-        target: OptionalWord,
+        target: Option<u32>,
     },
     ControlCommand(CommandType),
     Divert {
-        path: OptionalText,
-        target: OptionalWord,
-        variable_name: OptionalText,
+        path: Option<Span>,
+        target: Option<u32>,
+        variable_name: Option<Span>,
         external_args: u32,
         conditional: bool,
         external: bool,
@@ -81,42 +68,16 @@ pub enum NodeKindView {
     },
     VariableReference {
         name: Span,
-        count_target: OptionalWord,
+        count_target: Option<u32>,
     },
     Void,
 }
 
 #[derive(Clone, Copy)]
 pub struct NodeView {
-    pub parent: OptionalWord,
-    pub child_index: OptionalWord,
+    pub parent: Option<u32>,
+    pub child_index: Option<u32>,
     pub kind: NodeKindView,
-}
-
-// The kind of a node, where its tag and fields give one.
-#[derive(Clone, Copy)]
-pub enum KindAnswer {
-    Kind(NodeKindView),
-    NotFound,
-}
-
-#[derive(Clone, Copy)]
-pub enum NodeAnswer {
-    View(NodeView),
-    NotFound,
-}
-
-// A node that a query finds: a child, a named child, the end of a walk.
-#[derive(Clone, Copy)]
-pub enum Found {
-    Node(u32),
-    NotFound,
-}
-
-#[derive(Clone, Copy)]
-pub enum Count {
-    Of(u32),
-    NotFound,
 }
 
 #[derive(Clone, Copy)]
@@ -125,30 +86,12 @@ pub struct NamedChildView {
     pub node: u32,
 }
 
-#[derive(Clone, Copy)]
-pub enum NamedAnswer {
-    Named(NamedChildView),
-    NotFound,
-}
-
-#[derive(Clone, Copy)]
-pub enum TextAnswer {
-    Text(Span),
-    NotFound,
-}
-
 // An entry of a list value.
 #[derive(Clone, Copy)]
 pub struct ListEntry {
-    pub origin: OptionalText,
+    pub origin: Option<Span>,
     pub name: Span,
     pub value: i32,
-}
-
-#[derive(Clone, Copy)]
-pub enum EntryAnswer {
-    Entry(ListEntry),
-    NotFound,
 }
 
 // A list definition: its name and how many items it has.
@@ -158,21 +101,9 @@ pub struct DefinitionView {
     pub items: u32,
 }
 
-#[derive(Clone, Copy)]
-pub enum DefinitionAnswer {
-    Definition(DefinitionView),
-    NotFound,
-}
-
 // An item of a definition.
 #[derive(Clone, Copy)]
 pub struct ItemView {
     pub name: Span,
     pub value: i32,
-}
-
-#[derive(Clone, Copy)]
-pub enum ItemAnswer {
-    Item(ItemView),
-    NotFound,
 }

@@ -7,14 +7,9 @@ ghost use Rattle.image.specs.Header.{sections_by};
 ghost use Rattle.views.specs.View.{signed, shown, optional_text, optional_word, push_type, kind_view, record_view, node_view};
 ghost use Rattle.views.specs.Shown.{text_kind, with_name, container_view, divert_view, command_view, operator_view, list_view};
 
-use crate::entries::{RecordFound, node_of};
-use crate::{
-    KindAnswer, NodeAnswer, NodeKindView, NodeView, OptionalText, OptionalWord, PushPopType, Span,
-    ValueView,
-};
+use crate::entries::node_of;
+use crate::{NodeKindView, NodeView, PushPopType, Span, ValueView};
 use image::{ImageView, NONE, NodeRecord, tag};
-use names::control_command::Command;
-use names::native_function_call::Operator;
 
 // The number that these bits are, taken as signed.
 pub fn signed_of(word: u32) -> i32
@@ -53,25 +48,21 @@ pub fn is_shown(strings: usize, offset: u32, len: u32) -> bool
 }
 
 // A text, if it is present and inside.
-pub fn optional_text(strings: usize, offset: u32, len: u32) -> OptionalText
+pub fn optional_text(strings: usize, offset: u32, len: u32) -> Option<Span>
     ensures { result ≡ optional_text strings offset len }
 {
     if is_shown(strings, offset, len) {
-        OptionalText::Present(Span { offset, len })
+        Some(Span { offset, len })
     } else {
-        OptionalText::Absent
+        None
     }
 }
 
 // A word, if it is present.
-fn optional_word(word: u32) -> OptionalWord
+fn optional_word(word: u32) -> Option<u32>
     ensures { result ≡ optional_word word }
 {
-    if word == NONE {
-        OptionalWord::Absent
-    } else {
-        OptionalWord::Present(word)
-    }
+    if word == NONE { None } else { Some(word) }
 }
 
 // What a divert pushes, by the number in its flags.
@@ -86,28 +77,28 @@ fn push_type(n: u32) -> PushPopType
 }
 
 // A container by its record: its optional name and its flags.
-fn container(node: NodeRecord, strings: usize) -> KindAnswer
+fn container(node: NodeRecord, strings: usize) -> Option<NodeKindView>
     ensures { result ≡ container_view strings node }
 {
     let count_flags = signed_of(node.f2);
     let name = optional_text(strings, node.f0, node.f1);
-    KindAnswer::Kind(NodeKindView::Container { count_flags, name })
+    Some(NodeKindView::Container { count_flags, name })
 }
 
 // A divert by its record: where it leads, and what its flags say.
-fn divert(node: NodeRecord, strings: usize) -> KindAnswer
+fn divert(node: NodeRecord, strings: usize) -> Option<NodeKindView>
     ensures { result ≡ divert_view strings node }
 {
     let flags = node.f6;
     let stack = flags / 8;
     if 2 < stack {
-        return KindAnswer::NotFound;
+        return None;
     }
     let path = optional_text(strings, node.f0, node.f1);
     let target = optional_word(node.f2);
     let variable_name = optional_text(strings, node.f3, node.f4);
     let stack_push_type = push_type(stack);
-    KindAnswer::Kind(NodeKindView::Divert {
+    Some(NodeKindView::Divert {
         path,
         target,
         variable_name,
@@ -120,38 +111,34 @@ fn divert(node: NodeRecord, strings: usize) -> KindAnswer
 }
 
 // The command that a text names.
-fn command(name: &[u8]) -> KindAnswer
+fn command(name: &[u8]) -> Option<NodeKindView>
     ensures { result ≡ command_view name.now }
 {
-    match names::control_command::new_from_name(name) {
-        Command::Known(command) => KindAnswer::Kind(NodeKindView::ControlCommand(command)),
-        Command::Unknown => KindAnswer::NotFound,
-    }
+    let command = names::control_command::new_from_name(name)?;
+    Some(NodeKindView::ControlCommand(command))
 }
 
 // The operator that a text names.
-fn operator(name: &[u8]) -> KindAnswer
+fn operator(name: &[u8]) -> Option<NodeKindView>
     ensures { result ≡ operator_view name.now }
 {
-    match names::native_function_call::new_from_name(name) {
-        Operator::Known(op) => KindAnswer::Kind(NodeKindView::NativeFunction(op)),
-        Operator::Unknown => KindAnswer::NotFound,
-    }
+    let op = names::native_function_call::new_from_name(name)?;
+    Some(NodeKindView::NativeFunction(op))
 }
 
 // A list value, if its payload is inside.
-fn list(payload: usize, start: u32, len: u32) -> KindAnswer
+fn list(payload: usize, start: u32, len: u32) -> Option<NodeKindView>
     ensures { result ≡ list_view payload start len }
 {
     if start as usize + len as usize <= payload {
-        KindAnswer::Kind(NodeKindView::Value(ValueView::List(Span { offset: start, len })))
+        Some(NodeKindView::Value(ValueView::List(Span { offset: start, len })))
     } else {
-        KindAnswer::NotFound
+        None
     }
 }
 
 // A kind that is made of its text, by the tag.
-fn with_name(node: NodeRecord, name: Span, strings: &[u8]) -> KindAnswer
+fn with_name(node: NodeRecord, name: Span, strings: &[u8]) -> Option<NodeKindView>
     ensures { result ≡ with_name node.tag strings.now node name }
 {
     let node_tag = node.tag;
@@ -159,19 +146,19 @@ fn with_name(node: NodeRecord, name: Span, strings: &[u8]) -> KindAnswer
     match node_tag {
         tag::COMMAND => command(image::text_part(strings, name.offset, name.len)),
         tag::OPERATOR => operator(image::text_part(strings, name.offset, name.len)),
-        tag::TAG => KindAnswer::Kind(NodeKindView::Tag(name)),
-        tag::STRING_VALUE => KindAnswer::Kind(NodeKindView::Value(ValueView::String(name))),
-        tag::TARGET_VALUE => KindAnswer::Kind(NodeKindView::Value(ValueView::DivertTarget(name))),
-        tag::POINTER_VALUE => KindAnswer::Kind(NodeKindView::Value(ValueView::VariablePointer {
+        tag::TAG => Some(NodeKindView::Tag(name)),
+        tag::STRING_VALUE => Some(NodeKindView::Value(ValueView::String(name))),
+        tag::TARGET_VALUE => Some(NodeKindView::Value(ValueView::DivertTarget(name))),
+        tag::POINTER_VALUE => Some(NodeKindView::Value(ValueView::VariablePointer {
             name,
             context_index: signed_of(flags),
         })),
-        tag::ASSIGNMENT => KindAnswer::Kind(NodeKindView::VariableAssignment {
+        tag::ASSIGNMENT => Some(NodeKindView::VariableAssignment {
             name,
             global: flags % 2 != 0,
             new_declaration: flags / 2 % 2 != 0,
         }),
-        _ => KindAnswer::Kind(NodeKindView::VariableReference {
+        _ => Some(NodeKindView::VariableReference {
             name,
             count_target: optional_word(node.f4),
         }),
@@ -179,72 +166,62 @@ fn with_name(node: NodeRecord, name: Span, strings: &[u8]) -> KindAnswer
 }
 
 // The same, where the text is present and inside.
-fn text_kind(node: NodeRecord, strings: &[u8]) -> KindAnswer
+fn text_kind(node: NodeRecord, strings: &[u8]) -> Option<NodeKindView>
     ensures { result ≡ text_kind node.tag strings.now node }
 {
-    match optional_text(strings.len(), node.f0, node.f1) {
-        OptionalText::Absent => KindAnswer::NotFound,
-        OptionalText::Present(name) => with_name(node, name, strings),
-    }
+    let name = optional_text(strings.len(), node.f0, node.f1)?;
+    with_name(node, name, strings)
 }
 
 // The kind that a record gives: one decision over the tag's number.
-fn kind_view(node: NodeRecord, payload: usize, strings: &[u8]) -> KindAnswer
+fn kind_view(node: NodeRecord, payload: usize, strings: &[u8]) -> Option<NodeKindView>
     ensures { result ≡ kind_view strings.now payload node (kind_of node.tag) }
 {
     let node_tag = node.tag;
     match node_tag {
         tag::CONTAINER => container(node, strings.len()),
-        tag::CHOICE => KindAnswer::Kind(NodeKindView::ChoicePoint {
+        tag::CHOICE => Some(NodeKindView::ChoicePoint {
             flags: signed_of(node.f3),
             target: optional_word(node.f2),
         }),
         tag::DIVERT => divert(node, strings.len()),
-        tag::GLUE => KindAnswer::Kind(NodeKindView::Glue),
+        tag::GLUE => Some(NodeKindView::Glue),
         tag::COMMAND | tag::STRING_VALUE | tag::TARGET_VALUE => text_kind(node, strings),
         tag::OPERATOR..=tag::TAG => text_kind(node, strings),
-        tag::BOOL_VALUE => KindAnswer::Kind(NodeKindView::Value(ValueView::Bool(node.f0 != 0))),
-        tag::INT_VALUE => KindAnswer::Kind(NodeKindView::Value(ValueView::Int(signed_of(node.f0)))),
-        tag::FLOAT_VALUE => KindAnswer::Kind(NodeKindView::Value(ValueView::Float {
+        tag::BOOL_VALUE => Some(NodeKindView::Value(ValueView::Bool(node.f0 != 0))),
+        tag::INT_VALUE => Some(NodeKindView::Value(ValueView::Int(signed_of(node.f0)))),
+        tag::FLOAT_VALUE => Some(NodeKindView::Value(ValueView::Float {
             bits: node.f0,
             value: float_of(node.f0),
         })),
         tag::LIST_VALUE => list(payload, node.f0, node.f1),
         tag::POINTER_VALUE => text_kind(node, strings),
         tag::ASSIGNMENT..=tag::REFERENCE => text_kind(node, strings),
-        tag::VOID => KindAnswer::Kind(NodeKindView::Void),
-        _ => KindAnswer::NotFound,
+        tag::VOID => Some(NodeKindView::Void),
+        _ => None,
     }
 }
 
 // The view of a node, beside a payload of so many bytes and the strings.
-pub fn record_view(node: NodeRecord, payload: usize, strings: &[u8]) -> NodeAnswer
+pub fn record_view(node: NodeRecord, payload: usize, strings: &[u8]) -> Option<NodeView>
     ensures { result ≡ record_view strings.now payload node }
 {
-    match kind_view(node, payload, strings) {
-        KindAnswer::NotFound => NodeAnswer::NotFound,
-        KindAnswer::Kind(kind) => {
-            let parent = optional_word(node.parent);
-            let child_index = optional_word(node.place);
-            NodeAnswer::View(NodeView {
-                parent,
-                child_index,
-                kind,
-            })
-        }
-    }
+    let kind = kind_view(node, payload, strings)?;
+    let parent = optional_word(node.parent);
+    let child_index = optional_word(node.place);
+    Some(NodeView {
+        parent,
+        child_index,
+        kind,
+    })
 }
 
 // Node `id` as a reader sees it: its parent, its place and its kind.
-pub fn node_view(bytes: &[u8], view: ImageView, id: u32) -> NodeAnswer
+pub fn node_view(bytes: &[u8], view: ImageView, id: u32) -> Option<NodeView>
     ensures { result ≡ node_view (sections_by bytes.now view) id }
 {
-    match node_of(bytes, view, id) {
-        RecordFound::NotFound => NodeAnswer::NotFound,
-        RecordFound::Record(node) => {
-            let payload = image::section_part(bytes, view.payload, ImageView::PAYLOAD_SIZE);
-            let strings = image::section_part(bytes, view.strings, ImageView::STRINGS_SIZE);
-            record_view(node, payload.len(), strings)
-        }
-    }
+    let node = node_of(bytes, view, id)?;
+    let payload = image::section_part(bytes, view.payload, ImageView::PAYLOAD_SIZE);
+    let strings = image::section_part(bytes, view.strings, ImageView::STRINGS_SIZE);
+    record_view(node, payload.len(), strings)
 }

@@ -1,10 +1,10 @@
 -- Where a walk ends: among the numbers that entries and parents are, so at a node if these are nodes.
+use Rattle.std.specs.Prelude.{None, Option, Some, ℕ}
 use Prim.Native.Nat.{ℕ, zero, ◌+◌, ◌*◌, ◌≤◌, ◌<◌}
 use mathlib.Core.Path.{◌≡◌, refl, ap, ◌∙◌, subst}
 use mathlib.Core.Logic.{◌≢◌}
 use mathlib.Core.List.{List, [], ◌∷◌}
 use mathlib.Core.Bool.{Bool, true, false, cond, ◌&&◌, not}
-use mathlib.Core.Option.{Option, none, some}
 use native.Mathlib.Omega.{arith}
 use native.Mathlib.Decide.{ℕ_discrete}
 use lib.ListN.{drop, get_or}
@@ -14,8 +14,6 @@ use Rattle.laws.proofs.Flags.{both_true}
 use Rattle.words.specs.Words.{NONE, is_none}
 use Rattle.image.specs.Sections.{Sections, text_entry_words, node_count, child_count, named_count, parent_of, f, child_word, named_word, inside, is_container, inside_container}
 use Rattle.image.proofs.Tests.{inside-true}
-use Rattle.views.specs.declared.Found.{Found}
-use Rattle.views.specs.declared.Found.TheVariants.{Node, NotFound}
 use Rattle.views.specs.Children.{child_query}
 use Rattle.lookups.specs.Lookup.{entry_text, searched, found_at, named_by, find_named}
 use Rattle.lookups.proofs.HalvingSearch.{found-there}
@@ -29,22 +27,22 @@ pub record Closed (s : Sections) (P : ℕ → Type 0) : Type 0 where
   pub named : (j : ℕ) → j < named_count s → P (named_word s j 2)
 
 -- what is found is one of them
-abbrev pub Ends : (ℕ → Type 0) → Found → Type 0
-Ends P r = (n : ℕ) → r ≡ Node n → P n
+abbrev pub Ends : (ℕ → Type 0) → Option ℕ → Type 0
+Ends P r = (n : ℕ) → r ≡ Some n → P n
 
-pub node-equal : (m n : ℕ) → ◌≡◌ {A = Found} (Node m) (Node n) → m ≡ n
+pub node-equal : (m n : ℕ) → ◌≡◌ {A = (Option ℕ)} (Some m) (Some n) → m ≡ n
 node-equal m n h = cc
 
-pub nothing : (n : ℕ) → ◌≡◌ {A = Found} NotFound (Node n) → ⊥
+pub nothing : (n : ℕ) → ◌≡◌ {A = (Option ℕ)} None (Some n) → ⊥
 nothing n h = let z : ◌≡◌ {A = ℕ} 0 1 = cc in omega arith
 
 -- where a test decides what is found
-pub found_if : (b : Bool) (r : Found) (n : ℕ) → cond b r NotFound ≡ Node n → (b ≡ true) × (r ≡ Node n)
+pub found_if : (b : Bool) (r : Option ℕ) (n : ℕ) → cond b r None ≡ Some n → (b ≡ true) × (r ≡ Some n)
 found_if true r n h = (refl, h)
 found_if false r n h = absurd (nothing n h)
 
 module _ (s : Sections) (P : ℕ → Type 0) (c : Closed s P) where
-  node-ends : (i : ℕ) → P i → Ends P (Node i)
+  node-ends : (i : ℕ) → P i → Ends P (Some i)
   node-ends i g n h = subst P (node-equal i n h) g
 
   -- ---- a step
@@ -52,14 +50,14 @@ module _ (s : Sections) (P : ℕ → Type 0) (c : Closed s P) where
   parent-ends : (i : ℕ) → Ends P (parent_query s i)
   unfolding parent_query
   parent-ends i n h =
-      let t = found_if (inside s i && not (is_none (parent_of s i))) (Node (parent_of s i)) n h in
+      let t = found_if (inside s i && not (is_none (parent_of s i))) (Some (parent_of s i)) n h in
       let p = both_true (inside s i) (not (is_none (parent_of s i))) t.0 in
       node-ends (parent_of s i) (c.parents i p.0 (eqb-false (parent_of s i) NONE (not-true (is_none (parent_of s i)) p.1))) n t.1
 
   child-ends : (i j : ℕ) → Ends P (child_query s i j)
   unfolding child_query
   child-ends i j n h =
-      let t = found_if (inside_container s i && ltb j (f s i 4) && ltb (f s i 3 + j) (child_count s)) (Node (child_word s (f s i 3 + j))) n h in
+      let t = found_if (inside_container s i && ltb j (f s i 4) && ltb (f s i 3 + j) (child_count s)) (Some (child_word s (f s i 3 + j))) n h in
       let p = both_true (inside_container s i && ltb j (f s i 4)) (ltb (f s i 3 + j) (child_count s)) t.0 in
       node-ends (child_word s (f s i 3 + j)) (c.children (f s i 3 + j) (ltb-true _ _ p.1)) n t.1
 
@@ -74,9 +72,9 @@ module _ (s : Sections) (P : ℕ → Type 0) (c : Closed s P) where
       let r = found_if (leb (f s i 5 + f s i 6) (named_count s)) (found_at (node_at i) (searched s.named s.strings (f s i 5) (f s i 6) name)) n t.1 in
       by (searched s.named s.strings (f s i 5) (f s i 6) name) refl (leb-true _ _ r.0) r.1
     where
-      by : (x : Option ℕ) → searched s.named s.strings (f s i 5) (f s i 6) name ≡ x → f s i 5 + f s i 6 ≤ named_count s → found_at (node_at i) x ≡ Node n → P n
-      by none e k q = absurd (nothing n q)
-      by (some j) e k q =
+      by : (x : Option ℕ) → searched s.named s.strings (f s i 5) (f s i 6) name ≡ x → f s i 5 + f s i 6 ≤ named_count s → found_at (node_at i) x ≡ Some n → P n
+      by None e k q = absurd (nothing n q)
+      by (Some j) e k q =
           let below = (found-there (λ y. entry_text s.named s.strings (f s i 5 + y)) name (f s i 6) 0 (f s i 6) j e).below in
           node-ends (node_at i j) (c.named (f s i 5 + j) (omega arith)) n q
 
@@ -89,11 +87,11 @@ module _ (s : Sections) (P : ℕ → Type 0) (c : Closed s P) where
 
   -- ---- a walk
 
-  from-ends : (at : Found) (x : Component) → Ends P (step_from s at x)
-  from-ends NotFound x n h = absurd (nothing n h)
-  from-ends (Node i) x n h = step-ends i x n h
+  from-ends : (at : Option ℕ) (x : Component) → Ends P (step_from s at x)
+  from-ends None x n h = absurd (nothing n h)
+  from-ends (Some i) x n h = step-ends i x n h
 
-  steps_end : (xs : List Component) (at : Found) → Ends P at → Ends P (steps s at xs)
+  steps_end : (xs : List Component) (at : Option ℕ) → Ends P at → Ends P (steps s at xs)
   unfolding steps
   steps_end [] at g n h = g n h
   steps_end (x ∷ xs) at g n h = steps_end xs (step_from s at x) (from-ends at x) n h
@@ -101,14 +99,14 @@ module _ (s : Sections) (P : ℕ → Type 0) (c : Closed s P) where
   pub walk_ends : P 0 → (relative : Bool) (origin : ℕ) → (inside s origin ≡ true → is_container s origin ≡ true → P origin)
       → (xs : List Component) → Ends P (resolve s relative origin xs)
   unfolding resolve
-  walk_ends z false origin g xs n h = steps_end xs (Node 0) (node-ends 0 z) n h
+  walk_ends z false origin g xs n h = steps_end xs (Some 0) (node-ends 0 z) n h
   walk_ends z true origin g xs n h =
-      let t = found_if (inside s origin) (cond (is_container s origin) (steps s (Node origin) xs) (steps s (parent_query s origin) (drop 1 xs))) n h in
+      let t = found_if (inside s origin) (cond (is_container s origin) (steps s (Some origin) xs) (steps s (parent_query s origin) (drop 1 xs))) n h in
       by (is_container s origin) refl t.0 t.1
     where
       by : (b : Bool) → is_container s origin ≡ b → inside s origin ≡ true
-          → cond b (steps s (Node origin) xs) (steps s (parent_query s origin) (drop 1 xs)) ≡ Node n → P n
-      by true e i q = steps_end xs (Node origin) (node-ends origin (g i e)) n q
+          → cond b (steps s (Some origin) xs) (steps s (parent_query s origin) (drop 1 xs)) ≡ Some n → P n
+      by true e i q = steps_end xs (Some origin) (node-ends origin (g i e)) n q
       by false e i q = steps_end (drop 1 xs) (parent_query s origin) (parent-ends origin) n q
 
 -- ---- nodes
@@ -121,7 +119,7 @@ pub record Leads (s : Sections) : Type 0 where
   pub children : (j : ℕ) → j < child_count s → inside s (child_word s j) ≡ true
   pub named : (j : ℕ) → j < named_count s → inside s (named_word s j 2) ≡ true
 
-abbrev pub EndsInside : Sections → Found → Type 0
+abbrev pub EndsInside : Sections → Option ℕ → Type 0
 EndsInside s r = Ends (λ n. inside s n ≡ true) r
 
 module _ (s : Sections) (l : Leads s) where

@@ -1,9 +1,7 @@
 -- A walk along a path.
-use Rattle.std.specs.Prelude.{ℕ, ◌+◌, List, [], ◌∷◌, Bool, true, false, cond, ◌&&◌, not, length, drop, leb, eqb}
+use Rattle.std.specs.Prelude.{ℕ, ◌+◌, List, [], ◌∷◌, Bool, true, false, cond, ◌&&◌, not, length, drop, leb, eqb, None, Option, Some}
 use Rattle.words.specs.Words.{is_none}
 use Rattle.image.specs.Sections.{Sections, parent_of, part_at, inside, is_container, sections}
-use Rattle.views.specs.declared.Found.{Found}
-use Rattle.views.specs.declared.Found.TheVariants.{Node, NotFound}
 use Rattle.views.specs.Children.{child_query, childrens}
 use Rattle.lookups.specs.Lookup.{find_named, lookups}
 
@@ -40,29 +38,29 @@ components bytes (kind ∷ a ∷ []) = Broken ∷ []
 components bytes (kind ∷ a ∷ b ∷ rest) = component bytes kind a b ∷ components bytes rest
 
 -- a step up from the root finds nothing
-unfoldable pub parent_query : Sections → ℕ → Found
-parent_query s i = cond (inside s i && not (is_none (parent_of s i))) (Node (parent_of s i)) NotFound
+unfoldable pub parent_query : Sections → ℕ → Option ℕ
+parent_query s i = cond (inside s i && not (is_none (parent_of s i))) (Some (parent_of s i)) None
 
-unfoldable pub step : Sections → ℕ → Component → Found
+unfoldable pub step : Sections → ℕ → Component → Option ℕ
 step s i Parent = parent_query s i
 step s i (Index j) = child_query s i j
 step s i (Name t) = find_named s i t
-step s i Broken = NotFound
+step s i Broken = None
 
-abbrev pub step_from : Sections → Found → Component → Found
-step_from s NotFound c = NotFound
-step_from s (Node i) c = step s i c
+abbrev pub step_from : Sections → Option ℕ → Component → Option ℕ
+step_from s None c = None
+step_from s (Some i) c = step s i c
 
-unfoldable pub steps : Sections → Found → List Component → Found
+unfoldable pub steps : Sections → Option ℕ → List Component → Option ℕ
 steps s at [] = at
 steps s at (c ∷ cs) = steps s (step_from s at c) cs
 
 -- an absolute walk starts at node 0 and does not test its origin; a relative one starts at its container; from any other node it
 -- starts at its parent and skips one component
-unfoldable pub resolve : Sections → Bool → ℕ → List Component → Found
-resolve s false origin cs = steps s (Node 0) cs
+unfoldable pub resolve : Sections → Bool → ℕ → List Component → Option ℕ
+resolve s false origin cs = steps s (Some 0) cs
 resolve s true origin cs =
-    cond (inside s origin) (cond (is_container s origin) (steps s (Node origin) cs) (steps s (parent_query s origin) (drop 1 cs))) NotFound
+    cond (inside s origin) (cond (is_container s origin) (steps s (Some origin) cs) (steps s (parent_query s origin) (drop 1 cs))) None
 
 -- names on an `unfolding` line what a computation with this module needs
 unfoldable pub walks : Unit {0}

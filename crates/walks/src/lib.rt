@@ -2,16 +2,13 @@
 // the name in a lent byte slice.
 #![tactic(auto)]
 
-ghost use Rattle.std.specs.Prelude.{◌≡◌, Bool, drop};
+ghost use Rattle.std.specs.Prelude.{◌≡◌, Bool};
 ghost use Rattle.image.specs.Header.{sections_by};
-ghost use Rattle.views.specs.declared.Found.TheVariants.{Node};
 ghost use Rattle.walks.specs.Walk.{component, components, parent_query, step, steps, resolve};
 
 use image::{ImageView, NONE, tag};
-use views::Found;
-use views::entries::RecordFound;
 
-// Words a component, and the kinds of components.
+// Words a component, and the kinds of components: numbers, since they are words that C lends.
 pub const COMPONENT_WORDS: usize = 3;
 
 pub const PARENT: u32 = 0;
@@ -21,23 +18,26 @@ pub const INDEX: u32 = 1;
 pub const NAME: u32 = 2;
 
 // The node in the parent word; a step up from the root finds nothing.
-fn parent_of(bytes: &[u8], view: ImageView, id: u32) -> Found
+fn parent_of(bytes: &[u8], view: ImageView, id: u32) -> Option<u32>
     ensures { result ≡ parent_query (sections_by bytes.now view) id }
 {
-    match views::entries::node_of(bytes, view, id) {
-        RecordFound::NotFound => Found::NotFound,
-        RecordFound::Record(node) => {
-            if node.parent == NONE {
-                Found::NotFound
-            } else {
-                Found::Node(node.parent)
-            }
-        }
+    let node = views::entries::node_of(bytes, view, id)?;
+    if node.parent == NONE {
+        None
+    } else {
+        Some(node.parent)
     }
 }
 
 // The named child whose name lies in the lent names.
-fn child_named(bytes: &[u8], view: ImageView, id: u32, names: &[u8], offset: u32, len: u32) -> Found
+fn child_named(
+    bytes: &[u8],
+    view: ImageView,
+    id: u32,
+    names: &[u8],
+    offset: u32,
+    len: u32,
+) -> Option<u32>
     ensures { result ≡ step (sections_by bytes.now view) id (component names.now 2 offset len) }
 {
     let start = offset as usize;
@@ -45,7 +45,7 @@ fn child_named(bytes: &[u8], view: ImageView, id: u32, names: &[u8], offset: u32
     if end <= names.len() {
         lookups::find_named_child(bytes, view, id, &names[start..end])
     } else {
-        Found::NotFound
+        None
     }
 }
 
@@ -58,39 +58,35 @@ fn step_along(
     kind: u32,
     a: u32,
     b: u32,
-) -> Found
+) -> Option<u32>
     ensures { result ≡ step (sections_by bytes.now view) id (component names.now kind a b) }
 {
     match kind {
         PARENT => parent_of(bytes, view, id),
         INDEX => views::children::child_at(bytes, view, id, a),
         NAME => child_named(bytes, view, id, names, a, b),
-        _ => Found::NotFound,
+        _ => None,
     }
 }
 
-// A walk from a node along the components whose words begin at `first`.
-fn walk(bytes: &[u8], view: ImageView, from: u32, path: &[u32], first: usize, names: &[u8]) -> Found
-    ensures { result ≡ steps (sections_by bytes.now view) (Node from) (components names.now (drop first path.now)) }
+// A walk from a node along the components of these words.
+fn walk(bytes: &[u8], view: ImageView, from: u32, path: &[u32], names: &[u8]) -> Option<u32>
+    ensures { result ≡ steps (sections_by bytes.now view) (Some from) (components names.now path.now) }
 {
-    let n = path.len();
     let mut at = from;
-    let mut k = first;
-    while k < n {
-        if n - k < COMPONENT_WORDS {
-            return Found::NotFound;
-        }
-        match step_along(bytes, view, at, names, path[k], path[k + 1], path[k + 2]) {
-            Found::NotFound => {
-                return Found::NotFound;
+    let mut left = path;
+    while let [kind, a, b, rest @ ..] = left {
+        match step_along(bytes, view, at, names, *kind, *a, *b) {
+            None => {
+                return None;
             }
-            Found::Node(next) => {
+            Some(next) => {
                 at = next;
             }
         }
-        k += COMPONENT_WORDS;
+        left = rest;
     }
-    Found::Node(at)
+    if left.is_empty() { Some(at) } else { None }
 }
 
 // The node at the end of a path. An absolute walk starts at node 0 and does not test its origin; a relative one starts at the origin if
@@ -102,22 +98,19 @@ pub fn resolve_path(
     relative: bool,
     path: &[u32],
     names: &[u8],
-) -> Found
+) -> Option<u32>
     ensures { result ≡ resolve (sections_by bytes.now view) relative origin (components names.now path.now) }
 {
     if !relative {
-        return walk(bytes, view, 0, path, 0, names);
+        return walk(bytes, view, 0, path, names);
     }
-    match views::entries::node_of(bytes, view, origin) {
-        RecordFound::NotFound => Found::NotFound,
-        RecordFound::Record(node) => {
-            if node.tag == tag::CONTAINER {
-                return walk(bytes, view, origin, path, 0, names);
-            }
-            if node.parent == NONE {
-                return Found::NotFound;
-            }
-            walk(bytes, view, node.parent, path, COMPONENT_WORDS, names)
-        }
+    let node = views::entries::node_of(bytes, view, origin)?;
+    if node.tag == tag::CONTAINER {
+        return walk(bytes, view, origin, path, names);
     }
+    if node.parent == NONE {
+        return None;
+    }
+    let behind = path.len().min(COMPONENT_WORDS);
+    walk(bytes, view, node.parent, &path[behind..], names)
 }

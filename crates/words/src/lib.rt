@@ -4,21 +4,14 @@
 pub mod output; // output.rt: words written into an output
 
 ghost use Rattle.std.specs.Prelude.{◌≡◌, ◌++◌, ◌+◌, ◌≤◌, length, take, drop};
-ghost use Rattle.words.specs.Words.{word4, word_at, word_in, bytes4, put_in};
-
-// The word of four bytes, the lowest first.
-fn join(a: u8, b: u8, c: u8, d: u8) -> u32
-    ensures { result ≡ word4 a b c d }
-{
-    (a as u32) + 256 * ((b as u32) + 256 * ((c as u32) + 256 * (d as u32)))
-}
+ghost use Rattle.words.specs.Words.{word_at, word_in, bytes4, put_in};
 
 // The word at `at`, where the caller knows that four bytes lie.
 pub fn word(bytes: &[u8], at: usize) -> u32
     requires { at + 4 ≤ length bytes.now }
     ensures { result ≡ word_at bytes.now at }
 {
-    join(bytes[at], bytes[at + 1], bytes[at + 2], bytes[at + 3])
+    u32::from_le_bytes([bytes[at], bytes[at + 1], bytes[at + 2], bytes[at + 3]])
 }
 
 // The word at `at`, or 0 where fewer than four bytes lie there.
@@ -37,10 +30,7 @@ pub fn put_word(out: &mut [u8], at: usize, w: u32)
     requires { at + 4 ≤ length out.old }
     ensures { out.new ≡ take at out.old ++ bytes4 w ++ drop (at + 4) out.old }
 {
-    out[at] = (w % 256) as u8;
-    out[at + 1] = (w / 256 % 256) as u8;
-    out[at + 2] = (w / 256 / 256 % 256) as u8;
-    out[at + 3] = (w / 256 / 256 / 256 % 256) as u8;
+    out[at..at + 4].copy_from_slice(&w.to_le_bytes());
 }
 
 // Writes the word's four bytes at `at`; writes nothing where they do not fit.

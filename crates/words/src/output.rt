@@ -9,10 +9,8 @@ pub fn put_words(out: &mut [u8], at: usize, words: &[u32])
     requires { at + 4 * length words.now ≤ length out.old }
     ensures { out.new ≡ put_at out.old at words.now }
 {
-    let mut i = 0;
-    while i < words.len() {
-        put_word(out, at + 4 * i, words[i]);
-        i += 1;
+    for (i, word) in words.iter().enumerate() {
+        put_word(out, at + 4 * i, *word);
     }
 }
 
@@ -21,9 +19,5 @@ pub fn put_bytes(bytes: &[u8], out: &mut [u8])
     requires { length bytes.now ≤ length out.old }
     ensures { out.new ≡ over bytes.now out.old }
 {
-    let mut i = 0;
-    while i < bytes.len() {
-        out[i] = bytes[i];
-        i += 1;
-    }
+    out[..bytes.len()].copy_from_slice(bytes);
 }

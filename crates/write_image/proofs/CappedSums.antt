@@ -6,12 +6,12 @@ use native.Mathlib.Omega.{arith}
 use native.Mathlib.Nat.{mul-le-mul}
 use native.Mathlib.Decide.{dec_lt}
 use lib.Dec.{leb}
+use Rattle.std.specs.Prelude.{min, None, Some}
 use borrow.Author.Tests.{le-leb, lt-leb}
 use Rattle.words.specs.Words.{NONE}
-use Rattle.image.specs.Sections.{text_entry_size, most_node_size}
+use Rattle.image.specs.Sections.{text_entry_size}
 use Rattle.image.specs.declared.EntryCounts.{EntryCounts}
 use Rattle.image.specs.Counted.{length_by}
-use Rattle.write_image.specs.declared.size.Size.TheVariants.{Bytes, TooLong}
 use Rattle.write_image.specs.Length.{front_by, capped, size_of}
 
 pub capped_few : (n : ℕ) → n < 4294967296 → capped n ≡ n
@@ -21,6 +21,13 @@ capped_few n h = rw (le-leb n NONE (omega arith)) refl
 pub capped-many : (n : ℕ) → 4294967296 ≤ n → capped n ≡ 4294967296
 unfolding capped
 capped-many n h = rw (lt-leb n NONE (omega arith)) refl
+
+pub capped_least : (n r : ℕ) → r ≡ min n 4294967296 → r ≡ capped n
+capped_least n r e = side (dec_lt n 4294967296)
+  where
+    side : Dec (n < 4294967296) → r ≡ capped n
+    side (yes l) = omega (arith, e, capped_few n l)
+    side (no l) = omega (arith, e, capped-many n (omega arith))
 
 capped-most : (n : ℕ) → capped n ≤ 4294967296
 capped-most n = side (dec_lt n 4294967296)
@@ -54,26 +61,23 @@ whole version e a b c d r pa pb pc pd pr =
     adds r d (front_by version e + e.items * text_entry_size + e.index * text_entry_size + e.payload * 1) (e.strings * 1) pr payload
     ∙ ap capped (omega arith)
 
-pub size_few : (n r : ℕ) → r ≡ capped n → r < 4294967296 → Bytes r ≡ size_of n
+pub size_few : (n r : ℕ) → r ≡ capped n → r < 4294967296 → Some r ≡ size_of n
 unfolding size_of
 size_few n r e h = side (dec_lt n 4294967296)
   where
-    side : Dec (n < 4294967296) → Bytes r ≡ cond (leb n NONE) (Bytes n) TooLong
-    side (yes l) = rw (le-leb n NONE (omega arith)) (ap Bytes (e ∙ capped_few n l))
+    side : Dec (n < 4294967296) → Some r ≡ cond (leb n NONE) (Some n) None
+    side (yes l) = rw (le-leb n NONE (omega arith)) (ap Some (e ∙ capped_few n l))
     side (no l) = absurd (omega (arith, capped-many n (omega arith)))
 
-pub size-many : (n r : ℕ) → r ≡ capped n → 4294967296 ≤ r → TooLong ≡ size_of n
+pub size-many : (n r : ℕ) → r ≡ capped n → 4294967296 ≤ r → None ≡ size_of n
 unfolding size_of
 size-many n r e h = side (dec_lt n 4294967296)
   where
-    side : Dec (n < 4294967296) → TooLong ≡ cond (leb n NONE) (Bytes n) TooLong
+    side : Dec (n < 4294967296) → None ≡ cond (leb n NONE) (Some n) None
     side (yes l) = absurd (omega (arith, capped_few n l))
     side (no l) = rw (lt-leb n NONE (omega arith)) refl
 
 -- ---- a section of few or of many entries
-
-pub product_few : (size count : ℕ) → size ≤ most_node_size → count < 4294967296 → count * size ≤ 4294967296 * most_node_size
-product_few size count h k = let l : count ≤ 4294967296 = omega arith in mul-le-mul l h
 
 pub product_many : (size count : ℕ) → 0 < size → 4294967296 ≤ count → 4294967296 ≤ count * size
 product_many size count h k = let l : 1 ≤ size = omega arith in mul-le-mul k l

@@ -1,5 +1,5 @@
 -- How long an image is, by the counts of its sections.
-use Rattle.std.specs.Prelude.{ℕ, ◌+◌, ◌*◌, cond, leb}
+use Rattle.std.specs.Prelude.{ℕ, ◌+◌, ◌*◌, cond, leb, None, Option, Some}
 use Rattle.words.specs.Words.{NONE}
 use Rattle.image.specs.Header.{header_length}
 use Rattle.image.specs.Sections.{Sections, node_size, child_size, text_entry_size, definition_size}
@@ -7,8 +7,6 @@ use Rattle.image.specs.declared.EntryCounts.{EntryCounts}
 use Rattle.image.specs.Counted.{length_by}
 use Rattle.write_text_uses.specs.Uses.{image_counts}
 use Rattle.write_image.specs.declared.Places.{Places}
-use Rattle.write_image.specs.declared.size.Size.{Size}
-use Rattle.write_image.specs.declared.size.Size.TheVariants.{Bytes, TooLong}
 
 -- header, nodes, children, named children and definitions, by format version
 abbrev pub front_by : ℕ → EntryCounts → ℕ
@@ -26,8 +24,8 @@ unfoldable pub capped : ℕ → ℕ
 capped n = cond (leb n NONE) n 4294967296
 
 -- the answer for a number of bytes
-unfoldable pub size_of : ℕ → Size
-size_of n = cond (leb n NONE) (Bytes n) TooLong
+unfoldable pub size_of : ℕ → Option ℕ
+size_of n = cond (leb n NONE) (Some n) None
 
 -- of a draft's image
 abbrev pub image_length : Sections → ℕ

@@ -8,7 +8,7 @@ pub mod text_part; // text_part.rt: sections 6 and 7
 
 ghost use Rattle.std.specs.Prelude.{◌≡◌, ◌+◌, ◌≤◌, length};
 ghost use Rattle.words.specs.Words.{NONE};
-ghost use Rattle.draft.specs.Source.{draft_of};
+ghost use Rattle.draft.specs.Source.{drafted, draft_of};
 ghost use Rattle.image.specs.Counted.{length_by};
 ghost use Rattle.image.specs.Encoding.{body_of};
 ghost use Rattle.draft_image.specs.Written.{written};
@@ -21,7 +21,7 @@ use crate::list_part::put_lists;
 use crate::text_part::put_texts;
 use crate::tree_part::put_tree;
 use draft::layout::Layout;
-use draft::source::Source;
+use draft::source::{Draft, Source};
 use image::encoding::{nodes_length, put_checksum, put_header};
 use image::{EntryCounts, ImageView};
 
@@ -54,13 +54,7 @@ fn places_of(counts: EntryCounts, source: Source) -> Places
 
 // Writes the sections at the start of the output; the index has `count` entries.
 fn put_sections(
-    nodes: &[u32],
-    children: &[u32],
-    named: &[u32],
-    definitions: &[u32],
-    items: &[u32],
-    payload: &[u8],
-    strings: &[u8],
+    draft: Draft,
     work: &[u32],
     layout: Layout,
     count: usize,
@@ -69,19 +63,27 @@ fn put_sections(
     source: Source,
 )
     requires { let s =
-        draft_of source.version nodes.now children.now named.now definitions.now items.now payload.now strings.now in
+        drafted source.version draft in
         Sectioned s work.now layout count places (length out.old) }
     ensures { let s =
-        draft_of source.version nodes.now children.now named.now definitions.now items.now
-        payload.now strings.now in
+        drafted source.version draft.entry in
         out.new ≡ over (body_of (written s)) out.old }
 {
     let at_lists = places.lists;
     let at_texts = places.texts;
-    let text = put_tree(nodes, children, named, payload, work, layout, out, source);
+    let text = put_tree(
+        draft.nodes,
+        draft.children,
+        draft.named,
+        draft.payload,
+        work,
+        layout,
+        out,
+        source,
+    );
     put_lists(
-        definitions,
-        items,
+        draft.definitions,
+        draft.items,
         work,
         layout,
         text,
@@ -89,9 +91,9 @@ fn put_sections(
         &mut out[at_lists..],
     );
     put_texts(
-        nodes,
-        payload,
-        strings,
+        draft.nodes,
+        draft.payload,
+        draft.strings,
         work,
         layout,
         &mut out[at_texts..],
@@ -102,13 +104,7 @@ fn put_sections(
 // Writes the image of a draft at the start of the output.
 pub fn fill(
     ink: u32,
-    nodes: &[u32],
-    children: &[u32],
-    named: &[u32],
-    definitions: &[u32],
-    items: &[u32],
-    payload: &[u8],
-    strings: &[u8],
+    draft: Draft,
     work: &[u32],
     layout: Layout,
     counts: EntryCounts,
@@ -116,14 +112,13 @@ pub fn fill(
     source: Source,
 )
     requires fact { let s =
-        draft_of source.version nodes.now children.now named.now definitions.now items.now payload.now strings.now in
+        drafted source.version draft in
         Ready s work.now layout counts }
     requires s_in_bounds { let s =
-        draft_of source.version nodes.now children.now named.now definitions.now items.now payload.now strings.now in
+        drafted source.version draft in
         image_length s ≤ length out.old }
     ensures { let s =
-        draft_of source.version nodes.now children.now named.now definitions.now items.now
-        payload.now strings.now in
+        drafted source.version draft.entry in
         out.new ≡ over (image_for ink s) out.old }
 {
     put_header(source.version, ink, counts, out);
@@ -131,13 +126,7 @@ pub fn fill(
     let header = ImageView::HEADER_LENGTH;
     let end = header + places.end;
     put_sections(
-        nodes,
-        children,
-        named,
-        definitions,
-        items,
-        payload,
-        strings,
+        draft,
         work,
         layout,
         counts.index,

@@ -7,13 +7,6 @@ ghost use Rattle.write_image.specs.Length.{capped, front_by, size_of};
 use draft::source::{Source, node_words};
 use image::{EntryCounts, ImageView};
 
-// A number of bytes that a word can say, or that there are more.
-#[derive(Clone, Copy)]
-pub enum Size {
-    Bytes(u32),
-    TooLong,
-}
-
 // One more than a word can say, which stands for every larger number of bytes.
 const MORE: usize = 4294967296;
 
@@ -30,8 +23,7 @@ fn add(sum: usize, count: usize, size: usize) -> usize
     if MORE <= count {
         return MORE;
     }
-    let total = sum + count * size;
-    if total < MORE { total } else { MORE }
+    (sum + count * size).min(MORE)
 }
 
 // Adds the sections of nodes, children, named children and definitions to the header.
@@ -49,7 +41,7 @@ fn front_length(counts: EntryCounts, source: Source) -> usize
 }
 
 // The length of an image.
-pub fn image_length(counts: EntryCounts, source: Source) -> Size
+pub fn image_length(counts: EntryCounts, source: Source) -> Option<u32>
     ensures { result ≡ size_of (length_by source.version counts) }
 {
     let front = front_length(counts, source);
@@ -58,8 +50,8 @@ pub fn image_length(counts: EntryCounts, source: Source) -> Size
     let payload = add(index, counts.payload, PAYLOAD_SIZE);
     let total = add(payload, counts.strings, STRINGS_SIZE);
     if total < MORE {
-        Size::Bytes(total as u32)
+        Some(total as u32)
     } else {
-        Size::TooLong
+        None
     }
 }

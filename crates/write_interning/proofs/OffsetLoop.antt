@@ -1,4 +1,5 @@
 -- The pass in use order that turns each first use into its text's offset.
+use Rattle.std.specs.Prelude.{None, Option, Some, ℕ}
 use Prim.Native.Nat.{ℕ, suc, ◌+◌, ◌-◌, ◌^◌, ◌≤◌, ◌<◌}
 use mathlib.Core.Path.{◌≡◌, refl, ap, ◌∙◌}
 use mathlib.Core.List.{List, [], ◌∷◌}
@@ -14,8 +15,6 @@ use Rattle.laws.specs.Lists.{flat_map}
 use Rattle.texts.specs.Text.{holds}
 use Rattle.draft_image.specs.Strings.{distinct, offset_of}
 use Rattle.write_sorting.proofs.Laws.{cases}
-use Rattle.write_interning.specs.declared.Stored.{Stored}
-use Rattle.write_interning.specs.declared.Stored.TheVariants.{Whole, TooLong}
 use Rattle.write_interning.specs.Uses.{First, Firsts, Offsets, stored_of, texts_joined, stored_answer}
 use Rattle.write_interning.proofs.StoredTexts.{offset_old, offset_new, stored_old, stored_new, stored-holds, first_new, first_old, length_new, length_grows}
 
@@ -124,14 +123,14 @@ module _ (key : ℕ → List ℕ) (n : ℕ) (w : List ℕ) (hn : n + n ≤ lengt
 -- ---- the two answers
 
 -- what a pass leaves: its answer, and the offsets if they fit
-abbrev pub Assigned : (ℕ → List ℕ) → ℕ → List ℕ → Stored → Type 0
+abbrev pub Assigned : (ℕ → List ℕ) → ℕ → List ℕ → Option ℕ → Type 0
 Assigned key n x r = (r ≡ stored_answer (length (texts_joined (stored_of key n)))) × (length (texts_joined (stored_of key n)) < 2 ^ 32 → Offsets key n x)
 
-pub assigned_long : (key : ℕ → List ℕ) (n : ℕ) (x : List ℕ) → 2 ^ 32 ≤ length (texts_joined (stored_of key n)) → Assigned key n x TooLong
+pub assigned_long : (key : ℕ → List ℕ) (n : ℕ) (x : List ℕ) → 2 ^ 32 ≤ length (texts_joined (stored_of key n)) → Assigned key n x None
 unfolding stored_answer
 assigned_long key n x h = (rw (le-ltb (length (texts_joined (stored_of key n))) (2 ^ 32) h), λ m. absurd (omega arith))
 
-pub assigned_whole : (key : ℕ → List ℕ) (n : ℕ) (w x : List ℕ) (k total : ℕ) → Assigning key n w x k total → n ≤ k → Assigned key n x (Whole total)
+pub assigned_whole : (key : ℕ → List ℕ) (n : ℕ) (w x : List ℕ) (k total : ℕ) → Assigning key n w x k total → n ≤ k → Assigned key n x (Some total)
 unfolding stored_answer
 assigned_whole key n w x k total A h =
     let e : k ≡ n = omega arith in

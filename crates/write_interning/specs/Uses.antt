@@ -1,10 +1,8 @@
 -- Uses of texts, numbered from 0 in their order, each text stored once, at its first use; `key` gives a use's text.
-use Rattle.std.specs.Prelude.{ℕ, suc, ◌+◌, ◌-◌, ◌^◌, ◌≤◌, ◌<◌, ◌≡◌, List, [], ◌∷◌, Bool, true, cond, eqb, ltb, get_or}
+use Rattle.std.specs.Prelude.{ℕ, suc, ◌+◌, ◌-◌, ◌^◌, ◌≤◌, ◌<◌, ◌≡◌, List, [], ◌∷◌, Bool, true, cond, eqb, ltb, get_or, None, Option, Some}
 use Rattle.laws.specs.Counted.{join_of}
 use Rattle.laws.specs.Lists.{flat_map}
 use Rattle.draft_image.specs.Strings.{distinct, offset_of}
-use Rattle.write_interning.specs.declared.Stored.{Stored}
-use Rattle.write_interning.specs.declared.Stored.TheVariants.{Whole, TooLong}
 
 -- the texts of the uses 0 to n - 1, and those stored of them
 abbrev pub texts_of : (ℕ → List ℕ) → ℕ → List (List ℕ)
@@ -18,8 +16,8 @@ abbrev pub texts_joined : List (List ℕ) → List ℕ
 texts_joined kept = flat_map (λ t. t) kept
 
 -- the answer by the length of the stored texts: a word can say where each begins, or not
-unfoldable pub stored_answer : ℕ → Stored
-stored_answer n = cond (ltb n (2 ^ 32)) (Whole n) TooLong
+unfoldable pub stored_answer : ℕ → Option ℕ
+stored_answer n = cond (ltb n (2 ^ 32)) (Some n) None
 
 -- the words after the first n say where each use's text is stored
 abbrev pub Offsets : (ℕ → List ℕ) → ℕ → List ℕ → Type 0

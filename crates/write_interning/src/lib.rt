@@ -1,5 +1,6 @@
 // Interning: each text of the uses is stored once. The uses are sorted by their texts, the first use of each text is found from the sorted
 // order, and each use is given its text's offset.
+// The work words are lent by C's caller: no heap is used.
 #![tactic(auto)]
 
 ghost use Rattle.std.specs.Prelude.{◌≡◌, ◌++◌, ℕ, ◌+◌, ◌-◌, ◌^◌, ◌≤◌, ◌<◌, length, take, drop};
@@ -12,13 +13,6 @@ ghost use Rattle.write_interning.specs.Uses.{stored_of, texts_joined, stored_ans
 use draft::layout::Layout;
 use draft::source;
 use draft::source::Source;
-
-// How long the stored texts are, or that they are too long for a word to say where each begins.
-#[derive(Clone, Copy)]
-pub enum Stored {
-    Whole(usize),
-    TooLong,
-}
 
 // Puts the uses 0 to n - 1 in the order of their texts, those of one text in their own order. The paths, which come last, are in order.
 fn arrange(nodes: &[u32], strings: &[u8], w: &mut [u32], layout: Layout, n: usize, source: Source)
@@ -36,6 +30,7 @@ fn arrange(nodes: &[u32], strings: &[u8], w: &mut [u32], layout: Layout, n: usiz
 }
 
 // The first use of the i-th use of the order.
+#[tactic(auto, unfolding(crate::specs::Uses::head_of))]
 fn head_of(
     nodes: &[u32],
     strings: &[u8],
@@ -69,12 +64,10 @@ fn mark(nodes: &[u32], strings: &[u8], w: &mut [u32], layout: Layout, n: usize, 
         Firsts key n w.new }
     ensures w_unchanged { drop layout.at w.new ≡ drop layout.at w.old }
 {
-    let mut i = 0;
-    while i < n {
+    for i in 0..n {
         let first = head_of(nodes, strings, w, layout, n, i, source);
         let at = n + source::word(w, i) as usize;
         w[at] = first;
-        i += 1;
     }
 }
 
@@ -86,7 +79,7 @@ fn assign(
     layout: Layout,
     n: usize,
     source: Source,
-) -> Stored
+) -> Option<usize>
     requires n_bound { (n + n ≤ layout.at) × Placed layout (length w.old) × (n < 2 ^ 32) }
     requires firsts { Firsts (key_in source.version nodes.now strings.now layout w.old) n w.old }
     ensures result_value { let key = key_in source.version nodes.now strings.now layout w.old in
@@ -96,22 +89,20 @@ fn assign(
     ensures w_unchanged { drop layout.at w.new ≡ drop layout.at w.old }
 {
     let mut total = 0usize;
-    let mut k = 0;
-    while k < n {
+    for k in 0..n {
         let first = source::word(w, n + k);
         if first as usize == k {
             let len = write_text_keys::key_length(strings, w, layout, first);
             if 4294967295 - total < len {
-                return Stored::TooLong;
+                return None;
             }
             w[n + k] = total as u32;
             total += len;
         } else {
             w[n + k] = source::word(w, n + first as usize);
         }
-        k += 1;
     }
-    Stored::Whole(total)
+    Some(total)
 }
 
 // Gives each of the uses 0 to n - 1 the offset of its text among the stored texts, in the n words after the first n, which are worked in.
@@ -122,7 +113,7 @@ pub fn intern(
     layout: Layout,
     n: usize,
     source: Source,
-) -> Stored
+) -> Option<usize>
     requires texts_le_n { (layout.texts ≤ n) × (n + n ≤ layout.at) × Placed layout (length w.old) × (n < 2 ^ 32) }
     requires rises_from { RisesFrom (by_key (key_in source.version nodes.now strings.now layout w.old)) layout.texts n }
     ensures result_value { let key = key_in source.version nodes.now strings.now layout w.old in
@@ -153,13 +144,11 @@ pub fn emit(
         out.new ≡ texts_joined (stored_of key n) ++ drop (length (texts_joined (stored_of key n))) out.old }
 {
     let mut end = 0usize;
-    let mut k = 0;
-    while k < n {
+    for k in 0..n {
         if source::word(w, n + k) as usize == end {
             let len = write_text_keys::key_length(strings, w, layout, k as u32);
             write_text_keys::put_key(nodes, strings, w, layout, k as u32, &mut out[end..], source);
             end += len;
         }
-        k += 1;
     }
 }

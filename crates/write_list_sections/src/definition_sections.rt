@@ -20,15 +20,13 @@ pub fn put_definitions(definitions: &[u32], w: &[u32], offsets: usize, out: &mut
     let count = definitions.len() / ImageView::DEFINITION_WORDS;
     let mut k = offsets;
     let mut at = 0;
-    let mut d = 0;
-    while d < count {
+    for d in 0..count {
         let definition = definition_at(definitions, d);
         let offset = word(w, k);
         let words = [offset, definition.len, definition.first, definition.count];
         put_words(out, at, &words);
         at += ImageView::DEFINITION_BYTES;
         k += 1 + definition.count as usize;
-        d += 1;
     }
 }
 
@@ -48,8 +46,7 @@ fn put_items_from(
     let start = first as usize;
     let end = count as usize;
     let mut place = at;
-    let mut i = 0;
-    while i < end {
+    for i in 0..end {
         let item = (start + i) * ImageView::TEXT_ENTRY_WORDS;
         let offset = word(w, text + i);
         let len = word(items, item + 1);
@@ -57,7 +54,6 @@ fn put_items_from(
         let words = [offset, len, value];
         put_words(out, place, &words);
         place += ImageView::TEXT_ENTRY_BYTES;
-        i += 1;
     }
 }
 
@@ -70,12 +66,10 @@ pub fn put_items(definitions: &[u32], items: &[u32], w: &[u32], offsets: usize, 
     let count = definitions.len() / ImageView::DEFINITION_WORDS;
     let mut k = offsets;
     let mut at = 0;
-    let mut d = 0;
-    while d < count {
+    for d in 0..count {
         let definition = definition_at(definitions, d);
         put_items_from(items, definition.first, definition.count, w, k + 1, out, at);
         at += ImageView::TEXT_ENTRY_BYTES * definition.count as usize;
         k += 1 + definition.count as usize;
-        d += 1;
     }
 }

@@ -39,8 +39,7 @@ fn put_list_items(
     let all = count as usize;
     let mut k = text;
     let mut place = at;
-    let mut j = 0;
-    while j < all {
+    for j in 0..all {
         let item = first + j * ITEM_BYTES;
         let origin = payload_get(payload, item);
         let name = k + text_count(origin);
@@ -54,7 +53,6 @@ fn put_list_items(
         put_words(out, place, &words);
         k = name + 1;
         place += ITEM_BYTES;
-        j += 1;
     }
     k
 }
@@ -77,15 +75,13 @@ fn put_list_origins(
     let first = start as usize + HEAD_BYTES + items as usize * ITEM_BYTES;
     let all = count as usize;
     let mut place = at;
-    let mut j = 0;
-    while j < all {
+    for j in 0..all {
         let origin = first + j * ORIGIN_BYTES;
         let offset = word(w, text + j);
         let len = payload_get(payload, origin + ORIGIN_LENGTH_AT);
         let words = [offset, len];
         put_words(out, place, &words);
         place += ORIGIN_BYTES;
-        j += 1;
     }
 }
 
@@ -144,11 +140,9 @@ pub fn put_payload(
     let count = node_count(nodes, source);
     let mut text = layout.offsets;
     let mut at = 0;
-    let mut j = 0;
-    while j < count {
+    for j in 0..count {
         let node = node_at(nodes, word(w, order + j) as usize, source);
         at = put_node(node, payload, w, text, out, at);
         text += texts_of(node, payload);
-        j += 1;
     }
 }

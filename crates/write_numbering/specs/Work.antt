@@ -38,6 +38,13 @@ child_down cs start count j = get_or cs (start + (count - 1 - j)) 0
 abbrev pub named_down : List ℕ → ℕ → ℕ → ℕ → ℕ
 named_down ms start count j = get_or ms ((start + (count - 1 - j)) * text_entry_words + 2) 0
 
+-- the node of entry j, where an entry has `size` words
+abbrev pub entry_down : ℕ → ℕ → List ℕ → ℕ → ℕ → ℕ → ℕ
+entry_down size node es start count j = get_or es ((start + (count - 1 - j)) * size + node) 0
+
+abbrev pub EntriesPushed : ℕ → ℕ → List ℕ → ℕ → ℕ → ℕ → ℕ → List ℕ → List ℕ → Type 0
+EntriesPushed size node es start count base depth w₀ w = Pushed free (entry_down size node es start count) count base depth w₀ w 0
+
 abbrev pub ChildrenPushed : List ℕ → ℕ → ℕ → ℕ → ℕ → List ℕ → List ℕ → Type 0
 ChildrenPushed cs start count base depth w₀ w = Pushed free (child_down cs start count) count base depth w₀ w 0
 

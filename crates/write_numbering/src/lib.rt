@@ -1,57 +1,40 @@
 // The numbering of a written image: the writer's walk over a draft, depth first in reading order.
+// The work words are lent by C's caller: no heap is used.
 #![tactic(auto)]
 
 pub mod numbers; // numbers.rt: numbers of nodes in the work words
 
-ghost use Rattle.std.specs.Prelude.{◌≡◌, true, ℕ, ◌+◌, ◌*◌, ◌/◌, ◌≤◌, ◌<◌, length, get_or, drop};
+ghost use Rattle.std.specs.Prelude.{◌≡◌, true, ℕ, ◌+◌, ◌*◌, ◌≤◌, ◌<◌, length, get_or, drop};
 ghost use Rattle.image.specs.Sections.{text_entry_words, node_count};
 ghost use Rattle.tree.specs.Tree.{entry_nodes, read_walk, all_seen};
 ghost use Rattle.tree.specs.Work.{tree_words};
 ghost use Rattle.tree.specs.Parts.{Fit};
-ghost use Rattle.write_numbering.specs.Work.{tree_of, Leads, Numbered, ChildrenPushed, NamedPushed, NodeEntered, Read, Marks, NumberTables};
+ghost use Rattle.write_numbering.specs.Work.{tree_of, Leads, Numbered, EntriesPushed, NodeEntered, Read, Marks, NumberTables};
 
 use draft::source;
 use draft::source::Source;
 use image::ImageView;
 use image::tag::CONTAINER;
 
-// Pushes `count` ordered children from `start` on, the last first, so that the first is on top.
-fn push_children(
-    children: &[u32],
+// Pushes the nodes of `count` entries from `start` on, the last first, so that the first is on top. An entry has `size` words, and word
+// `node` of it is its node.
+fn push_entries(
+    entries: &[u32],
+    size: usize,
+    node: usize,
     start: usize,
     count: usize,
     work: &mut [u32],
     base: usize,
     depth: usize,
 )
-    requires { (start + count ≤ length children.now) × (base + depth + count ≤ length work.old) }
-    ensures { ChildrenPushed children.now start count base depth work.old work.new }
+    requires entries_in_bounds { (node < size) × ((start + count) * size ≤ length entries.now) }
+    requires room { base + depth + count ≤ length work.old }
+    ensures { EntriesPushed size node entries.now start count base depth work.old work.new }
 {
-    let mut j = 0;
-    while j < count {
-        let at = start + (count - 1 - j);
-        work[base + depth + j] = source::word(children, at);
-        j += 1;
-    }
-}
-
-// The same of the nodes of named entries.
-fn push_named(
-    named: &[u32],
-    start: usize,
-    count: usize,
-    work: &mut [u32],
-    base: usize,
-    depth: usize,
-)
-    requires { (start + count ≤ length named.now / text_entry_words) × (base + depth + count ≤ length work.old) }
-    ensures { NamedPushed named.now start count base depth work.old work.new }
-{
-    let mut j = 0;
-    while j < count {
-        let at = (start + (count - 1 - j)) * ImageView::TEXT_ENTRY_WORDS + 2;
-        work[base + depth + j] = source::word(named, at);
-        j += 1;
+    for j in 0..count {
+        let at = (start + (count - 1 - j)) * size + node;
+        work[base + depth + j] = source::word(entries, at);
     }
 }
 
@@ -78,16 +61,26 @@ fn enter(
     }
     let start = node.f5 as usize;
     let count = node.f6 as usize;
-    push_named(named, start, count, work, base, depth);
+    push_entries(
+        named,
+        ImageView::TEXT_ENTRY_WORDS,
+        2,
+        start,
+        count,
+        work,
+        base,
+        depth,
+    );
     let top = depth + count;
     let start = node.f3 as usize;
     let ordered = node.f4 as usize;
-    push_children(children, start, ordered, work, base, top);
+    push_entries(children, 1, 0, start, ordered, work, base, top);
     top + ordered
 }
 
 // The walk from the root: marks in the first `count` words, which are 0, and the stack behind them. A node is marked when
 // it is taken, with the count of marked nodes.
+// A `while`: the stack grows as it is walked.
 fn walk(
     nodes: &[u32],
     children: &[u32],
@@ -122,12 +115,10 @@ fn set_numbers(work: &mut [u32], count: usize, base: usize)
     requires count_le_base { (count ≤ base) × (base + 2 * count ≤ length work.old) }
     ensures { NumberTables count base work.old work.new }
 {
-    let mut i = 0;
-    while i < count {
+    for i in 0..count {
         let number = work[i] - 1;
         work[base + number as usize] = i as u32;
         work[base + count + i] = number;
-        i += 1;
     }
 }
 

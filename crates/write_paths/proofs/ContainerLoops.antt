@@ -1,18 +1,15 @@
 -- The loops that test and list containers.
 use Prim.Native.Nat.{ℕ, ◌+◌, ◌≤◌, ◌<◌}
-use mathlib.Core.Path.{◌≡◌, refl, sym, ap, ◌∙◌}
+use mathlib.Core.Path.{◌≡◌, refl, ap, ◌∙◌}
 use mathlib.Core.List.{List, [], ◌∷◌, ◌++◌, append-nil}
-use mathlib.Core.Bool.{Bool, true, false, cond, ◌&&◌, ◌||◌, not}
+use mathlib.Core.Bool.{true, false}
 use native.Mathlib.Omega.{arith}
 use native.Mathlib.Numerals.{add-one}
 use lib.ListN.{length, get_or, set, length-set, length-append}
 use lib.Seq.{sets}
 use lib.Dec.{eqb}
 use borrow.Author.Tests.{eq-eqb, ne_eqb}
-use Rattle.words.specs.Words.{is_none}
 use Rattle.image.specs.Sections.{Sections, node_word}
-use Rattle.image.specs.declared.NodeRecord.{NodeRecord}
-use Rattle.image.specs.Tags.{container_tag}
 use Rattle.image.specs.Entries.{record_of}
 use Rattle.index.specs.Paths.{nameless}
 use Rattle.draft.specs.Draft.{placed}
@@ -21,43 +18,10 @@ use Rattle.write_paths.specs.Listed.{tag_at, containers_in, placed_in}
 
 -- ---- placed
 
-or-true : (b : Bool) → true ≡ (b || true)
-or-true true = refl
-or-true false = refl
-
--- the tests in the code's order
-abbrev pub placed_tests : NodeRecord → ℕ → Bool
-placed_tests r i =
-    cond (eqb r.tag container_tag)
-    (cond (eqb i 0) true (cond (is_none r.place) (cond (eqb r.f1 0) false (cond (is_none r.f1) (cond (is_none r.f0) false true) true)) true))
-    true
-
-tests_are : (container root placeless empty long at : Bool)
-    → cond container (cond root true (cond placeless (cond empty false (cond long (cond at false true) true)) true)) true
-    ≡ (not container || root || (not ((at && long) || empty) || not placeless))
-tests_are false true placeless empty long at = refl
-tests_are false false placeless empty long at = refl
-tests_are true true placeless empty long at = refl
-tests_are true false false true long at = or-true (not ((at && long) || true))
-tests_are true false false false long at = or-true (not ((at && long) || false))
-tests_are true false true true long true = rw (← or-true long) refl
-tests_are true false true true long false = refl
-tests_are true false true false true true = refl
-tests_are true false true false true false = refl
-tests_are true false true false false true = refl
-tests_are true false true false false false = refl
-
-pub by_tests : (r : NodeRecord) (i : ℕ) (b : Bool) → b ≡ placed_tests r i → b ≡ placed_in r i
-unfolding placed_in
-by_tests r i b e = e ∙ tests_are (eqb r.tag container_tag) (eqb i 0) (is_none r.place) (eqb r.f1 0) (is_none r.f1) (is_none r.f0)
-
-placed_record : (s : Sections) (v : ℕ) (nodes : List ℕ) (i : ℕ) → s.nodes ≡ nodes → s.version ≡ v → placed_in (record_of v nodes i) i ≡ placed s i
+-- by its record
+pub placed_record : (s : Sections) (v : ℕ) (nodes : List ℕ) (i : ℕ) → s.nodes ≡ nodes → s.version ≡ v → placed_in (record_of v nodes i) i ≡ placed s i
 unfolding placed_in record_of placed nameless node_word
 placed_record s v nodes i e z = rw (e, z)
-
-pub placed-here : (s : Sections) (v : ℕ) (nodes : List ℕ) (i : ℕ) (r : NodeRecord) (b : Bool) → s.nodes ≡ nodes → s.version ≡ v
-    → r ≡ record_of v nodes i → b ≡ placed_in r i → placed s i ≡ b
-placed-here s v nodes i r b e z k p = sym (p ∙ ap (λ (q : NodeRecord). placed_in q i) k ∙ placed_record s v nodes i e z)
 
 -- ---- the list so far
 

@@ -7,11 +7,10 @@ use native.Mathlib.Omega.{arith}
 use lib.ListN.{length, get_or, take, drop}
 use lib.Seq.{sets, get_or-take, length-sets}
 use Rattle.laws.specs.Counted.{join_of, all_of}
-use Rattle.laws.proofs.Flags.{all_at, all_of_lem}
 use Rattle.laws.proofs.Lists.{drop_more}
 use Rattle.laws.proofs.Members.{length_join, get_join, all_ext}
 use Rattle.laws.specs.Sorted.{isort}
-use Rattle.texts.specs.Text.{before, rising, by_key}
+use Rattle.texts.specs.Text.{rising, by_key}
 use Rattle.write_sorting.specs.Sorted.{up_from, part}
 use Rattle.write_sorting.proofs.MergeInPlace.{get_d-later}
 use Rattle.draft.specs.declared.layout.Layout.{Layout}
@@ -21,16 +20,15 @@ use Rattle.write_paths.proofs.WordLoop.{sets_at, sets-drop}
 
 -- ---- texts that rise
 
-pub all_less : (m n : ℕ) (t : ℕ → Bool) → m ≤ n → all_of n t ≡ true → all_of m t ≡ true
-all_less m n t h e = all_of_lem m t (λ i k. all_at n t e i (omega arith))
+-- the first one rises
+pub rises_none : (key : ℕ → List ℕ) (w : List ℕ) (i : ℕ) → i < 1 → rising (λ j. key (get_or w j 0)) i ≡ true
+rises_none key w zero h = refl
+rises_none key w (suc i) h = absurd (omega arith)
 
--- of place i and the one before it, by their names x and y
-pub rises_at_lem : (key : ℕ → List ℕ) (w : List ℕ) (i x y : ℕ) (b : Bool) → 1 ≤ i → x ≡ get_or w (i - 1) 0 → y ≡ get_or w i 0 → b ≡ before (key x) (key y)
-    → rising (λ j. key (get_or w j 0)) i ≡ b
-rises_at_lem key w zero x y b h p q e = absurd (omega arith)
-rises_at_lem key w (suc i) x y b h p q e =
-    let less : suc i - 1 ≡ i = omega arith in
-    sym (e ∙ rw (p, q, less) refl)
+-- any other, by the one before it
+pub rises_at_lem : (key : ℕ → List ℕ) (w : List ℕ) (i : ℕ) → 1 ≤ i → by_key key (get_or w (i - 1) 0) (get_or w i 0) ≡ rising (λ j. key (get_or w j 0)) i
+rises_at_lem key w zero h = absurd (omega arith)
+rises_at_lem key w (suc i) h = let less : suc i - 1 ≡ i = omega arith in rw less refl
 
 -- ---- from step to step
 

@@ -1,4 +1,5 @@
 -- The containers of a draft listed, measured and sorted: rule 22, and the order of the index.
+use Rattle.std.specs.Prelude.{Err, Ok, ℕ}
 use Prim.Native.Nat.{ℕ, zero, suc, ◌+◌, ◌-◌, ◌≤◌, ◌<◌}
 use mathlib.Core.Path.{◌≡◌, refl, sym, ap, ◌∙◌}
 use mathlib.Core.List.{List, [], ◌∷◌, ◌++◌, map}
@@ -23,7 +24,6 @@ use Rattle.write_sorting.specs.Sorted.{up_from, Rises}
 use Rattle.draft.specs.declared.layout.Layout.{Layout}
 use Rattle.write_text_keys.specs.Keys.{key_in, node_of, long_of, length_from}
 use Rattle.write_text_keys.proofs.CanonicalPaths.{path-long, key_path, every-container}
-use Rattle.write_paths.specs.declared.Indexed.TheVariants.{Paths, Refused}
 use Rattle.write_paths.specs.Listed.{tag_at, containers_in, containers}
 use Rattle.write_paths.specs.Arranged.{Measured, sorted_names, Arranged, Rooted, indexed_of, Indexes}
 use Rattle.write_paths.proofs.Rule.{all_not, those_at, unplaced}
@@ -75,7 +75,7 @@ listed_below v nodes w₀ w₁ order count list found a b inside size words k h 
 module _ (s : Sections) (olds : List ℕ) (v : ℕ) (nodes strings : List ℕ) (l : Layout) (w₀ : List ℕ) (order count : ℕ) (en : s.nodes ≡ nodes) (es : s.strings ≡ strings)
     (z : s.version ≡ v) (ec : node_count s ≡ count) (rooted : Rooted s olds) (known : OldsAt olds w₀ count order) where
   -- some container has no piece of a path
-  pub indexed-unplaced : (p : Bool) → p ≡ all_of count (placed s) → p ≡ false → Indexes s olds l w₀ w₀ (Refused 22)
+  pub indexed-unplaced : (p : Bool) → p ≡ all_of count (placed s) → p ≡ false → Indexes s olds l w₀ w₀ (Err 22)
   unfolding indexed_of
   indexed-unplaced p e q =
       let r : paths_rule s ≡ 22 = unplaced s (ap (λ (n : ℕ). all_of n (placed s)) ec ∙ sym e ∙ q) in
@@ -227,7 +227,7 @@ module _ (s : Sections) (olds : List ℕ) (v : ℕ) (nodes strings : List ℕ) (
               get_d-later (list + found) (table + x + x + 1) w₃ w₂ arranged.behind (omega (arith, few)),
             ) refl
 
-        pub indexed : Indexes s olds l w₀ w₃ (Paths found)
+        pub indexed : Indexes s olds l w₀ w₃ (Ok found)
         unfolding indexed_of
         indexed =
             record {
@@ -259,7 +259,7 @@ module _ (s : Sections) (olds : List ℕ) (v : ℕ) (nodes strings : List ℕ) (
                 paths-refuse s olds key key_at rooted.numbers all_placed i (omega (arith, found_all))
                 (ap (λ (l : List ℕ). before (key (get_or l i 0)) (key (get_or l (suc i) 0))) (sym sorted-same) ∙ e)
 
-        pub indexed-twice : Indexes s olds l w₀ w₃ (Refused 22)
+        pub indexed-twice : Indexes s olds l w₀ w₃ (Err 22)
         unfolding indexed_of
         indexed-twice =
             record {

@@ -1,12 +1,14 @@
 -- Words put one after the other into a lent slice, each by a rule.
-use Prim.Native.Nat.{ℕ, zero, suc, ◌+◌, ◌≤◌, ◌<◌}
+use Prim.Native.Nat.{ℕ, zero, suc, ◌+◌, ◌-◌, ◌≤◌, ◌<◌}
 use mathlib.Core.Path.{◌≡◌, refl, sym, ap, ◌∙◌}
 use mathlib.Core.List.{List, [], ◌∷◌, ◌++◌}
 use native.Mathlib.Omega.{arith}
 use native.Mathlib.Nat.{add-zero, not-suc-le-zero, le_of_suc-le-suc}
 use native.Mathlib.Numerals.{add-one}
-use lib.ListN.{length, get_or, set, drop, length-set}
-use lib.Seq.{sets, get_or-set_other, get_or-set_same, drop-set-lt}
+use lib.ListN.{length, get_or, set, take, drop, length-set, length-drop}
+use lib.Seq.{take-suc, length-take-le, get_or-drop, sets, get_or-set_other, get_or-set_same, drop-set-lt}
+use Rattle.std.specs.List.{copy_within}
+use Rattle.std.proofs.lemmas.List.Edits.{sets-eq}
 use Rattle.laws.specs.Counted.{join_of}
 use Rattle.laws.proofs.Members.{length_join}
 
@@ -88,8 +90,16 @@ module _ (w₀ : List ℕ) (count list : ℕ) (room : count + count ≤ list) (w
       (k ∙ fill_past w₀ count count (λ j. get_or w₀ (list + get_or w₀ j 0) 0) w i f (list + x) (omega arith)
       ∙ ap (λ (m : ℕ). get_or w₀ (list + m) 0) (e ∙ fill_before w₀ count count (λ j. get_or w₀ (list + get_or w₀ j 0) 0) w i f i h))
 
-  -- the word put behind for it
-  pub settle_next : Filled w₀ list count (λ j. get_or w₀ (count + j) 0) w i → Filled w₀ list count (λ j. get_or w₀ (count + j) 0) (set w (list + i) (get_or w (count + i) 0)) (i + 1)
-  settle_next f =
-      fill_next w₀ list count (λ j. get_or w₀ (count + j) 0) w i f (get_or w (count + i) 0) h
-      (fill_before w₀ list count (λ j. get_or w₀ (count + j) 0) w i f (count + i) (omega arith))
+-- ---- words copied within a slice
+
+run_taken : (w : List ℕ) (a n : ℕ) → a + n ≤ length w → join_of n (λ i. get_or w (a + i) 0 ∷ []) ≡ take n (drop a w)
+unfolding join_of
+run_taken w a zero h = refl
+run_taken w a (suc n) h =
+    rw (run_taken w a n (omega arith), ← get_or-drop a w n 0) (sym (take-suc (drop a w) n 0 (omega (arith, length-drop a w))))
+
+pub copied_run : (w : List ℕ) (a n at : ℕ) → a + n ≤ length w → at + n ≤ length w → copy_within w a (a + n) at ≡ sets w at (join_of n (λ i. get_or w (a + i) 0 ∷ []))
+copied_run w a n at h k =
+    let size : a + n - a ≡ n = omega arith in
+    let long : length (take n (drop a w)) ≡ n = length-take-le n (drop a w) (omega (arith, length-drop a w)) in
+    rw (run_taken w a n h, size, sets-eq (take n (drop a w)) w at (omega arith), long)

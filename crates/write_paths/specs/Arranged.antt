@@ -1,5 +1,5 @@
 -- The list of containers measured and sorted by path, as the code leaves it in the work words; what the caller knows and learns.
-use Rattle.std.specs.Prelude.{ℕ, ◌+◌, ◌*◌, ◌≤◌, ◌<◌, ◌≡◌, List, Bool, true, cond, length, get_or, take, drop, eqb}
+use Rattle.std.specs.Prelude.{ℕ, ◌+◌, ◌*◌, ◌≤◌, ◌<◌, ◌≡◌, List, Bool, true, cond, length, get_or, take, drop, eqb, Err, Ok, Result}
 use Rattle.laws.specs.Counted.{all_of}
 use Rattle.laws.specs.Sorted.{isort}
 use Rattle.texts.specs.Text.{rising, by_key}
@@ -11,8 +11,6 @@ use Rattle.draft_image.specs.Strings.{by_path, path_of}
 use Rattle.write_sorting.specs.Sorted.{up_from}
 use Rattle.write_text_keys.specs.Keys.{long_of}
 use Rattle.draft.specs.declared.layout.Layout.{Layout}
-use Rattle.write_paths.specs.declared.Indexed.{Indexed}
-use Rattle.write_paths.specs.declared.Indexed.TheVariants.{Paths, Refused}
 use Rattle.write_paths.specs.Listed.{Permutation}
 
 -- ---- measuring
@@ -47,11 +45,11 @@ pub record Rooted (s : Sections) (order : List ℕ) : Type 0 where
   pub named : (x : ℕ) → x < node_count s → is_container s x ≡ true → good_optional s (f s x 0) (f s x 1) ≡ true
 
 -- how many paths there are, if rule 22 passes
-unfoldable pub indexed_of : ℕ → ℕ → Indexed
-indexed_of r n = cond (eqb r 0) (Paths n) (Refused r)
+unfoldable pub indexed_of : ℕ → ℕ → Result ℕ ℕ
+indexed_of r n = cond (eqb r 0) (Ok n) (Err r)
 
 -- the answer; the containers in the order of the index, with the lengths of their paths; and what is behind the tables stays
-pub record Indexes (s : Sections) (order : List ℕ) (l : Layout) (w₀ w : List ℕ) (r : Indexed) : Type 0 where
+pub record Indexes (s : Sections) (order : List ℕ) (l : Layout) (w₀ w : List ℕ) (r : Result ℕ ℕ) : Type 0 where
   pub answer : r ≡ indexed_of (paths_rule s) (length (by_path s order))
   pub boxes : paths_rule s ≡ 0 → (k : ℕ) → k < length (by_path s order)
       → get_or (drop l.at w) (l.paths + k) 0 ≡ old_of order (get_or (by_path s order) k 0)

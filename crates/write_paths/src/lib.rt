@@ -1,4 +1,5 @@
 // The paths of a draft's containers (rule 22): listed in the image's order, measured, and sorted by text.
+// The work words are lent by C's caller: no heap is used.
 #![tactic(auto)]
 
 pub mod path_index; // path_index.rt: section 5
@@ -6,6 +7,7 @@ pub mod path_index; // path_index.rt: section 5
 ghost use Rattle.std.specs.Prelude.{◌≡◌, List, ◌∷◌, [], ℕ, ◌+◌, ◌/◌, ◌≤◌, ◌<◌, length, get_or};
 ghost use Rattle.std.proofs.lemmas.List.Edits.{sets};
 ghost use Rattle.laws.specs.Counted.{all_of, join_of};
+ghost use Rattle.image.specs.Refusals.{numbered};
 ghost use Rattle.image.specs.Sections.{Sections, node_words, node_count};
 ghost use Rattle.draft.specs.Draft.{placed};
 ghost use Rattle.texts.specs.Text.{rising};
@@ -17,30 +19,16 @@ ghost use Rattle.draft_image.specs.Ready.{OldsAt};
 use draft::layout::Layout;
 use draft::source;
 use draft::source::Source;
-use image::refusal::DRAFT_PATHS;
+use image::refusal::Refusal;
 use image::tag::CONTAINER;
 use image::{NONE, NodeRecord};
 
 // Whether node `i` is the root, no container, or a container that has a name or a place.
+#[tactic(auto, unfolding(crate::specs::Listed::placed_in))]
 fn is_placed(node: NodeRecord, i: usize) -> bool
     ensures { result ≡ placed_in node i }
 {
-    if node.tag != CONTAINER {
-        return true;
-    }
-    if i == 0 {
-        return true;
-    }
-    if node.place != NONE {
-        return true;
-    }
-    if node.f1 == 0 {
-        return false;
-    }
-    if node.f1 != NONE {
-        return true;
-    }
-    if node.f0 == NONE { false } else { true }
+    node.tag != CONTAINER || i == 0 || !index::no_name(node.f0, node.f1) || node.place != NONE
 }
 
 // Whether each of the nodes is so.
@@ -48,14 +36,7 @@ fn all_placed(nodes: &[u32], count: usize, source: Source) -> bool
     requires { count ≤ length nodes.now / node_words source.version }
     ensures { (s : Sections) → s.nodes ≡ nodes.now → s.version ≡ source.version → result ≡ all_of count (placed s) }
 {
-    let mut i = 0;
-    while i < count {
-        if !is_placed(source::node_at(nodes, i, source), i) {
-            return false;
-        }
-        i += 1;
-    }
-    true
+    (0..count).all(|i| is_placed(source::node_at(nodes, i, source), i))
 }
 
 // Lists the containers among the `count` nodes whose numbers stand from `order` on; the list begins at `paths`. How many they are.
@@ -73,14 +54,12 @@ fn list_containers(
         w.new ≡ sets w.old paths found }
 {
     let mut found = 0;
-    let mut j = 0;
-    while j < count {
+    for j in 0..count {
         let node = source::word(w, order + j);
         if source::word_of(nodes, node, NodeRecord::TAG, source) == CONTAINER {
             w[paths + found] = node;
             found += 1;
         }
-        j += 1;
     }
     found
 }
@@ -90,23 +69,9 @@ fn gather(w: &mut [u32], count: usize, list: usize)
     requires { (count + count ≤ list) × (list ≤ length w.old) }
     ensures { let w₀ = w.old in w.new ≡ sets w₀ count (join_of count (λ i. get_or w₀ (list + get_or w₀ i 0) 0 ∷ [])) }
 {
-    let mut i = 0;
-    while i < count {
+    for i in 0..count {
         let at = source::word(w, i) as usize;
         w[count + i] = source::word(w, list + at);
-        i += 1;
-    }
-}
-
-// Copies as many words from behind the first `count` to the list.
-fn settle(w: &mut [u32], count: usize, list: usize)
-    requires { (count + count ≤ list) × (list + count ≤ length w.old) }
-    ensures { let w₀ = w.old in w.new ≡ sets w₀ list (join_of count (λ i. get_or w₀ (count + i) 0 ∷ [])) }
-{
-    let mut i = 0;
-    while i < count {
-        w[list + i] = w[count + i];
-        i += 1;
     }
 }
 
@@ -126,14 +91,12 @@ fn measure(
     ensures { let size = length_from count source.version nodes.now in
         Measured w.old list found table count size w.new found }
 {
-    let mut i = 0;
-    while i < found {
+    for i in 0..found {
         let node = source::word(w, list + i);
         let len = write_text_keys::path_length(nodes, w, table, node, source);
         let at = table + node as usize + node as usize;
         w[at] = (len % 4294967296) as u32;
         w[at + 1] = (len / 4294967296) as u32;
-        i += 1;
     }
 }
 
@@ -143,16 +106,7 @@ fn rises(nodes: &[u32], strings: &[u8], w: &[u32], layout: Layout, n: usize, sou
     ensures { let key = key_in source.version nodes.now strings.now layout w.now in
         result ≡ all_of n (rising (λ i. key (get_or w.now i 0))) }
 {
-    let mut i = 1;
-    while i < n {
-        let last = source::word(w, i - 1);
-        let here = source::word(w, i);
-        if !write_text_keys::below(nodes, strings, w, layout, last, here, source) {
-            return false;
-        }
-        i += 1;
-    }
-    true
+    (1..n).all(|i| write_text_keys::below(nodes, strings, w, layout, w[i - 1], w[i], source))
 }
 
 // Sorts the list of `found` nodes by their paths, which are measured; or says that two have one path.
@@ -176,15 +130,8 @@ fn sort_list(
     }
     let list = layout.at + layout.paths;
     gather(w, found, list);
-    settle(w, found, list);
+    w.copy_within(found..found + found, list);
     true
-}
-
-// What the containers' paths come to: how many they are, in text order in the list, or rule 22.
-#[derive(Clone, Copy)]
-pub enum Indexed {
-    Paths(usize),
-    Refused(u32),
 }
 
 // Lists the containers among the nodes by their paths.
@@ -195,7 +142,7 @@ pub fn sort_paths(
     layout: Layout,
     count: usize,
     source: Source,
-) -> Indexed
+) -> Result<usize, Refusal>
     requires count_bound { (count + count ≤ layout.at) × (layout.paths + count ≤ layout.lengths)
         × (layout.at + layout.lengths + count + count ≤ layout.order) × (layout.order + count ≤ length w.old) }
     requires texts_value { (layout.texts ≡ 0) × (count ≤ length nodes.now / node_words source.version) × (count ≤ 4294967295) }
@@ -203,10 +150,10 @@ pub fn sort_paths(
         × ParentsFirst source.version nodes.now w.old layout.order count }
     ensures { (s : Sections) (olds : List ℕ) → s.nodes ≡ nodes.now → s.strings ≡ strings.now
         → s.version ≡ source.version → node_count s ≡ count → Rooted s olds → OldsAt olds w.old count layout.order
-        → Indexes s olds layout w.old w.new result }
+        → Indexes s olds layout w.old w.new (numbered result) }
 {
     if !all_placed(nodes, count, source) {
-        return Indexed::Refused(DRAFT_PATHS);
+        return Err(Refusal::DraftPaths);
     }
     let list = layout.at + layout.paths;
     let found = list_containers(nodes, w, layout.order, count, list, source);
@@ -220,8 +167,8 @@ pub fn sort_paths(
         source,
     );
     if sort_list(nodes, strings, w, layout, found, source) {
-        Indexed::Paths(found)
+        Ok(found)
     } else {
-        Indexed::Refused(DRAFT_PATHS)
+        Err(Refusal::DraftPaths)
     }
 }

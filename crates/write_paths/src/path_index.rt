@@ -32,8 +32,7 @@ pub fn put_index(work: &[u32], layout: Layout, count: usize, out: &mut [u8])
     let lengths = layout.at + layout.lengths;
     let text = layout.offsets + layout.texts;
     let mut at = 0;
-    let mut k = 0;
-    while k < count {
+    for k in 0..count {
         let node = word(work, list + k) as usize;
         let words = [
             word(work, text + k),
@@ -42,6 +41,5 @@ pub fn put_index(work: &[u32], layout: Layout, count: usize, out: &mut [u8])
         ];
         put_words(out, at, &words);
         at += ImageView::INDEX_SIZE as usize;
-        k += 1;
     }
 }

@@ -1,4 +1,5 @@
 -- From step to step of the plan: what each step asks, and what all of them come to.
+use Rattle.std.specs.Prelude.{Err, Ok, Result, ℕ}
 use Prim.Native.Nat.{ℕ, zero, suc, ◌+◌, ◌*◌, ◌-◌, ◌≤◌, ◌<◌}
 use mathlib.Core.Path.{◌≡◌, refl, sym, ap, ◌∙◌}
 use mathlib.Core.Logic.{inl, inr}
@@ -37,11 +38,8 @@ use Rattle.write_text_uses.proofs.Bounds.{uses-bound, olds-below}
 use Rattle.write_text_uses.proofs.AllUses.{uses_are}
 use Rattle.write_text_keys.specs.Keys.{key_of, key_in, long_of}
 use Rattle.write_interning.specs.Uses.{stored_of, texts_joined, Offsets, RisesFrom}
-use Rattle.write_paths.specs.declared.Indexed.{Indexed}
-use Rattle.write_paths.specs.declared.Indexed.TheVariants as indexed
 use Rattle.write_paths.specs.Arranged.{indexed_of, Indexes}
-use Rattle.write_plan.specs.declared.Plan.{Plan}
-use Rattle.write_plan.specs.declared.Plan.TheVariants.{Ready, Refused}
+use Rattle.image.specs.declared.EntryCounts.{EntryCounts}
 use Rattle.write_plan.specs.Shared.{SameTexts}
 use Rattle.write_plan.specs.Planned.{layout_of, layout_with, planned_layout, plan_rule, Prepared, PlanOf, StoredPlan}
 use Rattle.write_plan.proofs.SharedTexts.{table_same, long_same, key_same}
@@ -52,7 +50,7 @@ use Rattle.write_plan.proofs.UseTexts.{texts-same, uses-long, tables_put, put_be
 -- ---- refusals on the way
 
 module _ (s : Sections) where
-  pub plan_unreached : (w : List ℕ) → all_seen s (read_walk s).seen ≡ false → PlanOf s w (Refused 20)
+  pub plan_unreached : (w : List ℕ) → all_seen s (read_walk s).seen ≡ false → PlanOf s w (Err 20)
   unfolding plan_rule reach_rule
   plan_unreached w e = (first _ _ 19 (fail _ 20 e), λ q. omega arith)
 
@@ -61,13 +59,13 @@ module _ (s : Sections) where
   reach-passes e = pass _ 20 e
 
   module _ (q : reach_rule s ≡ 0) where
-    pub plan_shape : (w : List ℕ) (k : ℕ) → k ≡ shape_rule s → (k ≡ 0 → ⊥) → PlanOf s w (Refused k)
+    pub plan_shape : (w : List ℕ) (k : ℕ) → k ≡ shape_rule s → (k ≡ 0 → ⊥) → PlanOf s w (Err k)
     unfolding plan_rule
     plan_shape w zero e d = absurd (d refl)
     plan_shape w (suc k) e d = (second _ _ q ∙ first _ _ k (sym e), d)
 
     module _ (r : shape_rule s ≡ 0) where
-      pub plan_paths : (w : List ℕ) (k : ℕ) → paths_rule s ≡ k → (k ≡ 0 → ⊥) → PlanOf s w (Refused k)
+      pub plan_paths : (w : List ℕ) (k : ℕ) → paths_rule s ≡ k → (k ≡ 0 → ⊥) → PlanOf s w (Err k)
       unfolding plan_rule
       plan_paths w zero e d = absurd (d refl)
       plan_paths w (suc k) e d = (second _ _ q ∙ second _ _ r ∙ first _ _ k e, d)
@@ -79,22 +77,22 @@ module _ (s : Sections) where
 
 -- ---- what sorting the paths answers
 
-tag : Indexed → ℕ
-tag (indexed.Paths n) = 0
-tag (indexed.Refused k) = 1
+tag : Result ℕ ℕ → ℕ
+tag (Ok n) = 0
+tag (Err k) = 1
 
-number : Indexed → ℕ
-number (indexed.Paths n) = n
-number (indexed.Refused k) = k
+number : Result ℕ ℕ → ℕ
+number (Ok n) = n
+number (Err k) = k
 
-pub indexed-paths : (r n m : ℕ) → indexed.Paths m ≡ indexed_of r n → (r ≡ 0) × (m ≡ n)
+pub indexed-paths : (r n m : ℕ) → Ok m ≡ indexed_of r n → (r ≡ 0) × (m ≡ n)
 unfolding indexed_of tag number
 indexed-paths zero n m e = (refl, ap {B = ℕ} number e)
 indexed-paths (suc r) n m e =
     let z : ◌≡◌ {A = ℕ} 0 1 = ap {B = ℕ} tag (rw (ne_eqb (suc r) 0 (λ q. omega arith)) at e) in
     absurd (omega arith)
 
-pub indexed-refused : (r n k : ℕ) → indexed.Refused k ≡ indexed_of r n → (r ≡ k) × (k ≡ 0 → ⊥)
+pub indexed-refused : (r n k : ℕ) → Err k ≡ indexed_of r n → (r ≡ k) × (k ≡ 0 → ⊥)
 unfolding indexed_of tag number
 indexed-refused zero n k e = let z : ◌≡◌ {A = ℕ} 1 0 = ap {B = ℕ} tag e in absurd (omega arith)
 indexed-refused (suc r) n k e =
@@ -164,7 +162,7 @@ module _ (version : ℕ) (ns cs ms ds is ps ss : List ℕ) (p : tables_rule (dra
 
     -- the paths are sorted
     module _ (r : shape_rule s ≡ 0) (w₂ : List ℕ) (found : ℕ) (long₂ : length w₂ ≡ length w₁)
-        (sorted : Indexes s (numbering s) (layout_of s) w₁ w₂ (indexed.Paths found)) where
+        (sorted : Indexes s (numbering s) (layout_of s) w₁ w₂ (Ok found)) where
       free : paths_rule s ≡ 0
       free = (indexed-paths (paths_rule s) (length (by_path s (numbering s))) found sorted.answer).0
 
@@ -315,15 +313,15 @@ module _ (version : ℕ) (ns cs ms ds is ps ss : List ℕ) (p : tables_rule (dra
                     (sorted.lengths free) k h;
               }
 
-          pub planned : (a : Plan) → StoredPlan key (with_texts (layout_of s) texts) (draft_counts s) found w₄ a → PlanOf s w₄ a
-          planned (Refused k) (e, inl h) =
+          pub planned : (a : Result (Layout × EntryCounts) ℕ) → StoredPlan key (with_texts (layout_of s) texts) (draft_counts s) found w₄ a → PlanOf s w₄ a
+          planned (Err k) (e, inl h) =
               (rest ∙ first _ _ 22 (fail _ 23 (lt-leb (length (uses s (numbering s))) NONE (omega (arith, many)))) ∙ sym e, λ z'. omega (arith, e))
-          planned (Refused k) (e, inr h) = (
+          planned (Err k) (e, inr h) = (
             rest ∙ second _ _ (pass _ 23 (le-leb (length (uses s (numbering s))) NONE (omega (arith, many, h.0))))
                 ∙ fail _ 23 (lt-leb (length (stored_bytes s)) NONE (omega (arith, bytes_same, h.1))) ∙ sym e,
             λ z'. omega (arith, e),
           )
-          planned (Ready l c) h = (
+          planned (Ok plan) h = (
             rest ∙ second _ _ (pass _ 23 (le-leb (length (uses s (numbering s))) NONE (omega (arith, many, h.2))))
                 ∙ pass _ 23 (le-leb (length (stored_bytes s)) NONE (omega (arith, bytes_same, h.3))),
             h.0 ∙ laid_out_lem,

@@ -1,4 +1,5 @@
 -- The steps of the plan, by the layout that the caller gives.
+use Rattle.std.specs.Prelude.{Err, Ok, Result, ℕ}
 use Prim.Native.Nat.{ℕ, ◌+◌, ◌*◌, ◌/◌, ◌≤◌, ◌<◌}
 use mathlib.Core.Path.{◌≡◌, refl, sym, ap, ◌∙◌, subst}
 use mathlib.Core.List.{List}
@@ -25,12 +26,8 @@ use Rattle.write_text_uses.specs.Uses.{words_from, Collectable, Collected}
 use Rattle.draft.specs.declared.layout.Layout.{Layout}
 use Rattle.write_text_keys.specs.Keys.{key_in, Placed}
 use Rattle.write_interning.specs.Uses.{RisesFrom}
-use Rattle.write_paths.specs.declared.Indexed.{Indexed}
-use Rattle.write_paths.specs.declared.Indexed.TheVariants as indexed
 use Rattle.write_paths.specs.Listed.{ParentsFirst}
 use Rattle.write_paths.specs.Arranged.{Rooted, Indexes}
-use Rattle.write_plan.specs.declared.Plan.{Plan}
-use Rattle.write_plan.specs.declared.Plan.TheVariants.{Refused}
 use Rattle.write_plan.specs.Shared.{SameTexts}
 use Rattle.write_plan.specs.Planned.{layout_of, PlanOf, StoredPlan, Shaped, ShapedTables}
 use Rattle.write_plan.proofs.Premises.{rooted, parents-first}
@@ -58,14 +55,14 @@ module _ (version : ℕ) (ns cs ms ds is ps ss : List ℕ) (p : tables_rule (dra
 
   -- numbered in w₁
   module _ (b : Bool) (seen : b ≡ all_seen (tree_of version ns cs ms) (read_walk (tree_of version ns cs ms)).seen) where
-    pub unreached : (w : List ℕ) → b ≡ false → PlanOf s w (Refused 20)
+    pub unreached : (w : List ℕ) → b ≡ false → PlanOf s w (Err 20)
     unreached w e = plan_unreached s w (sym (seen-whole version ns cs ms ds is ps ss p b seen) ∙ e)
 
     module _ (all : b ≡ true) (w₁ : List ℕ) (long₁ : length w₁ ≡ length w₀) (marks : b ≡ true → Numbered (tree_of version ns cs ms) l.order w₁) where
       reach : reach_rule s ≡ 0
       reach = reach-passes s (sym (seen-whole version ns cs ms ds is ps ss p b seen) ∙ all)
 
-      pub misshapen : (w : List ℕ) (k : ℕ) → k ≡ shape_rule s → (k ≡ 0 → ⊥) → PlanOf s w (Refused k)
+      pub misshapen : (w : List ℕ) (k : ℕ) → k ≡ shape_rule s → (k ≡ 0 → ⊥) → PlanOf s w (Err k)
       misshapen w k e d = plan_shape s reach w k e d
 
       pub shaped : (k : ℕ) → k ≡ shape_rule s → k ≡ 0 → Shaped s w₁ l c
@@ -117,7 +114,7 @@ module _ (version : ℕ) (ns cs ms ds is ps ss w₁ : List ℕ) (l : Layout) (c 
       )
 
   -- sorted in w₂
-  module _ (w₂ : List ℕ) (a : Indexed) (long₂ : length w₂ ≡ length w₁)
+  module _ (w₂ : List ℕ) (a : Result ℕ ℕ) (long₂ : length w₂ ≡ length w₁)
       (told : (u : Sections) (olds : List ℕ) → u.nodes ≡ ns → u.strings ≡ ss → u.version ≡ version → node_count u ≡ length ns / node_words version → Rooted u olds
       → OldsAt olds w₁ (length ns / node_words version) l.order → Indexes u olds l w₁ w₂ a) where
     indexes : Indexes t (numbering t) (layout_of t) w₁ w₂ a
@@ -125,14 +122,14 @@ module _ (version : ℕ) (ns cs ms ds is ps ss w₁ : List ℕ) (l : Layout) (c 
         subst (λ (x : Layout). Indexes t (numbering t) x w₁ w₂ a) el
         (told t (numbering t) refl refl refl refl (rooted t p q r) (λ j h. rw el (olds-known version ns cs ms ds is ps ss p q w₁ long numbers j h)))
 
-    pub clashing : (w : List ℕ) (m : ℕ) → a ≡ indexed.Refused m → PlanOf t w (Refused m)
+    pub clashing : (w : List ℕ) (m : ℕ) → a ≡ Err m → PlanOf t w (Err m)
     clashing w m e =
         let x = indexed-refused (paths_rule t) (length (by_path t (numbering t))) m (sym e ∙ indexes.answer) in
         plan_paths t q r w m x.0 x.1
 
-    module _ (found : ℕ) (some : a ≡ indexed.Paths found) where
-      sorted : Indexes t (numbering t) (layout_of t) w₁ w₂ (indexed.Paths found)
-      sorted = subst (λ (x : Indexed). Indexes t (numbering t) (layout_of t) w₁ w₂ x) some indexes
+    module _ (found : ℕ) (some : a ≡ Ok found) where
+      sorted : Indexes t (numbering t) (layout_of t) w₁ w₂ (Ok found)
+      sorted = subst (λ (x : Result ℕ ℕ). Indexes t (numbering t) (layout_of t) w₁ w₂ x) some indexes
 
       pub uses_asks : Collectable version ns ms ds is ps w₂ l.order l.at
       uses_asks = rw el (collect_asks version ns cs ms ds is ps ss p q w₁ long numbers r w₂ found long₂ sorted)
@@ -157,7 +154,7 @@ module _ (version : ℕ) (ns cs ms ds is ps ss w₁ : List ℕ) (l : Layout) (c 
               ),
             )
 
-        pub prepared : (w₄ : List ℕ) (m : Plan) → StoredPlan (key_in version ns ss (with_texts l texts) w₃) (with_texts l texts) c found w₄ m → SameTexts ss l.at texts w₃ w₄ → PlanOf t w₄ m
+        pub prepared : (w₄ : List ℕ) (m : Result (Layout × EntryCounts) ℕ) → StoredPlan (key_in version ns ss (with_texts l texts) w₃) (with_texts l texts) c found w₄ m → SameTexts ss l.at texts w₃ w₄ → PlanOf t w₄ m
         prepared w₄ m stored kept =
             planned version ns cs ms ds is ps ss p q w₁ long numbers r w₂ found long₂ sorted w₃ texts long₃ collected w₄
             (subst (λ (x : Layout). SameTexts ss x.at texts w₃ w₄) el kept) m

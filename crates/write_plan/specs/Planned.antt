@@ -1,5 +1,5 @@
 -- What is worked out before the output is written: where it lies in the work words, and what it says.
-use Rattle.std.specs.Prelude.{ℕ, ◌+◌, ◌*◌, ◌-◌, ◌≤◌, ◌<◌, ◌≡◌, ◌⊎◌, List, [], length, get_or, drop, leb}
+use Rattle.std.specs.Prelude.{ℕ, ◌+◌, ◌*◌, ◌-◌, ◌≤◌, ◌<◌, ◌≡◌, ◌⊎◌, List, [], length, get_or, drop, leb, Result, Ok, Err}
 use Rattle.laws.specs.Refusal.{unless, ◌▸◌}
 use Rattle.words.specs.Words.{NONE}
 use Rattle.image.specs.Sections.{Sections, node_count}
@@ -16,8 +16,6 @@ use Rattle.draft_image.specs.Ready.{OldsAt, NewsAt, OffsetsAt, text_uses}
 use Rattle.write_numbering.specs.Work.{tree_of, Numbered}
 use Rattle.write_text_keys.specs.Keys.{key_in, long_of}
 use Rattle.write_interning.specs.Uses.{stored_of, texts_joined, Offsets}
-use Rattle.write_plan.specs.declared.Plan.{Plan}
-use Rattle.write_plan.specs.declared.Plan.TheVariants.{Ready, Refused}
 
 -- where things lie before the texts are counted, by a draft's counts and the work words that it needs. Two words a use are sorted; behind
 -- them two words a text, a word for each path, two for a path's length by its node; at the end the numbers, two words a node
@@ -82,9 +80,9 @@ pub record ShapedTables (version : ℕ) (nodes named definitions items payload s
   pub known : Shaped (draft_of version nodes children named definitions items payload strings) w l c
 
 -- layout, counts and work words as said, or the number of the first of the rules that is broken
-abbrev pub PlanOf : Sections → List ℕ → Plan → Type 0
-PlanOf s w (Ready l c) = (plan_rule s ≡ 0) × (l ≡ planned_layout s) × (c ≡ image_counts s) × Prepared s w
-PlanOf s w (Refused k) = (plan_rule s ≡ k) × (k ≡ 0 → ⊥)
+abbrev pub PlanOf : Sections → List ℕ → Result (Layout × EntryCounts) ℕ → Type 0
+PlanOf s w (Ok plan) = (plan_rule s ≡ 0) × (plan.0 ≡ planned_layout s) × (plan.1 ≡ image_counts s) × Prepared s w
+PlanOf s w (Err k) = (plan_rule s ≡ k) × (k ≡ 0 → ⊥)
 
 -- counts with others of the index and the strings
 abbrev pub entries_with : EntryCounts → ℕ → ℕ → EntryCounts
@@ -101,14 +99,14 @@ entries_with c index strings =
     }
 
 -- of the texts of a layout and so many paths, stored by their keys: layout and counts by what that takes and the offsets, or that one is too many
-abbrev pub StoredPlan : (ℕ → List ℕ) → Layout → EntryCounts → ℕ → List ℕ → Plan → Type 0
-StoredPlan key l c paths w (Ready m k) =
+abbrev pub StoredPlan : (ℕ → List ℕ) → Layout → EntryCounts → ℕ → List ℕ → Result (Layout × EntryCounts) ℕ → Type 0
+StoredPlan key l c paths w (Ok plan) =
     let n = l.texts + paths in
-    (m ≡ layout_with l l.texts paths)
-    × (k ≡ entries_with c paths (length (texts_joined (stored_of key n))))
+    (plan.0 ≡ layout_with l l.texts paths)
+    × (plan.1 ≡ entries_with c paths (length (texts_joined (stored_of key n))))
     × (n ≤ NONE)
     × (length (texts_joined (stored_of key n)) ≤ NONE)
     × Offsets key n w
-StoredPlan key l c paths w (Refused k) =
+StoredPlan key l c paths w (Err k) =
     let n = l.texts + paths in
     (k ≡ no_room) × ((NONE < n) ⊎ ((n ≤ NONE) × (NONE < length (texts_joined (stored_of key n)))))

@@ -32,9 +32,7 @@ pub fn share(strings: &[u8], w: &mut [u32], layout: Layout)
     requires { layout.at + layout.texts + layout.texts ≤ length w.old }
     ensures { SameTexts strings.now layout.at layout.texts w.old w.new }
 {
-    let mut i = 1;
-    while i < layout.texts {
+    for i in 1..layout.texts {
         share_one(strings, w, layout, i);
-        i += 1;
     }
 }

@@ -8,6 +8,8 @@ use lib.ListN.{length}
 use Rattle.laws.specs.Sorted.{insert, isort}
 use Rattle.texts.proofs.Text.{before_self, before-trans, before-apart}
 use Rattle.texts.specs.Text.{by_key}
+use Rattle.draft.specs.declared.layout.Layout.{Layout}
+use Rattle.write_text_keys.specs.Keys.{key_of}
 use Rattle.write_sorting.specs.Sorted.{merge_with, merge, Strict, right_first}
 
 -- the two cases of a test, each with its equation
@@ -26,6 +28,13 @@ key_strict key =
       trans = λ a b c. before-trans (key a) (key b) (key c);
       apart = λ a b c. before-apart (key a) (key b) (key c);
     }
+
+-- the order of the texts that tables say
+abbrev pub by_tables : ℕ → List ℕ → List ℕ → Layout → List ℕ → ℕ → ℕ → Bool
+by_tables version nodes strings l tables = by_key (key_of version nodes strings l.texts l.paths l.lengths tables)
+
+pub tables_strict : (version : ℕ) (nodes strings : List ℕ) (l : Layout) (tables : List ℕ) → Strict (by_tables version nodes strings l tables)
+tables_strict version nodes strings l tables = key_strict (key_of version nodes strings l.texts l.paths l.lengths tables)
 
 -- ---- the steps of a merge
 

@@ -8,8 +8,9 @@ use native.Mathlib.Omega.{arith}
 use native.Mathlib.Numerals.{add-one}
 use borrow.Author.Tests.{ltb-true, ltb-false}
 use lib.Dec.{ltb}
-use lib.ListN.{length, take, drop, set, get_or, length-set, length-append, length-drop, get_or-append}
-use lib.Seq.{drop-cons, take-suc-set, take-add, drop-drop, get_or-drop, drop-set-lt, length-take-le, take_at, drop_at, paste, paste-suc, length-paste, get_or-take}
+use lib.ListN.{length, take, drop, set, get_or, length-set, length-append, length-drop}
+use lib.Seq.{drop-cons, take-suc-set, take-add, drop-drop, get_or-drop, drop-set-lt, length-take-le, take_at, drop_at, paste, length-paste, get_or-take}
+use Rattle.std.specs.List.{copy_within}
 use Rattle.laws.specs.Sorted.{isort}
 use Rattle.laws.proofs.Lists.{drop_more, to_end, part-back}
 use Rattle.write_sorting.specs.Sorted.{merge, right_first, takes_right, Strict, part, Ordered}
@@ -137,14 +138,6 @@ module _ (lt : ℕ → ℕ → Bool) (w : List ℕ) (m n : ℕ) (hm : m ≤ n) (
 
 -- ---- copies of m words within a list
 
--- a copy up to n leaves what is before n
-pub paste_low : (w : List ℕ) (n i p : ℕ) → p < n → n ≤ length w → get_or (paste w n w i) p 0 ≡ get_or w p 0
-paste_low w n i p h k =
-    let e : length (take n w) ≡ n = length-take-le n w k in
-    get_or-append (take n w ++ take i w) (drop (n + i) w) 0 p (omega (arith, length-append (take n w) (take i w)))
-    ∙ get_or-append (take n w) (take i w) 0 p (omega arith)
-    ∙ get_or-take n w p 0 h
-
 -- a copy leaves what lies behind it
 pub paste-behind : (w v : List ℕ) (n m p : ℕ) → n + m ≤ length w → m ≤ length v → n + m ≤ p → drop p (paste w n v m) ≡ drop p w
 paste-behind w v n m p h k l =
@@ -155,15 +148,6 @@ paste-behind w v n m p h k l =
     ∙ ap (drop (p - (n + m))) (drop_at (take n w ++ take m v) (drop (n + m) w) (n + m) e)
     ∙ drop-drop (p - (n + m)) (n + m) w
     ∙ ap (λ (r : ℕ). drop r w) (sym q)
-
--- a copy down from n leaves what is not before n
-pub paste-above : (w : List ℕ) (n i : ℕ) → i < n → n + i < length w → get_or (paste w 0 (drop n w) i) (n + i) 0 ≡ get_or (drop n w) i 0
-paste-above w n i h k =
-    get_d-later (n + i) (n + i) (paste w 0 (drop n w) i) w (paste-behind w (drop n w) 0 i (n + i) (omega arith) (omega (arith, length-drop n w)) (omega arith)) (omega arith)
-    ∙ sym (get_or-drop n w i 0)
-
-pub paste-down : (w v : List ℕ) (i : ℕ) → i < length w → i < length v → set (paste w 0 v i) i (get_or v i 0) ≡ paste w 0 v (suc i)
-paste-down w v i h k = ap (λ (j : ℕ). set (paste w 0 v i) j (get_or v i 0)) (sym (zero-add i)) ∙ paste-suc w 0 v i 0 (omega arith) k
 
 -- ---- a slice whose part from m on was lent and came back as y
 
@@ -252,8 +236,9 @@ pub record Copied (w : List ℕ) (m n at : ℕ) (x : List ℕ) : Type 0 where
   pub right : part m n x ≡ part m n w
   pub behind : drop at x ≡ drop at w
 
-pub copied : (w x : List ℕ) (m n at : ℕ) → m ≤ n → n + m ≤ at → at ≤ length w → x ≡ paste w n w m → Copied w m n at x
-copied w x m n at hm hn hat e =
+pub copied : (w x : List ℕ) (m n at : ℕ) → m ≤ n → n + m ≤ at → at ≤ length w → x ≡ copy_within w 0 m n → Copied w m n at x
+copied w x m n at hm hn hat came =
+    let e : x ≡ paste w n w m = came ∙ ap (paste w n w) (omega arith) in
     let lx : length x ≡ length w = ap length e ∙ length-paste w n w m (omega arith) (omega arith) in
     let ln : length (take n w) ≡ n = length-take-le n w (omega arith) in
     let e2 : x ≡ take n w ++ (take m w ++ drop (n + m) w) = e ∙ append_assoc (take n w) (take m w) (drop (n + m) w) in
@@ -270,12 +255,12 @@ copied w x m n at hm hn hat e =
 module _ (L : List ℕ → ℕ → ℕ → Bool) (w : List ℕ) (m n at : ℕ) (hm : m ≤ n) (hn : n + m ≤ at) (hat : at ≤ length w) where
   -- y is what came back of the first call, x the list after the copy, z what came back of the second
   pub halves : (y x z : List ℕ) → length y ≡ length (lent m w) → take (n - m) y ≡ isort (L (drop (at - m) (lent m w))) (take (n - m) (lent m w))
-      → drop (at - m) y ≡ drop (at - m) (lent m w) → x ≡ paste (back m w y) n (back m w y) m → length z ≡ length (lent n x)
+      → drop (at - m) y ≡ drop (at - m) (lent m w) → x ≡ copy_within (back m w y) 0 m n → length z ≡ length (lent n x)
       → take m z ≡ isort (L (drop (at - n) (lent n x))) (take m (lent n x)) → drop (at - n) z ≡ drop (at - n) (lent n x) → Halves (L (drop at w)) w m n at (back n x z)
   halves y x z ly ey dy ex lz ez dz =
       let A = came L w m at (omega arith) hat (n - m) y ly ey dy in
       let v : List ℕ = take m w ++ y in
-      let C = copied v x m n at hm hn (omega arith) (ex ∙ ap (λ (l : List ℕ). paste l n l m) A.whole) in
+      let C = copied v x m n at hm hn (omega arith) (ex ∙ ap (λ (l : List ℕ). copy_within l 0 m n) A.whole) in
       let lx : length x ≡ length w = C.room ∙ A.room in
       let B = came L x n at (omega arith) (omega arith) m z lz ez dz in
       let u : List ℕ = take n x ++ z in

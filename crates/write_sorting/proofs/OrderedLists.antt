@@ -1,16 +1,19 @@
 -- Lists in order: a sort gives one, and leaves one as it is.
-use Prim.Native.Nat.{ℕ, suc, ◌+◌, ◌-◌, ◌≤◌, ◌<◌}
+use Prim.Native.Nat.{ℕ, suc, ◌-◌, ◌≤◌, ◌<◌}
 use mathlib.Core.Path.{◌≡◌, refl, sym, ap, ap₂, ◌∙◌}
 use mathlib.Core.List.{List, [], ◌∷◌, ◌++◌, append-nil}
-use mathlib.Core.Bool.{Bool, true, false}
+use mathlib.Core.Bool.{Bool, true, false, not}
 use native.Mathlib.Omega.{arith}
-use native.Mathlib.Decide.{ℕ_discrete, dec_lt}
+use native.Mathlib.Decide.{ℕ_discrete}
 use lib.ListN.{length, get_or, take}
 use lib.Seq.{get_or-take, length-take-le}
+use borrow.Author.Tests.{not-true}
+use Rattle.std.specs.List.{list_all, range_with_len}
 use Rattle.laws.specs.Sorted.{insert, isort}
 use Rattle.laws.proofs.Members.{All}
 use Rattle.laws.proofs.Sorted.{all_insert}
 use Rattle.write_sorting.specs.Sorted.{merge, Strict, Rises, Ordered}
+use Rattle.draft.proofs.Ranges.{each-in_range}
 use Rattle.write_sorting.proofs.Laws.{cases, differ, merge_nil, merge_step}
 use Rattle.write_sorting.proofs.ListProperties.{Pairs, all_map, at_all, pairs_at, at_pairs, chain}
 
@@ -87,29 +90,15 @@ module _ (lt : ℕ → ℕ → Bool) (S : Strict lt) where
 
 -- ---- a list looked through
 
--- of the first i elements none is above the next
-pub record Level (lt : ℕ → ℕ → Bool) (l : List ℕ) (i : ℕ) : Type 0 where
-  pub each : (k : ℕ) → suc k < i → lt (get_or l (suc k) 0) (get_or l k 0) ≡ false
-
-pub level_one : (lt : ℕ → ℕ → Bool) (l : List ℕ) → Level lt l 1
-level_one lt l = record { each = λ k h. absurd (omega arith) }
-
-pub level_next : (lt : ℕ → ℕ → Bool) (l : List ℕ) (i : ℕ) → 0 < i → Level lt l i → lt (get_or l i 0) (get_or l (i - 1) 0) ≡ false → Level lt l (i + 1)
-level_next lt l i p a e = record { each = step }
-  where
-    step : (k : ℕ) → suc k < i + 1 → lt (get_or l (suc k) 0) (get_or l k 0) ≡ false
-    step k h =
-        elim (dec_lt (suc k) i) [
-          | yes q ↦ a.each k q
-          | no q ↦
-              let f : suc k ≡ i = omega arith in
-              let g : k ≡ i - 1 = omega arith in
-              ap₂ (λ (x y : ℕ). lt (get_or l x 0) (get_or l y 0)) f g ∙ e
-        ]
-
-pub level_ordered : (lt : ℕ → ℕ → Bool) → Strict lt → (l : List ℕ) (i n : ℕ) → n ≤ length l → Level lt l i → n ≤ i → Ordered lt (take n l)
-level_ordered lt S l i n m a h =
+-- of the first n elements none is below the one before it
+pub neighbours-ordered : (lt : ℕ → ℕ → Bool) → Strict lt → (l : List ℕ) (n : ℕ) → n ≤ length l
+    → list_all (λ i. not (lt (get_or l i 0) (get_or l (i - 1) 0))) (range_with_len 1 (n - 1)) ≡ true → Ordered lt (take n l)
+neighbours-ordered lt S l n m e =
     let long = length-take-le n l m in
     pairs_at (Low lt S) (take n l)
     (chain (Low lt S) (low_trans lt S) (take n l)
-    (λ k q. ap₂ lt (get_or-take n l (suc k) 0 (omega (arith, long))) (get_or-take n l k 0 (omega (arith, long))) ∙ a.each k (omega (arith, long))))
+    (λ k q.
+    let before : suc k - 1 ≡ k = omega arith in
+    let low = not-true _ (each-in_range (λ i. not (lt (get_or l i 0) (get_or l (i - 1) 0))) 1 (n - 1) e (suc k) (omega arith) (omega (arith, long))) in
+    ap₂ lt (get_or-take n l (suc k) 0 (omega (arith, long))) (get_or-take n l k 0 (omega (arith, long)))
+    ∙ (rw before at low)))

@@ -1,9 +1,9 @@
 // A stable merge sort of uses by their texts, in one lent slice: the first words are sorted, those after them are worked in, and the tables
 // by which texts are compared lie behind both.
+// The work words are lent by C's caller: no heap is used.
 #![tactic(auto)]
 
 ghost use Rattle.std.specs.Prelude.{◌≡◌, true, ◌≤◌, ◌<◌, ◌+◌, ◌-◌, ◌^◌, length, take, drop};
-ghost use Rattle.std.proofs.Math.Seq.{paste};
 ghost use Rattle.laws.specs.Sorted.{isort};
 ghost use Rattle.texts.specs.Text.{by_key};
 ghost use Rattle.write_text_keys.specs.Keys.{key_in, Placed};
@@ -18,14 +18,13 @@ pub fn number(w: &mut [u32], from: usize, to: usize)
     ensures { (take from w.new ≡ take from w.old) × (part from to w.new ≡ up_from from (to - from))
         × (drop to w.new ≡ drop to w.old) }
 {
-    let mut i = from;
-    while i < to {
+    for i in from..to {
         w[i] = i as u32;
-        i += 1;
     }
 }
 
 // Whether a merge of the words from n + i on and those from j up to n goes on with the latter.
+#[tactic(auto, unfolding(crate::specs::Sorted::takes_right))]
 fn takes_right(
     nodes: &[u32],
     strings: &[u8],
@@ -40,11 +39,7 @@ fn takes_right(
     ensures { let lt = by_key (key_in source.version nodes.now strings.now layout w.now) in
         result ≡ takes_right lt w.now n i j }
 {
-    if j < n {
-        write_text_keys::below(nodes, strings, w, layout, w[j], w[n + i], source)
-    } else {
-        false
-    }
+    j < n && write_text_keys::below(nodes, strings, w, layout, w[j], w[n + i], source)
 }
 
 // Merges the m words from n on and those from m up to n into the first n words.
@@ -65,6 +60,7 @@ fn merge_parts(
     let mut i = 0;
     let mut j = m;
     let mut k = 0;
+    // By index: of two parts, each at its own pace, into a third of the same slice.
     while i < m {
         if takes_right(nodes, strings, w, layout, n, i, j, source) {
             w[k] = w[j];
@@ -74,30 +70,6 @@ fn merge_parts(
             i += 1;
         }
         k += 1;
-    }
-}
-
-// Copies the first m words to n and on.
-fn copy_up(w: &mut [u32], m: usize, n: usize)
-    requires { (m ≤ n) × (n + m ≤ length w.old) }
-    ensures { w.new ≡ paste w.old n w.old m }
-{
-    let mut i = 0;
-    while i < m {
-        w[n + i] = w[i];
-        i += 1;
-    }
-}
-
-// Copies the m words from n on to the front.
-fn copy_down(w: &mut [u32], m: usize, n: usize)
-    requires { (m ≤ n) × (n + m ≤ length w.old) }
-    ensures { w.new ≡ paste w.old 0 (drop n w.old) m }
-{
-    let mut i = 0;
-    while i < m {
-        w[i] = w[n + i];
-        i += 1;
     }
 }
 
@@ -123,7 +95,7 @@ fn join_parts(
     if write_text_keys::below(nodes, strings, w, layout, first, last, source) {
         merge_parts(nodes, strings, w, layout, m, n, source);
     } else {
-        copy_down(w, m, n);
+        w.copy_within(n..n + m, 0);
     }
 }
 
@@ -139,12 +111,16 @@ pub fn sort(nodes: &[u32], strings: &[u8], w: &mut [u32], layout: Layout, n: usi
         return;
     }
     let m = n / 2;
-    let mut second = layout;
-    second.at = layout.at - m;
+    let second = Layout {
+        at: layout.at - m,
+        ..layout
+    };
     sort(nodes, strings, &mut w[m..], second, n - m, source);
-    copy_up(w, m, n);
-    let mut first = layout;
-    first.at = layout.at - n;
+    w.copy_within(..m, n);
+    let first = Layout {
+        at: layout.at - n,
+        ..layout
+    };
     sort(nodes, strings, &mut w[n..], first, m, source);
     join_parts(nodes, strings, w, layout, m, n, source);
 }
@@ -162,14 +138,7 @@ fn in_order(
     ensures { let lt = by_key (key_in source.version nodes.now strings.now layout w.now) in
         result ≡ true → Ordered lt (take n w.now) }
 {
-    let mut i = 1;
-    while i < n {
-        if write_text_keys::below(nodes, strings, w, layout, w[i], w[i - 1], source) {
-            return false;
-        }
-        i += 1;
-    }
-    true
+    (1..n).all(|i| !write_text_keys::below(nodes, strings, w, layout, w[i], w[i - 1], source))
 }
 
 // Sorts the first n words by their texts, unless they stand in order already; the n words after them are worked in.
@@ -214,6 +183,6 @@ pub fn merge(
     if m == n {
         return;
     }
-    copy_up(w, m, n);
+    w.copy_within(..m, n);
     join_parts(nodes, strings, w, layout, m, n, source);
 }

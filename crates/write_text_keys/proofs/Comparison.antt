@@ -8,8 +8,8 @@ use lib.Dec.{ltb}
 use lib.ListN.{length, take, drop, take-append-drop}
 use lib.Seq.{drop-cons, length-take-le}
 use borrow.Author.Tests.{le-ltb}
-use Rattle.texts.specs.declared.Order.{Order}
-use Rattle.texts.specs.declared.Order.TheVariants.{Less, Equal, Greater}
+use Rattle.std.specs.declared.cmp.Ordering.{Ordering}
+use Rattle.std.specs.declared.cmp.Ordering.TheVariants.{Less, Equal, Greater}
 use Rattle.texts.specs.Text.{by_head, order_of, is_less, before}
 use Rattle.write_text_keys.specs.Keys.{decided}
 
@@ -28,7 +28,7 @@ unfolding decided
 decided-last xs ys x y later e = decided_append xs ys (x ∷ []) (y ∷ []) later e
 
 -- what the order of two texts decides, where nothing is behind the shorter one
-abbrev pub by_order : Order → Bool → Bool
+abbrev pub by_order : Ordering → Bool → Bool
 by_order Less later = true
 by_order Equal later = later
 by_order Greater later = false

@@ -2,7 +2,6 @@ pub mod Comparison
 pub mod Digits
 pub mod BackwardReads
 pub mod NameRuns
-pub mod Pieces
 pub mod Uses
 pub mod Lengths
 pub mod CanonicalPaths

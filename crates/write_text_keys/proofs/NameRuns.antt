@@ -7,8 +7,8 @@ use native.Mathlib.Omega.{arith}
 use lib.Dec.{leb}
 use lib.ListN.{length, take, drop, length-take, length-drop}
 use lib.Seq.{get_or-drop, drop-drop, drop_at, take-add}
-use borrow.Author.Tests.{le-leb, leb-true}
-use Rattle.texts.specs.declared.Order.{Order}
+use borrow.Author.Tests.{leb-true}
+use Rattle.std.specs.declared.cmp.Ordering.{Ordering}
 use Rattle.texts.specs.Text.{order_of}
 use Rattle.write_text_keys.specs.declared.Cursor.{Cursor}
 use Rattle.write_text_keys.specs.Keys.{read_back, back, name_left, decided}
@@ -30,10 +30,6 @@ module _ (strings : List ℕ) (c : Cursor) where
       by true true p q g = record { named = p; inside = leb-true (c.at + c.left) (length strings) q; left = g }
       by true false p q g = absurd (omega arith)
       by false d p q g = absurd (omega arith)
-
-  pub left-inside : c.named ≡ true → c.at + c.left ≤ length strings → name_left strings c ≡ c.left
-  unfolding name_left
-  left-inside p h = rw (p, le-leb (c.at + c.left) (length strings) h)
 
   -- they are a part of the strings
   pub run_read : (v : ℕ) (nodes : List ℕ) (k from : ℕ) → InName strings c k → from + k ≡ c.at + c.left → read_back k v nodes strings c ≡ take k (drop from strings)
@@ -75,7 +71,7 @@ module _ (v : ℕ) (nodes strings : List ℕ) (c d : Cursor) (k : ℕ) (z : 0 < 
       sym (rw one (decided-self (read_back k v nodes strings d) later))
 
   -- by the order of both
-  pub run_order : (s t : List ℕ) (o : Order) → s ≡ read_back k v nodes strings c → t ≡ read_back k v nodes strings d → o ≡ order_of s t
+  pub run_order : (s t : List ℕ) (o : Ordering) → s ≡ read_back k v nodes strings c → t ≡ read_back k v nodes strings d → o ≡ order_of s t
       → by_order o later ≡ decided (read_back k v nodes strings c) (read_back k v nodes strings d) later
   run_order s t o p q e =
       rw (e, p, q) (sym (decided-order (read_back k v nodes strings c) (read_back k v nodes strings d) later (read_length v nodes strings k c ∙ sym (read_length v nodes strings k d))))

@@ -14,11 +14,12 @@ use draft::layout::Layout;
 use draft::source;
 use draft::source::Source;
 use image::NodeRecord;
-use texts::{Order, comes_before};
+use std::cmp::Ordering;
+use texts::comes_before;
 use words::output::put_bytes;
 
 // Where a text lies in the strings.
-#[derive(Clone, Copy)]
+#[derive(Clone, Copy, PartialEq)]
 struct Part {
     offset: u32,
     len: u32,
@@ -42,6 +43,7 @@ fn digit_count(place: u32) -> u32
 }
 
 // How long node `x`'s piece of a path is.
+#[tactic(auto, unfolding(crate::specs::Keys::piece_length))]
 fn piece_length(nodes: &[u32], x: u32, source: Source) -> u32
     ensures { result ≡ piece_length source.version nodes.now x }
 {
@@ -53,6 +55,7 @@ fn piece_length(nodes: &[u32], x: u32, source: Source) -> u32
 }
 
 // The cursor at the end of node `x`'s piece.
+#[tactic(auto, unfolding(crate::specs::Keys::at_end, crate::specs::Keys::piece_length))]
 fn at_end(nodes: &[u32], x: u32, source: Source) -> Cursor
     ensures { result ≡ at_end source.version nodes.now x }
 {
@@ -78,26 +81,26 @@ fn at_end(nodes: &[u32], x: u32, source: Source) -> Cursor
 fn byte_at(strings: &[u8], i: usize) -> u8
     ensures { result ≡ get_or strings.now i 0 }
 {
-    if i < strings.len() { strings[i] } else { 0 }
+    strings.get(i).copied().unwrap_or(0)
 }
 
 // Byte `i` of a number in decimal: 0 past the end.
 fn digit_at(n: u32, i: usize) -> u8
     ensures { result ≡ get_or (decimal n) i 0 }
 {
-    let mut size = texts::decimal_len(n);
+    let size = texts::decimal_len(n);
     if size <= i {
         return 0;
     }
     let mut rest = n;
-    while i + 1 < size {
-        rest = rest / 10;
-        size -= 1;
+    for _behind in i + 1..size {
+        rest /= 10;
     }
     (48 + rest % 10) as u8
 }
 
 // The byte before a cursor.
+#[tactic(auto, unfolding(crate::specs::Keys::last_byte))]
 fn last_byte(strings: &[u8], c: Cursor) -> u8
     ensures { result ≡ last_byte strings.now c }
 {
@@ -112,6 +115,7 @@ fn last_byte(strings: &[u8], c: Cursor) -> u8
 }
 
 // The cursor before that byte.
+#[tactic(auto, unfolding(crate::specs::Keys::step_back))]
 fn step_back(nodes: &[u32], c: Cursor, source: Source) -> Cursor
     ensures { result ≡ step_back source.version nodes.now c }
 {
@@ -140,6 +144,7 @@ fn back_within(c: Cursor, count: usize) -> Cursor
 }
 
 // The cursor `count` bytes before another. A whole piece is passed in one step.
+// A `while`: each step is as long as its piece.
 fn skip(nodes: &[u32], c: Cursor, count: usize, source: Source) -> Cursor
     ensures { result ≡ back count source.version nodes.now c }
 {
@@ -152,62 +157,37 @@ fn skip(nodes: &[u32], c: Cursor, count: usize, source: Source) -> Cursor
     back_within(x, rest)
 }
 
-// The smallest of three numbers.
-fn shortest(a: usize, b: usize, c: usize) -> usize
-    ensures { (result ≤ a) × (result ≤ b) × (result ≤ c) }
-{
-    if a < b {
-        if a < c {
-            return a;
-        }
-        return c;
-    }
-    if b < c { b } else { c }
-}
-
 // Whether what is left before both cursors is one text, since one node is above both.
 fn rest_alike(c: Cursor, d: Cursor) -> bool
     ensures { result ≡ alike c d }
 {
-    if c.left != 0 {
-        return false;
-    }
-    if d.left != 0 {
-        return false;
-    }
-    c.above == d.above
+    c.left == 0 && d.left == 0 && c.above == d.above
 }
 
 // Whether a text comes before another: their bytes here decide, else the bytes behind them have.
 fn decide(x: u8, y: u8, later: bool) -> bool
     ensures { result ≡ cond (ltb x y) true (cond (ltb y x) false later) }
 {
-    if x < y {
-        return true;
+    if x == y { later } else { x < y }
+}
+
+// How many bytes before a cursor are read from its name: none where it has none, or one that is not inside the strings.
+#[tactic(auto, unfolding(crate::specs::Keys::name_left))]
+fn name_left(strings: &[u8], c: Cursor) -> usize
+    ensures { result ≡ name_left strings.now c }
+{
+    if c.named && c.at as usize + c.left as usize <= strings.len() {
+        c.left as usize
+    } else {
+        0
     }
-    if y < x {
-        return false;
-    }
-    later
 }
 
 // How many of the `n` bytes before each of two cursors both read from names that are inside the strings.
 fn run_length(strings: &[u8], c: Cursor, d: Cursor, n: usize) -> usize
     ensures { (result ≤ n) × (result ≤ name_left strings.now c) × (result ≤ name_left strings.now d) }
 {
-    if !c.named {
-        return 0;
-    }
-    if !d.named {
-        return 0;
-    }
-    if strings.len() < c.at as usize + c.left as usize {
-        return 0;
-    }
-    if strings.len() < d.at as usize + d.left as usize {
-        return 0;
-    }
-    shortest(c.left as usize, d.left as usize, n)
+    name_left(strings, c).min(name_left(strings, d)).min(n)
 }
 
 // The `run` bytes before a cursor, which are its name's.
@@ -231,14 +211,15 @@ fn run_below(strings: &[u8], c: Cursor, d: Cursor, run: usize, later: bool) -> b
     }
     let order = texts::compare(run_of(strings, c, run), run_of(strings, d, run));
     match order {
-        Order::Less => true,
-        Order::Equal => later,
-        Order::Greater => false,
+        Ordering::Less => true,
+        Ordering::Equal => later,
+        Ordering::Greater => false,
     }
 }
 
 // Whether the `n` bytes before `c` come before the `n` bytes before `d`; where they are alike, `later` says it of what is behind them.
 // What both read from names is compared at once.
+// A `while`: each step is as long as its run.
 fn read_below(
     nodes: &[u32],
     strings: &[u8],
@@ -326,6 +307,7 @@ fn long_of(tab: &[u32], lengths: usize, x: u32) -> usize
 }
 
 // The length of the text of use `a`.
+#[tactic(auto, unfolding(crate::specs::Keys::key_length))]
 fn length_of(strings: &[u8], tab: &[u32], layout: Layout, a: u32) -> usize
     requires { (layout.paths ≤ length tab.now) × (layout.lengths ≤ length tab.now) }
     ensures { result ≡ key_length strings.now layout.texts layout.paths layout.lengths tab.now a }
@@ -337,6 +319,7 @@ fn length_of(strings: &[u8], tab: &[u32], layout: Layout, a: u32) -> usize
 }
 
 // The cursor at the end of the text of use `a`.
+#[tactic(auto, unfolding(crate::specs::Keys::end_of))]
 fn end_of(nodes: &[u32], tab: &[u32], layout: Layout, a: u32, source: Source) -> Cursor
     requires { layout.paths ≤ length tab.now }
     ensures { result ≡ end_of source.version nodes.now layout.texts layout.paths tab.now a }
@@ -357,12 +340,7 @@ fn end_of(nodes: &[u32], tab: &[u32], layout: Layout, a: u32, source: Source) ->
 fn parts_below(strings: &[u8], p: Part, q: Part) -> bool
     ensures { let text = text_or_empty strings.now in result ≡ before (text p.offset p.len) (text q.offset q.len) }
 {
-    if p.offset == q.offset {
-        if p.len == q.len {
-            return false;
-        }
-    }
-    comes_before(part_bytes(strings, p), part_bytes(strings, q))
+    p != q && comes_before(part_bytes(strings, p), part_bytes(strings, q))
 }
 
 // Whether the text of text use `a` comes before that of text use `b`.
@@ -429,10 +407,8 @@ pub fn below(
 {
     let at = layout.at;
     let tab = &w[at..];
-    if (a as usize) < layout.texts {
-        if (b as usize) < layout.texts {
-            return texts_below(strings, tab, a, b);
-        }
+    if (a as usize) < layout.texts && (b as usize) < layout.texts {
+        return texts_below(strings, tab, a, b);
     }
     ends_below(nodes, strings, tab, layout, a, b, source)
 }
@@ -453,9 +429,7 @@ fn put_read(nodes: &[u32], strings: &[u8], c: Cursor, n: usize, out: &mut [u8], 
         out.new ≡ read ++ drop n out.old }
 {
     let mut x = c;
-    let mut left = n;
-    while 0 < left {
-        left -= 1;
+    for left in (0..n).rev() {
         out[left] = last_byte(strings, x);
         x = step_back(nodes, x, source);
     }

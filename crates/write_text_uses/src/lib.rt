@@ -1,4 +1,5 @@
 // The texts of a draft in the order of use, as words: two a use, its offset and its length.
+// The work words are lent by C's caller: no heap is used.
 #![tactic(auto)]
 
 ghost use Rattle.std.specs.Prelude.{◌≡◌, List, [], ◌∷◌, ◌++◌, ℕ, ◌+◌, ◌*◌, ◌/◌, ◌≤◌, ◌<◌, length};
@@ -21,10 +22,7 @@ use image::{ImageView, NONE, tag};
 fn is_absent(offset: u32, len: u32) -> bool
     ensures { result ≡ absent offset len }
 {
-    if offset != NONE {
-        return false;
-    }
-    len == NONE
+    offset == NONE && len == NONE
 }
 
 // Writes the words of one use, and says where the next ones go.
@@ -70,10 +68,8 @@ fn put_list_items(payload: &[u8], start: usize, count: usize, w: &mut [u32], at:
     ensures { Put (join_of count (list_item_pairs (payload_only payload.now) start)) w.old at w.new result }
 {
     let mut k = at;
-    let mut j = 0;
-    while j < count {
+    for j in 0..count {
         k = put_list_item(payload, start, j, w, k);
-        j += 1;
     }
     k
 }
@@ -85,12 +81,10 @@ fn put_list_origins(payload: &[u8], first: usize, count: usize, w: &mut [u32], a
     ensures { Put (join_of count (origin_pairs payload.now first)) w.old at w.new result }
 {
     let mut k = at;
-    let mut j = 0;
-    while j < count {
+    for j in 0..count {
         let offset = payload_word(payload, first + j * ORIGIN_BYTES);
         let len = payload_word(payload, first + j * ORIGIN_BYTES + ORIGIN_LENGTH_AT);
         k = put_use(w, k, offset, len);
-        j += 1;
     }
     k
 }
@@ -186,11 +180,9 @@ fn put_nodes(
 {
     let count = node_count(nodes, source);
     let mut k = at;
-    let mut j = 0;
-    while j < count {
+    for j in 0..count {
         let i = w[order + j] as usize;
         k = put_node(nodes, i, payload, w, k, source);
-        j += 1;
     }
     k
 }
@@ -203,13 +195,11 @@ fn put_entries(entries: &[u32], first: u32, count: u32, w: &mut [u32], at: usize
     let start = first as usize;
     let end = count as usize;
     let mut k = at;
-    let mut j = 0;
-    while j < end {
+    for j in 0..end {
         let entry = (start + j) * ImageView::TEXT_ENTRY_WORDS;
         let offset = word(entries, entry);
         let len = word(entries, entry + 1);
         k = put_use(w, k, offset, len);
-        j += 1;
     }
     k
 }
@@ -236,6 +226,7 @@ fn put_container(
 }
 
 // Of the named entries of all nodes, in the image's order.
+// Beside `put_nodes` the step differs. One loop for both would take it as a closure that writes to `w`, with both contracts' facts: no plainer.
 fn put_named(
     nodes: &[u32],
     named: &[u32],
@@ -252,11 +243,9 @@ fn put_named(
 {
     let count = node_count(nodes, source);
     let mut k = at;
-    let mut j = 0;
-    while j < count {
+    for j in 0..count {
         let i = w[order + j] as usize;
         k = put_container(nodes, i, named, w, k, source);
-        j += 1;
     }
     k
 }
@@ -281,10 +270,8 @@ fn put_definitions(definitions: &[u32], items: &[u32], w: &mut [u32], at: usize)
 {
     let count = definitions.len() / ImageView::DEFINITION_WORDS;
     let mut k = at;
-    let mut d = 0;
-    while d < count {
+    for d in 0..count {
         k = put_definition(definitions, items, d, w, k);
-        d += 1;
     }
     k
 }

@@ -1,27 +1,16 @@
 // Section 1: the ordered children of the image's nodes, by their numbers in the image.
-ghost use Rattle.std.specs.Prelude.{◌≡◌, cond, ◌+◌, ◌*◌, ◌/◌, ◌≤◌, length, eqb};
+ghost use Rattle.std.specs.Prelude.{◌≡◌, ◌+◌, ◌*◌, ◌/◌, ◌≤◌, length};
 ghost use Rattle.words.specs.Output.{put_at};
 ghost use Rattle.write_tree_sections.specs.Held.{child_words, OrderFits, children_in_order};
 ghost use Rattle.image.specs.Sections.{node_words, child_size};
-ghost use Rattle.image.specs.Tags.{container_tag};
 ghost use Rattle.write_tree_sections.specs.Put.{ChildrenPut};
 
+use crate::kinds::if_container;
 use draft::layout::Layout;
 use draft::source::{Source, node_at, node_count, word};
-use image::{ImageView, NodeRecord, tag};
+use image::ImageView;
 use words::put_word;
 use write_numbering::numbers::new_number;
-
-// How many ordered children a node has.
-fn child_count(node: NodeRecord) -> u32
-    ensures { result ≡ cond (eqb node.tag container_tag) node.f4 0 }
-{
-    if node.tag == tag::CONTAINER {
-        node.f4
-    } else {
-        0
-    }
-}
 
 // Writes at `at` the children of one node: `count` entries of the draft from `first` on.
 fn put_children_of(
@@ -39,13 +28,11 @@ fn put_children_of(
     let start = first as usize;
     let all = count as usize;
     let mut place = at;
-    let mut j = 0;
-    while j < all {
+    for j in 0..all {
         let old = word(children, start + j);
         let child = new_number(work, new, old);
         put_word(out, place, child);
         place += ImageView::WORD_BYTES;
-        j += 1;
     }
 }
 
@@ -67,12 +54,10 @@ pub fn put_children(
     let order = layout.order;
     let count = node_count(nodes, source);
     let mut at = 0;
-    let mut j = 0;
-    while j < count {
+    for j in 0..count {
         let node = node_at(nodes, word(work, order + j) as usize, source);
-        let own = child_count(node);
+        let own = if_container(node, node.f4);
         put_children_of(children, work, layout.new, node.f3, own, out, at);
         at += ImageView::WORD_BYTES * own as usize;
-        j += 1;
     }
 }

@@ -1,27 +1,16 @@
 // Section 2: the named children of the image's nodes, each a text and a node by its number in the image.
-ghost use Rattle.std.specs.Prelude.{◌≡◌, cond, ◌+◌, ◌*◌, ◌/◌, ◌≤◌, length, eqb};
+ghost use Rattle.std.specs.Prelude.{◌≡◌, ◌+◌, ◌*◌, ◌/◌, ◌≤◌, length};
 ghost use Rattle.words.specs.Output.{put_at};
 ghost use Rattle.write_tree_sections.specs.Held.{named_words, NamedFit, named_in_order};
 ghost use Rattle.image.specs.Sections.{node_words, text_entry_size};
-ghost use Rattle.image.specs.Tags.{container_tag};
 ghost use Rattle.write_tree_sections.specs.Put.{NamedPut};
 
+use crate::kinds::if_container;
 use draft::layout::Layout;
 use draft::source::{Source, node_at, node_count, word};
-use image::{ImageView, NodeRecord, tag};
+use image::ImageView;
 use words::output::put_words;
 use write_numbering::numbers::new_number;
-
-// How many named children a node has.
-fn named_count(node: NodeRecord) -> u32
-    ensures { result ≡ cond (eqb node.tag container_tag) node.f6 0 }
-{
-    if node.tag == tag::CONTAINER {
-        node.f6
-    } else {
-        0
-    }
-}
 
 // Writes at `at` the named children of one node: `count` entries of the draft from `first` on. The offsets of their texts are the
 // words from `text` on.
@@ -41,14 +30,12 @@ fn put_named_of(
     let start = first as usize;
     let all = count as usize;
     let mut place = at;
-    let mut j = 0;
-    while j < all {
+    for j in 0..all {
         let entry = (start + j) * ImageView::TEXT_ENTRY_WORDS;
         let node = new_number(work, new, word(named, entry + 2));
         let words = [word(work, text + j), word(named, entry + 1), node];
         put_words(out, place, &words);
         place += ImageView::TEXT_ENTRY_BYTES;
-        j += 1;
     }
 }
 
@@ -72,13 +59,11 @@ pub fn put_named(
     let count = node_count(nodes, source);
     let mut text = offsets;
     let mut at = 0;
-    let mut j = 0;
-    while j < count {
+    for j in 0..count {
         let node = node_at(nodes, word(work, order + j) as usize, source);
-        let own = named_count(node);
+        let own = if_container(node, node.f6);
         put_named_of(named, work, layout.new, text, node.f5, own, out, at);
         text += own as usize;
         at += ImageView::TEXT_ENTRY_BYTES * own as usize;
-        j += 1;
     }
 }

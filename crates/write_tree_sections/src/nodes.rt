@@ -43,12 +43,11 @@ fn after(starts: Starts, node: NodeRecord) -> Starts
         tag::CONTAINER => Starts {
             children: starts.children + node.f4,
             named: starts.named + node.f6,
-            payload: starts.payload,
+            ..starts
         },
         tag::LIST_VALUE => Starts {
-            children: starts.children,
-            named: starts.named,
             payload: starts.payload + node.f1,
+            ..starts
         },
         _ => starts,
     }
@@ -78,8 +77,7 @@ pub fn put_nodes(
         payload: 0,
     };
     let mut at = 0;
-    let mut j = 0;
-    while j < count {
+    for j in 0..count {
         let node = node_at(nodes, word(work, order + j) as usize, source);
         put_record(
             encode_kind(node, work, layout.new, next_text, starts),
@@ -90,7 +88,6 @@ pub fn put_nodes(
         next_text += texts_of(node, payload);
         starts = after(starts, node);
         at += size;
-        j += 1;
     }
     next_text
 }

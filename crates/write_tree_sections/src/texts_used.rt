@@ -16,10 +16,8 @@ fn list_texts(payload: &[u8], start: u32) -> usize
     let items = payload_get(payload, at) as usize;
     let origins = payload_get(payload, at + ORIGIN_COUNT_AT) as usize;
     let mut present = 0;
-    let mut j = 0;
-    while j < items {
+    for j in 0..items {
         present += text_count(payload_get(payload, at + HEAD_BYTES + j * ITEM_BYTES));
-        j += 1;
     }
     present + items + origins
 }

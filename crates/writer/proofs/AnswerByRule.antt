@@ -7,7 +7,7 @@ use lib.Dec.{leb, eqb}
 use borrow.Author.Tests.{le-leb, lt-leb, leb-true, leb-false, eq-eqb, ne_eqb, eqb-true, eqb-false}
 use Rattle.laws.proofs.Flags.{both_true}
 use Rattle.words.specs.Words.{NONE}
-use Rattle.writer.specs.declared.Encoded.TheVariants.{Written, Short, Refused}
+use Rattle.writer.specs.Encoded.{Written, Short, Refused}
 use Rattle.writer.specs.Answer.{encoded_by, of_encoded}
 
 module _ (r long : ℕ) where

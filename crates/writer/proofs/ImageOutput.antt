@@ -1,4 +1,5 @@
 -- The image that was planned is put into the output, or does not fit.
+use Rattle.std.specs.Prelude.{None, Option, Some, ℕ}
 use Prim.Native.Nat.{ℕ, ◌≤◌, ◌<◌}
 use mathlib.Core.Path.{◌≡◌, ap, ◌∙◌}
 use mathlib.Core.List.{List}
@@ -12,24 +13,22 @@ use Rattle.image.specs.Counted.{length_by}
 use Rattle.draft_image.specs.Encode.{image_for}
 use Rattle.words.specs.Output.{over}
 use Rattle.draft.specs.declared.layout.Layout.{Layout}
-use Rattle.write_image.specs.declared.size.Size.{Size}
-use Rattle.write_image.specs.declared.size.Size.TheVariants.{Bytes, TooLong}
 use Rattle.write_image.specs.Length.{size_of, image_length}
 use Rattle.write_image.specs.Given.{Ready}
-use Rattle.writer.specs.declared.Encoded.TheVariants.{Written, Short, Refused}
+use Rattle.writer.specs.Encoded.{Written, Short, Refused}
 use Rattle.writer.specs.Answer.{fits_output, EncodeAnswered}
 use Rattle.writer.specs.Planned.{Drawn}
 use Rattle.writer.proofs.PlanToImage.{rules, ready}
 use Rattle.writer.proofs.Outcomes.{size-bytes, size-long, image-long, image-short, image_put}
 
-module _ (ink : ℕ) (s : Sections) (w : List ℕ) (l : Layout) (c : EntryCounts) (d : Drawn s w l c) (out₀ : List ℕ) (a : Size) (e : a ≡ size_of (length_by s.version c)) where
+module _ (ink : ℕ) (s : Sections) (w : List ℕ) (l : Layout) (c : EntryCounts) (d : Drawn s w l c) (out₀ : List ℕ) (a : Option ℕ) (e : a ≡ size_of (length_by s.version c)) where
   known : a ≡ size_of (image_length s)
   known = e ∙ ap (λ (x : EntryCounts). size_of (length_by s.version x)) d.counts
 
-  pub put_long : a ≡ TooLong → EncodeAnswered ink s (unless (fits_output ink s (length out₀)) 23) out₀ out₀ (Refused 23)
+  pub put_long : a ≡ None → EncodeAnswered ink s (unless (fits_output ink s (length out₀)) 23) out₀ out₀ (Refused 23)
   put_long q = image-long ink s d.tables (rules s d.tables d.planned).0 out₀ (size-long (image_length s) a known q)
 
-  module _ (m : ℕ) (q : a ≡ Bytes m) where
+  module _ (m : ℕ) (q : a ≡ Some m) where
     sized : (m ≡ image_length s) × (image_length s ≤ NONE)
     sized = size-bytes (image_length s) m a known q
 

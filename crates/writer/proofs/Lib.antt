@@ -1,3 +1,4 @@
+pub mod Errors
 pub mod AnswerByRule
 pub mod Answers
 pub mod PlanToImage

@@ -1,4 +1,5 @@
 -- What each end of the writer comes to: the answer, the output and the work words.
+use Rattle.std.specs.Prelude.{None, Option, Some, ℕ}
 use Prim.Native.Nat.{ℕ, ◌≤◌, ◌<◌}
 use mathlib.Core.Path.{◌≡◌, refl, sym, ap, ◌∙◌, subst}
 use mathlib.Core.List.{List, ◌++◌}
@@ -16,12 +17,9 @@ use Rattle.draft.specs.Draft.{tables_rule, write_words, reach_rule}
 use Rattle.draft_image.specs.Encode.{image_for, encode_rule, out_after, untouched, encode_work_after}
 use Rattle.words.specs.Output.{over}
 use Rattle.write_plan.specs.Planned.{plan_rule}
-use Rattle.write_image.specs.declared.size.Size.{Size}
-use Rattle.write_image.specs.declared.size.Size.TheVariants.{Bytes, TooLong}
 use Rattle.write_image.specs.Length.{size_of, image_length}
 use Rattle.write_image.proofs.SectionLengths.{length_is}
-use Rattle.writer.specs.declared.Encoded.{Encoded}
-use Rattle.writer.specs.declared.Encoded.TheVariants.{Written, Short, Refused}
+use Rattle.writer.specs.Encoded.{Encoded, Written, Short, Refused}
 use Rattle.writer.specs.Answer.{encoded_of, fits_output, EncodeAnswered, WrittenWith}
 use Rattle.writer.proofs.Answers.{ink_wrong, tables-wrong, words_few, cleared, plan_wrong, plan_long, room-decides}
 use Rattle.writer.proofs.AnswerByRule.{by_zero, by_room, by_refusal}
@@ -29,29 +27,29 @@ use Rattle.draft_image.proofs.Numbers.{tables_leave}
 
 -- ---- the size of the image
 
-tag : Size → ℕ
-tag (Bytes n) = 0
-tag TooLong = 1
+tag : Option ℕ → ℕ
+tag (Some n) = 0
+tag None = 1
 
-bytes : Size → ℕ
-bytes (Bytes n) = n
-bytes TooLong = 0
+bytes : Option ℕ → ℕ
+bytes (Some n) = n
+bytes None = 0
 
-bytes_by : (long m : ℕ) (b : Bool) → leb long NONE ≡ b → Bytes m ≡ cond b (Bytes long) TooLong → (m ≡ long) × (long ≤ NONE)
+bytes_by : (long m : ℕ) (b : Bool) → leb long NONE ≡ b → Some m ≡ cond b (Some long) None → (m ≡ long) × (long ≤ NONE)
 unfolding tag bytes
 bytes_by long m true e q = (ap {B = ℕ} bytes q, leb-true long NONE e)
 bytes_by long m false e q = let z : ◌≡◌ {A = ℕ} 0 1 = ap {B = ℕ} tag q in absurd (omega arith)
 
-long_by : (long : ℕ) (b : Bool) → leb long NONE ≡ b → TooLong ≡ cond b (Bytes long) TooLong → NONE < long
+long_by : (long : ℕ) (b : Bool) → leb long NONE ≡ b → None ≡ cond b (Some long) None → NONE < long
 unfolding tag
 long_by long true e q = let z : ◌≡◌ {A = ℕ} 1 0 = ap {B = ℕ} tag q in absurd (omega arith)
 long_by long false e q = leb-false long NONE e
 
-pub size-bytes : (long m : ℕ) (a : Size) → a ≡ size_of long → a ≡ Bytes m → (m ≡ long) × (long ≤ NONE)
+pub size-bytes : (long m : ℕ) (a : Option ℕ) → a ≡ size_of long → a ≡ Some m → (m ≡ long) × (long ≤ NONE)
 unfolding size_of
 size-bytes long m a e q = bytes_by long m (leb long NONE) refl (sym q ∙ e)
 
-pub size-long : (long : ℕ) (a : Size) → a ≡ size_of long → a ≡ TooLong → NONE < long
+pub size-long : (long : ℕ) (a : Option ℕ) → a ≡ size_of long → a ≡ None → NONE < long
 unfolding size_of
 size-long long a e q = long_by long (leb long NONE) refl (sym q ∙ e)
 

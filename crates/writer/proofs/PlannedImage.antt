@@ -1,4 +1,5 @@
 -- The plan of a draft, and the image by it.
+use Rattle.std.specs.Prelude.{Result, Ok, Err}
 use Prim.Native.Nat.{ℕ, ◌≤◌}
 use mathlib.Core.Path.{◌≡◌, ◌∙◌, subst}
 use mathlib.Core.List.{List}
@@ -13,11 +14,9 @@ use Rattle.draft.specs.declared.layout.Layout.{Layout}
 use Rattle.draft.specs.Needs.{draft_counts, words_for}
 use Rattle.draft.specs.Source.{draft_of}
 use Rattle.draft.specs.Draft.{tables_rule, write_words}
-use Rattle.write_plan.specs.declared.Plan.{Plan}
-use Rattle.write_plan.specs.declared.Plan.TheVariants.{Ready, Refused}
 use Rattle.write_plan.specs.Planned.{layout_by, layout_of, PlanOf}
-use Rattle.writer.specs.declared.Encoded.{Encoded}
-use Rattle.writer.specs.declared.Encoded.TheVariants as encoded
+use Rattle.writer.specs.Encoded.{Encoded}
+use Rattle.writer.specs.Encoded as encoded
 use Rattle.writer.specs.Answer.{fits_output, EncodeAnswered, WrittenWith}
 use Rattle.writer.specs.Planned.{Drawn}
 use Rattle.writer.proofs.Outcomes.{plan_refused, plan_made}
@@ -38,15 +37,15 @@ module _ (ink : ℕ) (version : ℕ) (ns cs ms ds is ps ss : List ℕ) (i : ink_
     pub prepare_asks : (tables_rule s ≡ 0) × (length w₀ ≡ write_words s) × (l ≡ layout_of s) × (c ≡ draft_counts s)
     prepare_asks = (p, long, layout, e)
 
-    module _ (w : List ℕ) (kept : length w ≡ length w₀) (a : Plan) (told : PlanOf s w a) where
-      pub write-refused : (k : ℕ) → a ≡ Refused k → WrittenWith ink s out₀ out₀ (encoded.Refused k)
+    module _ (w : List ℕ) (kept : length w ≡ length w₀) (a : Result (Layout × EntryCounts) ℕ) (told : PlanOf s w a) where
+      pub write-refused : (k : ℕ) → a ≡ Err k → WrittenWith ink s out₀ out₀ (encoded.Refused k)
       write-refused k q =
-          let x = subst (λ (y : Plan). PlanOf s w y) q told in
+          let x = subst (λ (y : Result (Layout × EntryCounts) ℕ). PlanOf s w y) q told in
           plan_refused ink s p i out₀ k x.0 x.1
 
-      module _ (m : Layout) (k : EntryCounts) (q : a ≡ Ready m k) where
-        made : PlanOf s w (Ready m k)
-        made = subst (λ (y : Plan). PlanOf s w y) q told
+      module _ (m : Layout) (k : EntryCounts) (q : a ≡ Ok (m, k)) where
+        made : PlanOf s w (Ok (m, k))
+        made = subst (λ (y : Result (Layout × EntryCounts) ℕ). PlanOf s w y) q told
 
         pub image_asks : Drawn s w m k
         image_asks = record { tables = p; planned = made.0; long = kept ∙ long; layout = made.1; counts = made.2; prepared = made.3 }

@@ -1,9 +1,9 @@
 -- The promises of every draft that `encode` has written, and of the length that an output too short is told.
+use Rattle.std.specs.Prelude.{None, Some}
 use Prim.Native.Nat.{ℕ, ◌≤◌, ◌<◌}
 use mathlib.Core.Path.{◌≡◌, refl, sym, ap, ◌∙◌, subst}
 use mathlib.Core.List.{List}
 use mathlib.Core.Bool.{Bool, true, false, ◌&&◌, true≢false}
-use mathlib.Core.Option.{none, some}
 use native.Mathlib.Omega.{arith}
 use lib.ListN.{length, take, drop}
 use lib.Seq.{take_at}
@@ -25,8 +25,7 @@ use Rattle.written.proofs.DraftRules.{encodes-exactly}
 use Rattle.written.proofs.Loads.{written-loads, same-paths}
 use Rattle.written.proofs.Sound.{written-sound, written_one_spelling}
 use Rattle.written_views.proofs.Written.{written-views}
-use Rattle.writer.specs.declared.Encoded.{Encoded}
-use Rattle.writer.specs.declared.Encoded.TheVariants.{Written, Short, Refused}
+use Rattle.writer.specs.Encoded.{Encoded, Written, Short, Refused}
 use Rattle.writer.specs.Answer.{encoded_of, of_encoded, fits_output}
 use Rattle.writer.specs.Promised.{Promised, EncodedKeeps, EncodedExactly, ShortTells}
 use Rattle.draft_image.proofs.Numbers.{draft-below, room-left}
@@ -40,7 +39,7 @@ given-written (Written m) n e = ap Written (given-equal m n e)
 given-written (Short m) n e = absurd (given-refused 22 n e)
 given-written (Refused r) n e = absurd (none-some (ap (λ (x : Answer ℕ). x.value) e))
   where
-    none-some : none ≡ some n → ⊥
+    none-some : None ≡ Some n → ⊥
     none-some q = let z : ◌≡◌ {A = ℕ} 0 1 = cc in omega arith
 
 module _ (ink : ℕ) (s : Sections) (work room : ℕ) where
@@ -100,8 +99,8 @@ module _ (ink : ℕ) (s : Sections) (work room : ℕ) where
     unfolding encoded_of
     enough more h =
         let fits : leb (length (image_for ink s)) more ≡ true = le-leb (length (image_for ink s)) more (omega (arith, short_is.1)) in
-        let none = room-alone short_is.0 more ∙ pass (fits_output ink s more) 23 (rw (fits, word) refl) in
-        by_zero (encode_rule ink s work more) (length (image_for ink s)) none ∙ ap Written (sym short_is.1)
+        let None = room-alone short_is.0 more ∙ pass (fits_output ink s more) 23 (rw (fits, word) refl) in
+        by_zero (encode_rule ink s work more) (length (image_for ink s)) None ∙ ap Written (sym short_is.1)
 
   never : encoded_of ink s work room ≡ Refused 23 → (more : ℕ) → encoded_of ink s work more ≡ Refused 23
   unfolding encoded_of

@@ -7,8 +7,7 @@ use Rattle.image.specs.Sections.{Sections}
 use Rattle.draft.specs.Draft.{write_words}
 use Rattle.draft_image.specs.Encode.{image_for, encode_rule, out_after, encodes}
 use Rattle.promises.specs.Answers.{Answer, given, refused}
-use Rattle.writer.specs.declared.Encoded.{Encoded}
-use Rattle.writer.specs.declared.Encoded.TheVariants.{Written, Short, Refused}
+use Rattle.writer.specs.Encoded.{Encoded, Written, Short, Refused}
 
 -- by the rule, and the length that the image has
 unfoldable pub encoded_by : ℕ → ℕ → Encoded

@@ -1,3 +1,4 @@
+pub mod Encoded
 pub mod Answer
 pub mod Planned
 pub mod Promised

@@ -17,7 +17,7 @@ use Rattle.promises.specs.Lookups.{Lookups}
 use Rattle.written.specs.DraftRules.{EncodeRight}
 use Rattle.written.specs.Written.{DraftWords}
 use Rattle.written_views.specs.Views.{SameViews}
-use Rattle.writer.specs.declared.Encoded.TheVariants.{Written, Short, Refused}
+use Rattle.writer.specs.Encoded.{Written, Short, Refused}
 use Rattle.writer.specs.Answer.{encoded_of, of_encoded}
 
 -- the output's first n bytes are an image

@@ -1,9 +1,9 @@
 -- Names of commands and operators are written as `get_name` spells them.
+use Rattle.std.specs.Prelude.{None, Option, Some}
 use Prim.Native.Nat.{ℕ, ◌+◌}
 use mathlib.Core.Path.{◌≡◌, refl, sym, ap}
 use mathlib.Core.List.{List}
 use mathlib.Core.Bool.{Bool, true, false, cond}
-use mathlib.Core.Option.{Option, none, some}
 use Rattle.texts.specs.Text.{holds}
 use Rattle.names.specs.Names.{commands, operators, number_in}
 use Rattle.names.proofs.Distinct.{number-placed}
@@ -15,8 +15,8 @@ use Rattle.written.specs.Spelling.{name_at, get_name, spelling_of, Spells}
 module _ (names : List (List ℕ)) (t : List ℕ) where
   -- a known name is its own name
   own_name : (o : Option ℕ) → number_in names t ≡ o → name_at names t o ≡ t
-  own_name none e = refl
-  own_name (some k) e = sym (number-placed names t k e).text
+  own_name None e = refl
+  own_name (Some k) e = sym (number-placed names t k e).text
 
   same-both : (b : Bool) (x y : List ℕ) → x ≡ y → cond b x y ≡ y
   same-both true x y e = e

@@ -1,7 +1,6 @@
 -- How the writer spells the names of commands and operators: as `get_name` does where that spelling is itself a known name, else as the draft
 -- does. The writer's definition copies the draft's text, and the two are one.
-use Rattle.std.specs.Prelude.{ℕ, ◌+◌, ◌≡◌, List, [], cond, get_or}
-use Rattle.std.proofs.Math.Option.{Option, none, some}
+use Rattle.std.specs.Prelude.{ℕ, ◌+◌, ◌≡◌, List, [], cond, get_or, None, Option, Some}
 use Rattle.texts.specs.Text.{holds}
 use Rattle.names.specs.Names.{commands, operators, number_in}
 use Rattle.image.specs.Sections.{Sections, f, text_at}
@@ -11,8 +10,8 @@ use Rattle.draft_image.specs.Written.{field_words}
 
 -- the name at a number, a text's own where there is none
 abbrev pub name_at : List (List ℕ) → List ℕ → Option ℕ → List ℕ
-name_at names t none = t
-name_at names t (some k) = get_or names k []
+name_at names t None = t
+name_at names t (Some k) = get_or names k []
 
 -- what `get_name` gives for the command or operator that the text names
 abbrev pub get_name : List (List ℕ) → List ℕ → List ℕ

@@ -1,9 +1,9 @@
 -- Kinds of which the fields are the same are shown the same.
+use Rattle.std.specs.Prelude.{None, Option, Some, ℕ}
 use Prim.Native.Nat.{ℕ, ◌+◌, ◌/◌}
 use mathlib.Core.Path.{◌≡◌, refl, sym, ap, ◌∙◌, subst}
 use mathlib.Core.List.{List, [], ◌∷◌}
 use mathlib.Core.Bool.{Bool, true, false, cond, not, true≢false}
-use mathlib.Core.Option.{Option, none, some}
 use lib.ListN.{length}
 use lib.Ieee.{binary32, of_bits}
 use lib.Dec.{leb, eqb}
@@ -20,12 +20,9 @@ use Rattle.records.specs.Fields.{Kind, Container, Choice, Command, Divert, Glue,
 use Rattle.records.specs.Flags.{odd}
 use Rattle.draft.specs.Numbering.{new_of}
 use Rattle.views.specs.declared.Span.{Span}
-use Rattle.views.specs.declared.OptionalWord.{OptionalWord}
 use Rattle.views.specs.declared.ValueView.TheVariants as value
 use Rattle.views.specs.declared.NodeKindView.{NodeKindView}
 use Rattle.views.specs.declared.NodeKindView.TheVariants as kind
-use Rattle.views.specs.declared.KindAnswer.{KindAnswer}
-use Rattle.views.specs.declared.KindAnswer.TheVariants as kindly
 use Rattle.views.specs.View.{signed, span, shown, optional_text, optional_word, push_type, of_command, of_operator, with_text, kind_view}
 use Rattle.written_views.specs.Views.{renumbered, SameText, SameKind, SameField}
 
@@ -35,29 +32,29 @@ shown-text s at len h = text-inside s.strings at len (leb-true (at + len) (lengt
 
 module _ (s t : Sections) (order : List ℕ) where
   -- no kind in both, or the same one
-  abbrev pub SameAnswer : KindAnswer → KindAnswer → Type 0
-  SameAnswer (kindly.Kind a) (kindly.Kind b) = SameKind s t order a b
-  SameAnswer (kindly.Kind a) kindly.NotFound = ⊥
-  SameAnswer kindly.NotFound (kindly.Kind b) = ⊥
-  SameAnswer kindly.NotFound kindly.NotFound = Unit {0}
+  abbrev pub SameAnswer : Option NodeKindView → Option NodeKindView → Type 0
+  SameAnswer (Some a) (Some b) = SameKind s t order a b
+  SameAnswer (Some a) None = ⊥
+  SameAnswer None (Some b) = ⊥
+  SameAnswer None None = Unit {0}
 
   command_same : (o p : Option CommandType) → p ≡ o → SameAnswer (of_command o) (of_command p)
   command_same o p e = subst (λ (q : Option CommandType). SameAnswer (of_command o) (of_command q)) (sym e) (by o)
     where
       by : (q : Option CommandType) → SameAnswer (of_command q) (of_command q)
-      by none = tt
-      by (some c) = refl
+      by None = tt
+      by (Some c) = refl
 
   operator_same : (o p : Option Op) → p ≡ o → SameAnswer (of_operator o) (of_operator p)
   operator_same o p e = subst (λ (q : Option Op). SameAnswer (of_operator o) (of_operator q)) (sym e) (by o)
     where
       by : (q : Option Op) → SameAnswer (of_operator q) (of_operator q)
-      by none = tt
-      by (some c) = refl
+      by None = tt
+      by (Some c) = refl
 
   -- where a test passes, or nothing
   tested : (b c : Bool) (x y : NodeKindView) → c ≡ b → SameKind s t order x y
-      → SameAnswer (cond b (kindly.Kind x) kindly.NotFound) (cond c (kindly.Kind y) kindly.NotFound)
+      → SameAnswer (cond b (Some x) None) (cond c (Some y) None)
   tested true true x y e h = h
   tested true false x y e h = absurd (true≢false (sym e))
   tested false true x y e h = absurd (true≢false e)
@@ -78,7 +75,7 @@ module _ (s t : Sections) (order : List ℕ) where
     abbrev b : Span
     b = span (f t j 0) (f t j 1)
 
-    with_same : (g h : Span → KindAnswer) → SameText s t a b → SameAnswer (g a) (h b)
+    with_same : (g h : Span → Option NodeKindView) → SameText s t a b → SameAnswer (g a) (h b)
         → SameAnswer (with_text s.strings (node_in s i) g) (with_text t.strings (node_in t j) h)
     unfolding with_text
     with_same g h e q = rw (e.drafted, e.written) q
@@ -122,6 +119,6 @@ module _ (s t : Sections) (order : List ℕ) where
       kind-same TargetValue q = with_same _ _ q.0 (_, refl, (b, refl, q.0))
       kind-same PointerValue q = with_same _ _ q.0 (_, refl, (b, ap (λ (x : ℕ). value.VariablePointer b (signed x)) q.1.0, q.0))
       kind-same Assignment q = with_same _ _ q.0 (b, ap (λ (x : ℕ). kind.VariableAssignment b (odd x) (odd (x / 2))) q.1.0, q.0)
-      kind-same Reference q = with_same _ _ q.0 (b, ap (λ (x : OptionalWord). kind.VariableReference b x) (target-same (f s i 4) (f t j 4) q.1.1.0), q.0)
+      kind-same Reference q = with_same _ _ q.0 (b, ap (λ (x : Option ℕ). kind.VariableReference b x) (target-same (f s i 4) (f t j 4) q.1.1.0), q.0)
       kind-same Void q = refl
       kind-same Unknown q = tt

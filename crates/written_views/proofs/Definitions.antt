@@ -1,4 +1,5 @@
 -- The list definitions of a written image and their items are those of its draft.
+use Rattle.std.specs.Prelude.{Some}
 use Prim.Native.Nat.{ℕ, zero, suc, ◌+◌, ◌-◌, ◌<◌}
 use mathlib.Core.Path.{◌≡◌, refl, ap, ◌∙◌, subst}
 use mathlib.Core.List.{List}
@@ -13,9 +14,7 @@ use Rattle.image.specs.Sections.{Sections, definition_count, item_count, definit
 use Rattle.definitions.specs.Definitions.{first_item, number_of_items, items_before, items_used_up}
 use Rattle.draft_image.specs.Written.{item_out}
 use Rattle.views.specs.declared.DefinitionView.{DefinitionView}
-use Rattle.views.specs.declared.DefinitionAnswer.TheVariants as definition
 use Rattle.views.specs.declared.ItemView.{ItemView}
-use Rattle.views.specs.declared.ItemAnswer.TheVariants as item
 use Rattle.views.specs.View.{signed, span, shown}
 use Rattle.views.specs.Lists.{definition_query, item_entry, item_query}
 use Rattle.draft_image.proofs.Blocks.{w, definition-count, item_count_lem, item-word}
@@ -31,14 +30,14 @@ module _ (s : Sections) where
   definition_at d = record { name = span (definition_word s d 0) (definition_word s d 1); items = number_of_items s d }
 
   definition-found : (d : ℕ) → d < definition_count s → shown (length s.strings) (definition_word s d 0) (definition_word s d 1) ≡ true
-      → definition_query s d ≡ definition.Definition (definition_at d)
+      → definition_query s d ≡ Some (definition_at d)
   unfolding definition_query
   definition-found d h e = rw (lt-ltb d (definition_count s) h, e)
 
   abbrev item_in : ℕ → ItemView
   item_in k = record { name = span (item_word s k 0) (item_word s k 1); value = signed (item_word s k 2) }
 
-  item-found : (k : ℕ) → k < item_count s → shown (length s.strings) (item_word s k 0) (item_word s k 1) ≡ true → item_entry s k ≡ item.Item (item_in k)
+  item-found : (k : ℕ) → k < item_count s → shown (length s.strings) (item_word s k 0) (item_word s k 1) ≡ true → item_entry s k ≡ Some (item_in k)
   unfolding item_entry
   item-found k h e = rw (lt-ltb k (item_count s) h, e)
 

@@ -1,4 +1,5 @@
 -- The list values of a written image are those of its draft.
+use Rattle.std.specs.Prelude.{Some}
 use Prim.Native.Nat.{ℕ, ◌+◌, ◌*◌, ◌<◌}
 use mathlib.Core.Path.{◌≡◌, refl, sym, ap, ◌∙◌, subst}
 use mathlib.Core.List.{List, [], ◌∷◌}
@@ -17,8 +18,6 @@ use Rattle.draft_image.specs.Strings.{text_if, list_texts}
 use Rattle.draft_image.specs.Written.{list_item_out, list_origin_out}
 use Rattle.views.specs.declared.Span.{Span}
 use Rattle.views.specs.declared.ListEntry.{ListEntry}
-use Rattle.views.specs.declared.EntryAnswer.TheVariants as entry
-use Rattle.views.specs.declared.TextAnswer.TheVariants as textAnswer
 use Rattle.views.specs.View.{signed, span, shown, optional_text}
 use Rattle.views.specs.Lists.{list_part, item_entry_word, origin_entry_word, list_entry, list_origin}
 use Rattle.promises.specs.Rules.{PayloadRight}
@@ -47,7 +46,7 @@ module _ (s : Sections) (at len : ℕ) (r : PayloadRight s at len) where
         value = signed (list_item_word s at k 4);
       }
 
-  entry_found : (k : ℕ) → k < list_items s at → list_entry part s.strings k ≡ entry.Entry (entry_at k)
+  entry_found : (k : ℕ) → k < list_items s at → list_entry part s.strings k ≡ Some (entry_at k)
   unfolding list_entry
   entry_found k h =
       let word : (m : ℕ) → m < 5 → item_entry_word part k m ≡ list_item_word s at k m = λ m l. item-word s at len r k m h l in
@@ -58,7 +57,7 @@ module _ (s : Sections) (at len : ℕ) (r : PayloadRight s at len) where
         lt-ltb k (word_at part 0) (omega (arith, items_are s at len r)),
         shows,
       )
-      (λ u. entry.Entry
+      (λ u. Some
       (record {
         origin = optional_text (length s.strings) (word 0 (omega arith) u) (word 1 (omega arith) u);
         name = span (word 2 (omega arith) u) (word 3 (omega arith) u);
@@ -68,7 +67,7 @@ module _ (s : Sections) (at len : ℕ) (r : PayloadRight s at len) where
   abbrev origin_at : ℕ → Span
   origin_at k = span (list_origin_word s at k 0) (list_origin_word s at k 1)
 
-  origin-found : (k : ℕ) → k < list_origins s at → list_origin part s.strings k ≡ textAnswer.Text (origin_at k)
+  origin-found : (k : ℕ) → k < list_origins s at → list_origin part s.strings k ≡ Some (origin_at k)
   unfolding list_origin
   origin-found k h =
       let word : (m : ℕ) → m < 2 → origin_entry_word part k m ≡ list_origin_word s at k m = λ m l. origin-word s at len r k m h l in
@@ -79,7 +78,7 @@ module _ (s : Sections) (at len : ℕ) (r : PayloadRight s at len) where
         lt-ltb k (word_at part 4) (omega (arith, origins_are s at len r)),
         shows,
       )
-      (λ u. textAnswer.Text (span (word 0 (omega arith) u) (word 1 (omega arith) u)))
+      (λ u. Some (span (word 0 (omega arith) u) (word 1 (omega arith) u)))
 
 -- ---- the list value of the image's node j
 

@@ -1,4 +1,5 @@
 -- Each node of a written image is shown as the draft's node, with the draft's children.
+use Rattle.std.specs.Prelude.{None, Option, Some}
 use Prim.Native.Nat.{ℕ, ◌+◌, ◌≤◌, ◌<◌}
 use mathlib.Core.Path.{◌≡◌, refl, sym, ap, ◌∙◌, subst}
 use mathlib.Core.List.{List}
@@ -16,12 +17,7 @@ use Rattle.tree.specs.Tree.{child_at, named_at}
 use Rattle.tree.proofs.Entries.{named-pass}
 use Rattle.draft.specs.Numbering.{old_of}
 use Rattle.draft_image.specs.Written.{field_words}
-use Rattle.views.specs.declared.KindAnswer.{KindAnswer}
-use Rattle.views.specs.declared.KindAnswer.TheVariants as kindly
-use Rattle.views.specs.declared.Found.TheVariants as found
-use Rattle.views.specs.declared.Count.TheVariants as count
 use Rattle.views.specs.declared.NamedChildView.{NamedChildView}
-use Rattle.views.specs.declared.NamedAnswer.TheVariants as named_answer
 use Rattle.views.specs.View.{span, shown, optional_word, kind_view}
 use Rattle.views.specs.Children.{child_count_of, named_count_of, child_query, named_entry, named_query}
 use Rattle.promises.specs.Rules.{NodeRight}
@@ -36,21 +32,22 @@ use Rattle.written_views.proofs.Texts.{text_same, word_same}
 use Rattle.written_views.proofs.ByKind.{SameAnswer, kind-same}
 use Rattle.written_views.proofs.Fields.{fields-same, each_field_same}
 use Rattle.written_views.proofs.Depths.{depth_same}
+use Rattle.views.specs.declared.NodeKindView.{NodeKindView}
 
 -- a count that is answered
-counted_as : (b : Bool) (m n : ℕ) → cond b (count.Of m) count.NotFound ≡ count.Of n → (b ≡ true) × (m ≡ n)
+counted_as : (b : Bool) (m n : ℕ) → cond b (Some m) None ≡ Some n → (b ≡ true) × (m ≡ n)
 counted_as true m n e = (refl, cc)
 counted_as false m n e = absurd (let z : ◌≡◌ {A = ℕ} 0 1 = cc in omega arith)
 
 -- counts are the same where those of containers are
-count_same : (b c : Bool) (m n : ℕ) → c ≡ b → (b ≡ true → n ≡ m) → cond c (count.Of n) count.NotFound ≡ cond b (count.Of m) count.NotFound
-count_same true c m n e h = rw e (ap count.Of (h refl))
+count_same : (b c : Bool) (m n : ℕ) → c ≡ b → (b ≡ true → n ≡ m) → cond c (Some n) None ≡ cond b (Some m) None
+count_same true c m n e h = rw e (ap Some (h refl))
 count_same false c m n e h = rw e refl
 
 -- ---- children, as the queries find them
 
 module _ (s : Sections) (i : ℕ) (c : inside_container s i ≡ true) where
-  child-found : (k : ℕ) → k < f s i 4 → f s i 3 + f s i 4 ≤ child_count s → child_query s i k ≡ found.Node (child_at s i k)
+  child-found : (k : ℕ) → k < f s i 4 → f s i 3 + f s i 4 ≤ child_count s → child_query s i k ≡ Some (child_at s i k)
   unfolding child_query
   child-found k h r = rw (c, lt-ltb k (f s i 4) h, lt-ltb (f s i 3 + k) (child_count s) (omega arith))
 
@@ -58,7 +55,7 @@ module _ (s : Sections) (i : ℕ) (c : inside_container s i ≡ true) where
   named_child k = record { name = span (named_at s i k 0) (named_at s i k 1); node = named_at s i k 2 }
 
   named-found : (k : ℕ) → k < f s i 6 → f s i 5 + f s i 6 ≤ named_count s → shown (length s.strings) (named_at s i k 0) (named_at s i k 1) ≡ true
-      → named_query s i k ≡ named_answer.Named (named_child k)
+      → named_query s i k ≡ Some (named_child k)
   unfolding named_query named_entry
   named-found k h r e = rw (c, lt-ltb k (f s i 6) h, lt-ltb (f s i 5 + k) (named_count s) (omega arith), e)
 
@@ -83,14 +80,14 @@ module _ {s : Sections} {order : List ℕ} {kept : List (List ℕ)} (g : Given s
   image-seen : Seen t j
   image-seen = seen t j image-node (fields-right t j (node-fields g j h))
 
-  abbrev kind_in : (v : Sections) (n : ℕ) → Kind → KindAnswer
+  abbrev kind_in : (v : Sections) (n : ℕ) → Kind → Option NodeKindView
   kind_in v n k = kind_view v.strings (length v.payload) (node_in v n) k
 
   kinds-same : SameKind s t order draft-seen.kind image-seen.kind
   kinds-same =
-      subst (λ (y : KindAnswer). SameAnswer s t order (kindly.Kind draft-seen.kind) y) image-seen.kind_is
-      (subst (λ (tag : ℕ). SameAnswer s t order (kindly.Kind draft-seen.kind) (kind_in t j (kind_of tag))) (sym (tag_word g j h))
-      (subst (λ (x : KindAnswer). SameAnswer s t order x (kind_in t j (kind_of (tag_of s i)))) draft-seen.kind_is
+      subst (λ (y : Option NodeKindView). SameAnswer s t order (Some draft-seen.kind) y) image-seen.kind_is
+      (subst (λ (tag : ℕ). SameAnswer s t order (Some draft-seen.kind) (kind_in t j (kind_of tag))) (sym (tag_word g j h))
+      (subst (λ (x : Option NodeKindView). SameAnswer s t order x (kind_in t j (kind_of (tag_of s i)))) draft-seen.kind_is
       (kind-same s t order i j (word_same g) (kind_of (tag_of s i)) (fields-same g j h))))
 
   -- ---- children
@@ -130,7 +127,7 @@ module _ {s : Sections} {order : List ℕ} {kept : List (List ℕ)} (g : Given s
           drafted = child-found s i c k q from.children_end;
           written =
               child-found t j there k (omega (arith, children-same c)) to.children_end
-              ∙ ap found.Node (child_at_lem g j h k (omega (arith, children_are g j h (is_container_lem c))));
+              ∙ ap Some (child_at_lem g j h k (omega (arith, children_are g j h (is_container_lem c))));
         }
 
     named-same : k < f s i 6 → SameNamed s t order i j k

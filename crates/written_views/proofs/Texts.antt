@@ -1,4 +1,5 @@
 -- The texts and the node numbers of a written image are those of its draft.
+use Rattle.std.specs.Prelude.{Some}
 use Prim.Native.Nat.{ℕ, ◌+◌}
 use mathlib.Core.Path.{◌≡◌, refl, sym, ap, ◌∙◌}
 use mathlib.Core.List.{List, [], ◌∷◌}
@@ -15,7 +16,6 @@ use Rattle.texts.specs.Text.{holds}
 use Rattle.image.specs.Sections.{Sections, text_at, part_at, present, absent, good_in, good_text, good_optional, good_bytes}
 use Rattle.draft.specs.Numbering.{old_of, new_of}
 use Rattle.draft_image.specs.Strings.{text_if, offset_of}
-use Rattle.views.specs.declared.OptionalWord.TheVariants as word
 use Rattle.views.specs.View.{span, shown, optional_text, optional_word}
 use Rattle.written.proofs.Lists.{or_else}
 use Rattle.draft_image.proofs.HeldTexts.{in_one}
@@ -84,7 +84,7 @@ module _ {s : Sections} {order : List ℕ} {kept : List (List ℕ)} (g : Given s
     where
       by : (c : Bool) → is_none n ≡ c → optional_word (new_of order n) ≡ renumbered order (optional_word n)
       by true e = rw e refl
-      by false e = rw (e, placed-some n) (ap word.Present (sym (new_placed n e)))
+      by false e = rw (e, placed-some n) (ap Some (sym (new_placed n e)))
 
   pub none-same : (n : ℕ) → is_none (new_of order n) ≡ is_none n
   none-same n = by (is_none n) refl

@@ -1,4 +1,5 @@
 -- A walk in a written image ends at the counterpart of where it ends in the draft.
+use Rattle.std.specs.Prelude.{None, Option, Some, ℕ}
 use Prim.Native.Nat.{ℕ, suc, ◌<◌}
 use mathlib.Core.Path.{◌≡◌, refl, sym, ap, ◌∙◌}
 use mathlib.Core.List.{List, [], ◌∷◌}
@@ -19,8 +20,6 @@ use Rattle.records.specs.Records.{number_of_named}
 use Rattle.records.proofs.PassedRules.{ranges}
 use Rattle.tree.proofs.PlainTree.{tree-right}
 use Rattle.draft.specs.Numbering.{old_of, new_of}
-use Rattle.views.specs.declared.Found.{Found}
-use Rattle.views.specs.declared.Found.TheVariants.{Node, NotFound}
 use Rattle.views.specs.Children.{child_query}
 use Rattle.lookups.specs.Lookup.{find_named}
 use Rattle.lookups.specs.Plain.{HasName, NodeNamed, NamedLookup}
@@ -48,7 +47,7 @@ place_has (x ∷ xs) i h = go (eqb i x) h (place_has xs i)
     go false l r = r (le_of_suc-le-suc l)
 
 -- no step leads from what is no node
-nowhere : (s : Sections) (i : ℕ) → inside s i ≡ false → (c : Component) → step s i c ≡ NotFound
+nowhere : (s : Sections) (i : ℕ) → inside s i ≡ false → (c : Component) → step s i c ≡ None
 unfolding step parent_query child_query find_named
 nowhere s i e Parent = rw e
 nowhere s i e (Index k) = rw e
@@ -59,7 +58,7 @@ module _ {s : Sections} {order : List ℕ} {kept : List (List ℕ)} (g : Given s
   abbrev t : Sections
   t = w s order kept
 
-  abbrev found : Found → Found
+  abbrev found : Option ℕ → Option ℕ
   found x = found_as (new_of order) x
 
   -- ---- numbers: what is no node of the draft has no node as counterpart
@@ -98,7 +97,7 @@ module _ {s : Sections} {order : List ℕ} {kept : List (List ℕ)} (g : Given s
     unfolding parent_query
     parent-same = rw (inside-written g j h, node i (old_in g j h), parent-word g j h, none-same g (parent_of s i)) (by (is_none (parent_of s i)))
       where
-        by : (b : Bool) → cond (not b) (Node (new_of order (parent_of s i))) NotFound ≡ found (cond (not b) (Node (parent_of s i)) NotFound)
+        by : (b : Bool) → cond (not b) (Some (new_of order (parent_of s i))) None ≡ found (cond (not b) (Some (parent_of s i)) None)
         by true = refl
         by false = refl
 
@@ -147,9 +146,9 @@ module _ {s : Sections} {order : List ℕ} {kept : List (List ℕ)} (g : Given s
             node = named_at_lem g j h b.entry 2 (entry b.entry b.bears.place) (omega arith) ∙ ap (new_of order) b.node;
           }
 
-      found-named : (name : List ℕ) (x : Found) → find_named s i name ≡ x → find_named t j name ≡ found x
-      found-named name (Node n) e = image-names.borne name (new_of order n) (node-written name n (draft-names.answered name n e))
-      found-named name NotFound e = image-names.missing name (λ k b. draft-names.missed name e k (name-drafted name k b))
+      found-named : (name : List ℕ) (x : Option ℕ) → find_named s i name ≡ x → find_named t j name ≡ found x
+      found-named name (Some n) e = image-names.borne name (new_of order n) (node-written name n (draft-names.answered name n e))
+      found-named name None e = image-names.missing name (λ k b. draft-names.missed name e k (name-drafted name k b))
 
     name-same : (name : List ℕ) → find_named t j name ≡ found (find_named s i name)
     name-same name = by (inside_container s i) refl
@@ -197,6 +196,6 @@ module _ {s : Sections} {order : List ℕ} {kept : List (List ℕ)} (g : Given s
   absolute-same origin other cs = unfold resolve in walk_same false origin cs
 
 -- by number and value
-pub answered_anew : (order : List ℕ) (x : Found) → of_found (found_as (new_of order) x) ≡ renumbered_answer order (of_found x)
-answered_anew order (Node n) = refl
-answered_anew order NotFound = refl
+pub answered_anew : (order : List ℕ) (x : Option ℕ) → of_found (found_as (new_of order) x) ≡ renumbered_answer order (of_found x)
+answered_anew order (Some n) = refl
+answered_anew order None = refl

@@ -1,9 +1,8 @@
 -- What a reader sees of a written image is what its author wrote: the statements. s is the draft, t the image, order the numbering:
 -- the image's node j is the draft's node `old_of order j`, the draft's node i the image's `new_of order i`. Both sides are read by the
 -- definitions that the contracts of the queries cite.
-use Rattle.std.specs.Prelude.{ℕ, ◌+◌, ◌≤◌, ◌<◌, ◌≡◌, Bool, true, false, length}
+use Rattle.std.specs.Prelude.{ℕ, ◌+◌, ◌≤◌, ◌<◌, ◌≡◌, Bool, true, false, length, None, Option, Some, option_map, Ok}
 use mathlib.Core.List.{List, Memᴰ}
-use Rattle.std.proofs.Math.Option.{map}
 use Rattle.words.specs.Words.{word_at}
 use Rattle.image.specs.Sections.{Sections, node_count, definition_count, item_count, tag_of, f, text_at}
 use Rattle.image.specs.declared.ImageView.{ImageView}
@@ -11,33 +10,19 @@ use Rattle.image.specs.Header.{sections_by, sections_of}
 use Rattle.records.specs.Fields.{Field, text, optional, command, operator, node, optionalNode, container, optionalContainer, plain, at_most, children, named, payload, wrong}
 use Rattle.records.specs.Records.{fields_at}
 use Rattle.definitions.specs.Definitions.{first_item}
-use Rattle.load.specs.declared.Loaded.TheVariants.{View}
 use Rattle.load.specs.Load.{load_words, loaded_of}
 use Rattle.draft.specs.Numbering.{numbering, old_of, new_of}
 use Rattle.draft_image.specs.Encode.{image_for}
 use Rattle.views.specs.declared.Span.{Span}
-use Rattle.views.specs.declared.OptionalText.{OptionalText}
-use Rattle.views.specs.declared.OptionalText.TheVariants as maybe
-use Rattle.views.specs.declared.OptionalWord.{OptionalWord}
-use Rattle.views.specs.declared.OptionalWord.TheVariants as word
 use Rattle.views.specs.declared.ValueView.{ValueView}
 use Rattle.views.specs.declared.ValueView.TheVariants as value
 use Rattle.views.specs.declared.NodeKindView.{NodeKindView}
 use Rattle.views.specs.declared.NodeKindView.TheVariants as kind
 use Rattle.views.specs.declared.NodeView.{NodeView}
-use Rattle.views.specs.declared.NodeAnswer.TheVariants as node_answer
-use Rattle.views.specs.declared.Found.TheVariants as found
-use Rattle.views.specs.declared.Count.TheVariants as count
 use Rattle.views.specs.declared.NamedChildView.{NamedChildView}
-use Rattle.views.specs.declared.NamedAnswer.TheVariants as named_answer
-use Rattle.views.specs.declared.TextAnswer.TheVariants as textAnswer
 use Rattle.views.specs.declared.ListEntry.{ListEntry}
-use Rattle.views.specs.declared.EntryAnswer.TheVariants as entry
 use Rattle.views.specs.declared.DefinitionView.{DefinitionView}
-use Rattle.views.specs.declared.DefinitionAnswer.TheVariants as definition
 use Rattle.views.specs.declared.ItemView.{ItemView}
-use Rattle.views.specs.declared.ItemAnswer.{ItemAnswer}
-use Rattle.views.specs.declared.ItemAnswer.TheVariants as item
 use Rattle.views.specs.View.{span, shown, optional_text, node_view}
 use Rattle.views.specs.Children.{child_count_of, named_count_of, child_query, named_query}
 use Rattle.views.specs.Lists.{list_part, list_entry, list_origin, definition_query, item_entry, item_query}
@@ -49,13 +34,13 @@ use Rattle.written.specs.Written.{Written}
 -- ---- node numbers
 
 -- a parent or a target in the image's numbers
-abbrev pub renumbered : List ℕ → OptionalWord → OptionalWord
-renumbered order (word.Present n) = word.Present (new_of order n)
-renumbered order word.Absent = word.Absent
+abbrev pub renumbered : List ℕ → Option ℕ → Option ℕ
+renumbered order (Some n) = Some (new_of order n)
+renumbered order None = None
 
 -- what a walk answers, in the image's numbers: the same number, and the node's counterpart
 abbrev pub renumbered_answer : List ℕ → Answer ℕ → Answer ℕ
-renumbered_answer order a = record { number = a.number; value = map (new_of order) a.value }
+renumbered_answer order a = record { number = a.number; value = option_map (new_of order) a.value }
 
 -- each of the draft's nodes is one of the image's, and the root is the root
 pub record Renumbers (s : Sections) (order : List ℕ) : Type 0 where
@@ -76,11 +61,11 @@ module _ (s t : Sections) where
     pub bytes : text_at t b.offset b.len ≡ text_at s a.offset a.len
 
   -- both are absent, or both are there
-  abbrev pub SameOptional : OptionalText → OptionalText → Type 0
-  SameOptional (maybe.Present a) (maybe.Present b) = SameText a b
-  SameOptional (maybe.Present a) maybe.Absent = ⊥
-  SameOptional maybe.Absent (maybe.Present b) = ⊥
-  SameOptional maybe.Absent maybe.Absent = Unit {0}
+  abbrev pub SameOptional : Option Span → Option Span → Type 0
+  SameOptional (Some a) (Some b) = SameText a b
+  SameOptional (Some a) None = ⊥
+  SameOptional None (Some b) = ⊥
+  SameOptional None None = Unit {0}
 
   -- ---- list values
 
@@ -88,8 +73,8 @@ module _ (s t : Sections) where
   pub record SameEntry (p q : Span) (k : ℕ) : Type 0 where
     pub draft : ListEntry
     pub image : ListEntry
-    pub drafted : list_entry (list_part s p) s.strings k ≡ entry.Entry draft
-    pub written : list_entry (list_part t q) t.strings k ≡ entry.Entry image
+    pub drafted : list_entry (list_part s p) s.strings k ≡ Some draft
+    pub written : list_entry (list_part t q) t.strings k ≡ Some image
     pub origin : SameOptional draft.origin image.origin
     pub name : SameText draft.name image.name
     pub value : image.value ≡ draft.value
@@ -98,8 +83,8 @@ module _ (s t : Sections) where
   pub record SameOrigin (p q : Span) (k : ℕ) : Type 0 where
     pub draft : Span
     pub image : Span
-    pub drafted : list_origin (list_part s p) s.strings k ≡ textAnswer.Text draft
-    pub written : list_origin (list_part t q) t.strings k ≡ textAnswer.Text image
+    pub drafted : list_origin (list_part s p) s.strings k ≡ Some draft
+    pub written : list_origin (list_part t q) t.strings k ≡ Some image
     pub name : SameText draft image
 
   -- both are inside: as long, as many items and origins, the same ones
@@ -125,12 +110,12 @@ module _ (s t : Sections) where
 
   module _ (order : List ℕ) where
     abbrev pub SameKind : NodeKindView → NodeKindView → Type 0
-    SameKind (kind.Container flags a) image = (b : OptionalText) × (image ≡ kind.Container flags b) × SameOptional a b
+    SameKind (kind.Container flags a) image = (b : Option Span) × (image ≡ kind.Container flags b) × SameOptional a b
     SameKind (kind.ChoicePoint flags target) image = image ≡ kind.ChoicePoint flags (renumbered order target)
     SameKind (kind.ControlCommand c) image = image ≡ kind.ControlCommand c
     SameKind (kind.Divert a target x arguments conditional external pushes pushed) image =
-        (b : OptionalText)
-        × (y : OptionalText)
+        (b : Option Span)
+        × (y : Option Span)
         × (image ≡ kind.Divert b (renumbered order target) y arguments conditional external pushes pushed)
         × SameOptional a b
         × SameOptional x y
@@ -167,15 +152,15 @@ module _ (s t : Sections) where
       -- the k-th ordered child, found in both
       pub record SameChild (k : ℕ) : Type 0 where
         pub child : ℕ
-        pub drafted : child_query s i k ≡ found.Node child
-        pub written : child_query t j k ≡ found.Node (new_of order child)
+        pub drafted : child_query s i k ≡ Some child
+        pub written : child_query t j k ≡ Some (new_of order child)
 
       -- the k-th named child
       pub record SameNamed (k : ℕ) : Type 0 where
         pub draft : NamedChildView
         pub image : NamedChildView
-        pub drafted : named_query s i k ≡ named_answer.Named draft
-        pub written : named_query t j k ≡ named_answer.Named image
+        pub drafted : named_query s i k ≡ Some draft
+        pub written : named_query t j k ≡ Some image
         pub name : SameText draft.name image.name
         pub node : image.node ≡ new_of order draft.node
 
@@ -184,8 +169,8 @@ module _ (s t : Sections) where
     pub record SameNode (j : ℕ) : Type 0 where
       pub draft : NodeView
       pub image : NodeView
-      pub drafted : node_view s (old_of order j) ≡ node_answer.View draft
-      pub written : node_view t j ≡ node_answer.View image
+      pub drafted : node_view s (old_of order j) ≡ Some draft
+      pub written : node_view t j ≡ Some image
       pub parent : image.parent ≡ renumbered order draft.parent
       pub place : image.child_index ≡ draft.child_index
       pub depth : depth_of t j ≡ depth_of s (old_of order j)
@@ -194,25 +179,25 @@ module _ (s t : Sections) where
       pub fields : (x : Field) → Memᴰ x (fields_at s (old_of order j)) → SameField (old_of order j) j x
       pub child-count : child_count_of t j ≡ child_count_of s (old_of order j)
       pub named_count_lem : named_count_of t j ≡ named_count_of s (old_of order j)
-      pub child : (n : ℕ) → child_count_of s (old_of order j) ≡ count.Of n → (k : ℕ) → k < n → SameChild (old_of order j) j k
-      pub named : (n : ℕ) → named_count_of s (old_of order j) ≡ count.Of n → (k : ℕ) → k < n → SameNamed (old_of order j) j k
+      pub child : (n : ℕ) → child_count_of s (old_of order j) ≡ Some n → (k : ℕ) → k < n → SameChild (old_of order j) j k
+      pub named : (n : ℕ) → named_count_of s (old_of order j) ≡ Some n → (k : ℕ) → k < n → SameNamed (old_of order j) j k
 
   -- ---- definitions and items keep their numbers
 
   -- an item, found in both
-  pub record SameItem (a b : ItemAnswer) : Type 0 where
+  pub record SameItem (a b : Option ItemView) : Type 0 where
     pub draft : ItemView
     pub image : ItemView
-    pub drafted : a ≡ item.Item draft
-    pub written : b ≡ item.Item image
+    pub drafted : a ≡ Some draft
+    pub written : b ≡ Some image
     pub name : SameText draft.name image.name
     pub value : image.value ≡ draft.value
 
   pub record SameDefinition (d : ℕ) : Type 0 where
     pub draft : DefinitionView
     pub image : DefinitionView
-    pub drafted : definition_query s d ≡ definition.Definition draft
-    pub written : definition_query t d ≡ definition.Definition image
+    pub drafted : definition_query s d ≡ Some draft
+    pub written : definition_query t d ≡ Some image
     pub name : SameText draft.name image.name
     pub items : image.items ≡ draft.items
     pub first : first_item t d ≡ first_item s d
@@ -242,4 +227,4 @@ WrittenViews = Written (λ ink s. SameViews s (sections_of (image_for ink s)) (n
 abbrev pub WrittenReads : Type 0
 WrittenReads =
     Written (λ ink s. (enough : ℕ) → load_words (sections_of (image_for ink s)) ≤ enough
-    → (v : ImageView) × (loaded_of (image_for ink s) enough ≡ View v) × SameViews s (sections_by (image_for ink s) v) (numbering s))
+    → (v : ImageView) × (loaded_of (image_for ink s) enough ≡ Ok v) × SameViews s (sections_by (image_for ink s) v) (numbering s))

@@ -4,8 +4,8 @@ use Rattle.answers.specs.AnswerWords.{found_answer}
 use Rattle.answers.proofs.AnswerSlices.{unanswered, answered_as}
 use Rattle.answers.proofs.put_found.Goals as goal
 
-pub returns-in-NotFound : goal.returns-in-NotFound
-returns-in-NotFound c = unanswered _ _ (ap found_answer (sym c.in-NotFound.is))
+pub returns-in-None : goal.returns-in-None
+returns-in-None c = unanswered _ _ (ap found_answer (sym c.in-None.is))
 
-pub returns-in-Node : goal.returns-in-Node
-returns-in-Node c = answered_as _ _ _ _ _ (ap found_answer (sym c.in-Node.is)) c.put_answer.ensures
+pub returns-in-Some : goal.returns-in-Some
+returns-in-Some c = answered_as _ _ _ _ _ (ap found_answer (sym c.in-Some.is)) c.put_answer.ensures

@@ -4,8 +4,8 @@ use Rattle.answers.specs.AnswerWords.{part_answer}
 use Rattle.answers.proofs.AnswerSlices.{unanswered, answered_as}
 use Rattle.answers.proofs.put_text.Goals as goal
 
-pub returns-in-NotFound : goal.returns-in-NotFound
-returns-in-NotFound c = unanswered _ _ (ap (part_answer _ _) (sym c.in-NotFound.is))
+pub returns-in-None : goal.returns-in-None
+returns-in-None c = unanswered _ _ (ap (part_answer _ _) (sym c.in-None.is))
 
-pub returns-in-Text : goal.returns-in-Text
-returns-in-Text c = answered_as _ _ _ _ _ (ap (part_answer _ _) (sym c.in-Text.is)) c.put_part.ensures
+pub returns-in-Some : goal.returns-in-Some
+returns-in-Some c = answered_as _ _ _ _ _ (ap (part_answer _ _) (sym c.in-Some.is)) c.put_part.ensures

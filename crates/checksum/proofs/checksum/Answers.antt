@@ -11,4 +11,4 @@ pub returns : goal.returns
 returns c =
     let head = c in
     let ends = head in
-    checksum-parts _ _ _ _ _ ends.within-end.ensures ends.within-start.ensures head.update_all-head.ensures c.update_all.ensures
+    checksum-parts _ _ _ _ _ ends.min-end.ensures ends.min-start.ensures head.update_all-head.ensures c.update_all.ensures

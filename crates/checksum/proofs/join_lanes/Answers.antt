@@ -21,4 +21,4 @@ returns c =
     c.update_bytes.ensures
     ∙ ap (crc_from fourth.update_bytes-last.result) (to_end 16 a.s.now)
     ∙ lanes_end a.s.now a.a a.b a.c a.d first.update_bytes-first.result second.update_bytes-second.result third.update_bytes-third.result fourth.update_bytes-last.result
-    start.requires.1 first.update_bytes-first.ensures second.update_bytes-second.ensures third.update_bytes-third.ensures fourth.update_bytes-last.ensures
+    start.requires first.update_bytes-first.ensures second.update_bytes-second.ensures third.update_bytes-third.ensures fourth.update_bytes-last.ensures

@@ -16,7 +16,7 @@ pub returns-then-at-eq0 : goal.returns-then-at-eq0
 returns-then-at-eq0 c =
     let l = c in
     loop_root _ _ _ l.nodes_part-nodes.ensures _ l.node_count-count.ensures _ _ _ l.loop-steps.invariant _ c.is_inside.ensures
-    c.if-not-is_inside.false-raw c.loop-steps-test.true c.if-at-eq0.true
+    c.if-not-is_inside.false-raw (omega arith) c.if-at-eq0.true
 
 pub overflow_cast-at : goal.overflow_cast-at
 overflow_cast-at c =
@@ -37,10 +37,10 @@ pub loop-steps-preserved : goal.loop-steps-preserved
 loop-steps-preserved c =
     let l = c in
     loop_above _ _ _ l.nodes_part-nodes.ensures _ l.node_count-count.ensures _ _ _ l.loop-steps.invariant _
-    c.is_inside.ensures c.if-not-is_inside.false-raw c.loop-steps-test.true c.if-at-eq0.false _
+    c.is_inside.ensures c.if-not-is_inside.false-raw (omega arith) c.if-at-eq0.false _
     c.node_word-at.ensures
 
 pub returns : goal.returns
 returns c =
     let l = c in
-    loop_end _ _ _ l.nodes_part-nodes.ensures _ l.node_count-count.ensures _ _ _ l.loop-steps.invariant c.loop-steps-test.false
+    loop_end _ _ _ l.nodes_part-nodes.ensures _ l.node_count-count.ensures _ _ _ l.loop-steps.invariant (omega arith)

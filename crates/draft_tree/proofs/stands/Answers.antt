@@ -1,5 +1,6 @@
 -- `draft_tree::stands` meets its contract.
-use mathlib.Core.Path.{◌∙◌}
+use mathlib.Core.Path.{sym, ◌∙◌}
+use Rattle.image.proofs.Refused.{err-refused, not-err-passed}
 use borrow.Author.Tests.{not-false}
 use Rattle.records.proofs.ByKind.{shown-root}
 use Rattle.draft.proofs.NodeTable.{node_is}
@@ -22,8 +23,8 @@ returns-then-not-entries_right c = entries-wrong _ _ _ _ _ _ _ _ _ c.requires _ 
 pub orders_rule-requires : goal.orders_rule-requires
 orders_rule-requires c = lists-passed _ _ _ _ _ _ _ _ (asked _ _ _ _ _ _ _ _ _ c.requires)
 
-pub returns-then-orders_rule-ne0 : goal.returns-then-orders_rule-ne0
-returns-then-orders_rule-ne0 c = orders-wrong _ _ _ _ _ _ _ _ _ c.requires _ c.orders_rule.ensures c.if-orders_rule-ne0.true
+pub returns-then-is_err : goal.returns-then-is_err
+returns-then-is_err c = orders-wrong _ _ _ _ _ _ _ _ _ c.requires _ c.orders_rule.ensures (err-refused _ (sym c.is_err.ensures.value ∙ c.if-is_err.true))
 
 pub all_listed-requires : goal.all_listed-requires
 all_listed-requires c = markable _ _ _ _ _ _ _ _ _ c.requires
@@ -44,4 +45,4 @@ shape_of-work c = c.all_rooted.auto.work ∙ c.all_listed.ensures.long
 pub returns : goal.returns
 returns c =
     rooted-decides _ _ _ _ _ _ _ _ _ c.requires _ _ c.all_listed.ensures _ (c.root_right.ensures ∙ shown-root _ _ (node_is _ _ _ _ _ _ _ _ _ _ c.node_at.ensures))
-    c.if-not-root_right.false-raw _ c.entries_right.ensures c.if-not-entries_right.false-raw _ c.orders_rule.ensures c.if-orders_rule-ne0.false c.if-not-all_listed.false-raw _ c.all_rooted.ensures
+    c.if-not-root_right.false-raw _ c.entries_right.ensures c.if-not-entries_right.false-raw _ c.orders_rule.ensures (not-err-passed _ (sym c.is_err.ensures.value ∙ c.if-is_err.false)) c.if-not-all_listed.false-raw _ c.all_rooted.ensures

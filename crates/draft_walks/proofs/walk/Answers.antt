@@ -1,18 +1,29 @@
--- `draft_walks::walk` meets its contract. The loop's invariant: the walk from `at` along the words from k on is all that is left.
-use Rattle.walks.proofs.Steps.{along-start, along-broken, along-lost, along-next, along_end}
+-- `draft_walks::walk` meets its contract. The loop's invariant: the walk from `at` along the words that are left is all that is left.
+use mathlib.Core.Path.{refl, sym, ◌∙◌}
+use borrow.Author.Tests.{eqb-true, eqb-false}
+use native.Mathlib.Omega.{arith}
+use lib.ListN.{length-take, length-drop}
+use Rattle.laws.proofs.Lists.{to_end}
+use Rattle.walks.proofs.Steps.{words_behind, along-broken, along-lost, along-next, along_end}
 use Rattle.draft_walks.proofs.walk.Goals as goal
 
-pub loop-k-init : goal.loop-k-init
-loop-k-init c = along-start _ _ _ _ _
+pub loop-left-init : goal.loop-left-init
+loop-left-init c = rw (words_behind _ _ _ c.min.ensures) refl
 
-pub returns-then-n-k-lt-COMPONENT_WORDS : goal.returns-then-n-k-lt-COMPONENT_WORDS
-returns-then-n-k-lt-COMPONENT_WORDS c = along-broken c.loop-k.invariant c.loop-k-test.true c.if-n-k-lt-COMPONENT_WORDS.true
+pub returns-in-None : goal.returns-in-None
+returns-in-None c =
+    along-lost _ _ _ _ _ c.loop-left.left.now _ c.in-len3-up.len_at_least refl c.loop-left.invariant _ c.step_along.ensures c.in-None.is
 
-pub returns-in-NotFound : goal.returns-in-NotFound
-returns-in-NotFound c = along-lost c.loop-k.invariant c.if-n-k-lt-COMPONENT_WORDS.false _ c.step_along.ensures c.in-NotFound.is
+pub loop-left-smaller : goal.loop-left-smaller
+loop-left-smaller c = simp (length-take, length-drop) (let h = c.in-len3-up.len_at_least in omega arith)
 
-pub loop-k-preserved : goal.loop-k-preserved
-loop-k-preserved c = along-next c.loop-k.invariant c.if-n-k-lt-COMPONENT_WORDS.false _ c.step_along.ensures _ c.in-Node.is
+pub loop-left-preserved : goal.loop-left-preserved
+loop-left-preserved c =
+    along-next _ _ _ _ _ c.loop-left.left.now _ c.in-len3-up.len_at_least (to_end 3 c.loop-left.left.now) c.loop-left.invariant _ c.step_along.ensures
+    _ c.in-Some.is
 
-pub returns : goal.returns
-returns c = along_end c.loop-k.invariant c.loop-k-test.false
+pub returns-then-is_empty : goal.returns-then-is_empty
+returns-then-is_empty c = along_end _ _ _ _ _ c.loop-left.left.now (eqb-true _ 0 (sym c.is_empty.ensures ∙ c.if-is_empty.true)) c.loop-left.invariant
+
+pub returns-else-is_empty : goal.returns-else-is_empty
+returns-else-is_empty c = along-broken _ _ _ _ _ c.loop-left.left.now (eqb-false _ 0 (sym c.is_empty.ensures ∙ c.if-is_empty.false)) c.in_default.len_below c.loop-left.invariant

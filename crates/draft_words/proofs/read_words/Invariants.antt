@@ -1,12 +1,7 @@
--- `draft_words::read_words` meets its contract. The invariant: the first i words are read.
-use Prim.Native.Nat.{◌≤◌, ◌-◌}
-use mathlib.Core.Path.{◌≡◌}
-use lib.ListN.{length}
-use Rattle.draft_words.specs.Slices.{BeginWith}
+-- The first i words are read.
+use Rattle.std.proofs.Common.{◌≡◌, ℕ, ◌*◌, ◌<◌, get_or}
+use Rattle.words.specs.Words.{word_in}
 use Rattle.draft_words.proofs.read_words.Given as goal
 
 abbrev pub invariant-loop-i : goal.invariant-loop-i
-invariant-loop-i l = (l.i ≤ length l.initial.to) × (length l.to ≡ length l.initial.to) × BeginWith l.i l.bytes l.to
-
-abbrev pub decreases-loop-i : goal.decreases-loop-i
-decreases-loop-i l = length l.initial.to - l.i
+invariant-loop-i l = (k : ℕ) → k < l.i → get_or l.to k 0 ≡ word_in l.bytes (4 * k)

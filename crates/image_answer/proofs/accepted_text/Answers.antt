@@ -3,7 +3,7 @@ use Rattle.std.proofs.Common.{rules, arith, [], ◌∷◌}
 use Rattle.texts.specs.Text.{ascii}
 use Rattle.texts.proofs.Decimal.{word-length}
 use Rattle.image_answer.specs.Answer.{accepted_line}
-use Rattle.image_answer.proofs.Lines.{begin, onward, line_is}
+use Rattle.image_answer.proofs.Pieces.{begin, onward, line_is}
 use Rattle.image_answer.proofs.accepted_text.Goals as goal
 
 pub put_text-c-requires : goal.put_text-c-requires

@@ -2,7 +2,7 @@
 use Rattle.std.proofs.Common.{rules, arith, [], ◌∷◌}
 use Rattle.texts.specs.Text.{ascii}
 use Rattle.image_answer.specs.Answer.{long_line}
-use Rattle.image_answer.proofs.Lines.{begin, line_is}
+use Rattle.image_answer.proofs.Pieces.{begin, line_is}
 use Rattle.image_answer.proofs.long_text.Goals as goal
 
 pub returns : goal.returns

@@ -5,6 +5,7 @@ use mathlib.Core.List.{[]}
 use native.Mathlib.Omega.{arith}
 use lib.ListN.{length, length-set}
 use lib.Seq.{drop-set-lt}
+use Rattle.image.proofs.Refused.{none-refused, refused-alike, some-refused}
 use Rattle.image.specs.Sections.{Sections, text_entry_size, node_count}
 use Rattle.index.specs.Index.{index_entry_rule}
 use Rattle.index.specs.Parts.{index_parts}
@@ -20,8 +21,8 @@ loop-j-init c =
     let at = c.args in
     (search rules, run_starts (index_entry_rule (index_parts at.version at.nodes.now at.index.now at.strings.now)), refl, refl, none-filed _ _)
 
-pub next_entry_rule-refused-requires : goal.next_entry_rule-refused-requires
-next_entry_rule-refused-requires c =
+pub next_entry_rule-requires : goal.next_entry_rule-requires
+next_entry_rule-requires c =
     let whole : Sections = index_parts c.args.version c.args.nodes.now c.args.index.now c.args.strings.now in
     let bare : Sections = index_parts c.args.version c.args.nodes.now [] [] in
     let at = c in
@@ -31,13 +32,13 @@ next_entry_rule-refused-requires c =
       filed = c.loop-j.invariant.4;
     }
 
-pub returns-then-refused-ne0 : goal.returns-then-refused-ne0
-returns-then-refused-ne0 c =
+pub returns-in_err-next_entry_rule : goal.returns-in_err-next_entry_rule
+returns-in_err-next_entry_rule c =
     let whole : Sections = index_parts c.args.version c.args.nodes.now c.args.index.now c.args.strings.now in
     let at = c in
     let here = c.loop-j in
     record {
-      answer = first-broken (length at.args.index.now / text_entry_size) here.j c.next_entry_rule-refused.result (index_entry_rule whole) c.loop-j-test.true here.invariant.1 c.next_entry_rule-refused.ensures c.if-refused-ne0.true
+      answer = refused-alike _ _ _ c.in_err-next_entry_rule.was c.from_residual.ensures.1 ∙ first-broken (length at.args.index.now / text_entry_size) here.j _ (index_entry_rule whole) c.loop-j-test.true here.invariant.1 c.next_entry_rule.ensures (some-refused _ _ c.in_err-next_entry_rule.was)
           ∙ sym (index_run at.args.version at.args.nodes.now at.args.index.now at.args.strings.now);
       rest = here.invariant.3;
     }
@@ -48,7 +49,7 @@ bounds-work-entry c =
     let entry-below : c.text_entry-entry.result.value < node_count bare =
     let at = c.args in
     target_below at.version at.nodes.now at.index.now at.strings.now c.loop-j.j c.text_entry-entry.result
-    (sym c.next_entry_rule-refused.ensures ∙ c.if-refused-ne0.false) c.text_entry-entry.ensures in
+    (sym c.next_entry_rule.ensures ∙ (none-refused _ _ c.in_ok-next_entry_rule.was)) c.text_entry-entry.ensures in
     let low = entry-below in
     let here = c.loop-j.invariant.2 in
     let room = c.requires.nodes_in_bounds in
@@ -61,10 +62,10 @@ loop-j-preserved c =
     let entry-below : c.text_entry-entry.result.value < node_count bare =
     let at = c.args in
     target_below at.version at.nodes.now at.index.now at.strings.now c.loop-j.j c.text_entry-entry.result
-    (sym c.next_entry_rule-refused.ensures ∙ c.if-refused-ne0.false) c.text_entry-entry.ensures in
+    (sym c.next_entry_rule.ensures ∙ (none-refused _ _ c.in_ok-next_entry_rule.was)) c.text_entry-entry.ensures in
     let at = c in
     let here = c.loop-j in
-    let passed = run_goes here.j c.next_entry_rule-refused.result (index_entry_rule whole) here.invariant.1 c.next_entry_rule-refused.ensures c.if-refused-ne0.false in
+    let passed = run_goes here.j _ (index_entry_rule whole) here.invariant.1 c.next_entry_rule.ensures (none-refused _ _ c.in_ok-next_entry_rule.was) in
     let low = entry-below in
     let room = at.requires.nodes_in_bounds in (
       search rules,

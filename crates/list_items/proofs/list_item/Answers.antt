@@ -29,24 +29,24 @@ pub slice_bounds-origin_at-end : goal.slice_bounds-origin_at-end
 slice_bounds-origin_at-end c = simp length-take (omega arith)
 
 pub slice_bounds-last_item-count : goal.slice_bounds-last_item-count
-slice_bounds-last_item-count c = search (rules, origin-below _ _ _ _ (sym c.origin_at.ensures ∙ ap found_place c.in-At.is))
+slice_bounds-last_item-count c = search (rules, origin-below _ _ _ _ (sym c.origin_at.ensures ∙ ap found_place c.in-Some.is))
 
-pub last_item-requires-in-At : goal.last_item-requires-in-At
-last_item-requires-in-At c =
+pub last_item-requires-in-Some : goal.last_item-requires-in-Some
+last_item-requires-in-Some c =
     let few : c.args.view.definitions.count ≤ 4294967295 = omega (arith, c.struct_known-1.given) in
     record {
-      count_in_bounds = search (rules, origin-below _ _ _ _ (sym c.origin_at.ensures ∙ ap found_place c.in-At.is), definitions_few _ c.args.view 4294967295 few _ c.section_part-definitions.ensures);
-      count_bound = search (rules, origin-below _ _ _ _ (sym c.origin_at.ensures ∙ ap found_place c.in-At.is), definitions_few _ c.args.view 4294967295 few _ c.section_part-definitions.ensures);
+      count_in_bounds = search (rules, origin-below _ _ _ _ (sym c.origin_at.ensures ∙ ap found_place c.in-Some.is), definitions_few _ c.args.view 4294967295 few _ c.section_part-definitions.ensures);
+      count_bound = search (rules, origin-below _ _ _ _ (sym c.origin_at.ensures ∙ ap found_place c.in-Some.is), definitions_few _ c.args.view 4294967295 few _ c.section_part-definitions.ensures);
     }
 
-pub returns-in-Nowhere : goal.returns-in-Nowhere
-returns-in-Nowhere c =
+pub returns-in-None : goal.returns-in-None
+returns-in-None c =
     let origin = c in
     let dot = origin in
-    c.no_search-in-Nowhere.ensures ∙ search_no_origin _ _ _ _ dot.is_blank.ensures dot.if-is_blank.false _ _ _ dot.section_part-definitions.ensures dot.section_part-items.ensures dot.section_part-strings.ensures _ dot.first_dot-dot.ensures origin.if-name-dot.false _ origin.origin_at.ensures (ap found_place c.in-Nowhere.is)
+    c.no_search-in-None.ensures ∙ search_no_origin _ _ _ _ dot.is_blank.ensures dot.if-is_blank.false _ _ _ dot.section_part-definitions.ensures dot.section_part-items.ensures dot.section_part-strings.ensures _ dot.first_dot-dot.ensures origin.if-name-dot.false _ origin.origin_at.ensures (ap found_place c.in-None.is)
 
-pub returns-in-At : goal.returns-in-At
-returns-in-At c =
+pub returns-in-Some : goal.returns-in-Some
+returns-in-Some c =
     let origin = c in
     let dot = origin in
-    search_origin _ _ _ _ dot.is_blank.ensures dot.if-is_blank.false _ _ _ dot.section_part-definitions.ensures dot.section_part-items.ensures dot.section_part-strings.ensures _ dot.first_dot-dot.ensures origin.if-name-dot.false _ origin.origin_at.ensures _ (ap found_place c.in-At.is) _ c.last_item-in-At.ensures
+    search_origin _ _ _ _ dot.is_blank.ensures dot.if-is_blank.false _ _ _ dot.section_part-definitions.ensures dot.section_part-items.ensures dot.section_part-strings.ensures _ dot.first_dot-dot.ensures origin.if-name-dot.false _ origin.origin_at.ensures _ (ap found_place c.in-Some.is) _ c.last_item-in-Some.ensures

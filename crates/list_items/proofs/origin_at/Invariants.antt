@@ -2,8 +2,5 @@
 use Rattle.list_items.proofs.Search.{Unnamed}
 use Rattle.list_items.proofs.origin_at.Given as goal
 
-abbrev pub invariant-loop-d : goal.invariant-loop-d
-invariant-loop-d l = Unnamed l.definitions l.strings l.origin l.d
-
-abbrev pub decreases-loop-d : goal.decreases-loop-d
-decreases-loop-d l = l.d
+abbrev pub invariant-loop-at : goal.invariant-loop-at
+invariant-loop-at l = Unnamed l.definitions l.strings l.origin l.at

@@ -1,10 +1,12 @@
 -- `names::hash` meets its contract.
-use native.Mathlib.Omega.{arith}
-use Rattle.names.proofs.Hashes.{hash_none, hash_some}
+use borrow.Author.Rules.{rules}
+use Rattle.names.specs.Spelling.{hash_of}
+use Rattle.names.proofs.Hashes.{hash_none}
 use Rattle.names.proofs.hash.Goals as goal
 
-pub returns-then-len-eq0 : goal.returns-then-len-eq0
-returns-then-len-eq0 c = hash_none _ (omega arith)
+pub returns-in_default-2 : goal.returns-in_default-2
+returns-in_default-2 c = hash_none _ c.in_default.ensures.item.3
 
 pub returns : goal.returns
-returns c = hash_some _ _ _ c.wide-first.ensures.0 c.wide-last.ensures.0
+unfolding hash_of
+returns c = search rules

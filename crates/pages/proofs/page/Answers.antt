@@ -22,13 +22,13 @@ pub loop-k-preserved : goal.loop-k-preserved
 loop-k-preserved c =
     let l = c in
     let a = l.args in
-    page-next (sections_by a.bytes.now a.view) a.numbers.now a.slots.now l.loop-k.slots l.loop-k.k l.loop-k.invariant _ _ c.loop-k-test.true refl c.put_slot.ensures
+    page-next (sections_by a.bytes.now a.view) a.numbers.now a.slots.now l.loop-k.slots l.loop-k.k l.loop-k.invariant _ _ (omega arith) refl c.put_slot.ensures
 
 pub returns : goal.returns
 returns c =
     let l = c in
     let a = l.args in
     record {
-      answer = (page_end (sections_by a.bytes.now a.view) a.numbers.now a.slots.now l.loop-k.slots l.loop-k.k l.loop-k.invariant c.loop-k-test.false).0;
-      written = (page_end (sections_by a.bytes.now a.view) a.numbers.now a.slots.now l.loop-k.slots l.loop-k.k l.loop-k.invariant c.loop-k-test.false).1;
+      answer = (page_end (sections_by a.bytes.now a.view) a.numbers.now a.slots.now l.loop-k.slots l.loop-k.k l.loop-k.invariant (omega arith)).0;
+      written = (page_end (sections_by a.bytes.now a.view) a.numbers.now a.slots.now l.loop-k.slots l.loop-k.k l.loop-k.invariant (omega arith)).1;
     }

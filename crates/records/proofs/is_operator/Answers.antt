@@ -1,9 +1,7 @@
 -- `records::is_operator` meets its contract.
-use Rattle.records.proofs.Texts.{known-name, unknown_name}
+use mathlib.Core.Path.{◌∙◌}
+use Rattle.records.proofs.Texts.{known-held}
 use Rattle.records.proofs.is_operator.Goals as goal
 
-pub returns-in-Known : goal.returns-in-Known
-returns-in-Known c = known-name _ _ _ _ c.operator_number.ensures c.in-Known.is
-
-pub returns-in-Unknown : goal.returns-in-Unknown
-returns-in-Unknown c = unknown_name _ _ _ c.operator_number.ensures c.in-Unknown.is
+pub returns : goal.returns
+returns c = c.is_some.ensures ∙ known-held _ _ _ c.operator_number.ensures

@@ -1,5 +1,7 @@
 -- `target_changes::move_target` meets its contract.
 use native.Mathlib.Omega.{arith}
+use mathlib.Core.Path.{◌∙◌}
+use Rattle.image.proofs.Refused.{none-refused, refused-alike, some-refused}
 use Rattle.target_counts.proofs.Counting.{nodes_alone}
 use Rattle.target_changes.proofs.Moves.{move_outside, move_inside, move_forbidden, move_stuck, move_steps, move_done, node-begins, node-room}
 use Rattle.target_changes.proofs.move_target.Goals as goal
@@ -19,10 +21,10 @@ returns-then-not-is_allowed c = let to = c.args in
     let s = nodes_alone to.source.version to.nodes.now in
     move_forbidden s to.summary.now to.node to.target c.requires _ c.node_count-count.ensures _ c.is_inside.ensures c.if-not-is_inside.false-raw _ c.node_at-record.ensures _ c.tag_at-target_tag.ensures _ c.is_allowed.ensures c.if-not-is_allowed.true-raw
 
-pub returns-then-stuck-ne0 : goal.returns-then-stuck-ne0
-returns-then-stuck-ne0 c = let to = c.args in
+pub returns-in_err-step_rule : goal.returns-in_err-step_rule
+returns-in_err-step_rule c = let to = c.args in
     let s = nodes_alone to.source.version to.nodes.now in
-    move_stuck s to.summary.now to.node to.target c.requires _ c.node_count-count.ensures _ c.is_inside.ensures c.if-not-is_inside.false-raw _ c.node_at-record.ensures _ c.tag_at-target_tag.ensures _ c.is_allowed.ensures c.if-not-is_allowed.false-raw _ c.target_of-old.ensures _ c.step_rule-stuck.ensures c.if-stuck-ne0.true
+    rw (refused-alike _ _ _ c.in_err-step_rule.was c.from_residual.ensures.1) (move_stuck s to.summary.now to.node to.target c.requires _ c.node_count-count.ensures _ c.is_inside.ensures c.if-not-is_inside.false-raw _ c.node_at-record.ensures _ c.tag_at-target_tag.ensures _ c.is_allowed.ensures c.if-not-is_allowed.false-raw _ c.target_of-old.ensures _ c.step_rule.ensures (some-refused _ _ c.in_err-step_rule.was))
 
 pub overflow_mul-node : goal.overflow_mul-node
 overflow_mul-node c = let to = c.args in
@@ -37,9 +39,9 @@ put_target-requires c = let to = c.args in
 pub step-requires : goal.step-requires
 step-requires c = let to = c.args in
     let s = nodes_alone to.source.version to.nodes.now in
-    move_steps s to.summary.now to.node to.target c.requires _ c.node_count-count.ensures _ c.is_inside.ensures c.if-not-is_inside.false-raw _ c.node_at-record.ensures _ c.tag_at-target_tag.ensures _ c.is_allowed.ensures c.if-not-is_allowed.false-raw _ c.target_of-old.ensures _ c.step_rule-stuck.ensures c.if-stuck-ne0.false
+    move_steps s to.summary.now to.node to.target c.requires _ c.node_count-count.ensures _ c.is_inside.ensures c.if-not-is_inside.false-raw _ c.node_at-record.ensures _ c.tag_at-target_tag.ensures _ c.is_allowed.ensures c.if-not-is_allowed.false-raw _ c.target_of-old.ensures _ c.step_rule.ensures (none-refused _ _ c.in_ok-step_rule.was)
 
 pub returns : goal.returns
 returns c = let to = c.args in
     let s = nodes_alone to.source.version to.nodes.now in
-    move_done s to.summary.now to.node to.target c.requires _ c.node_count-count.ensures _ c.is_inside.ensures c.if-not-is_inside.false-raw _ c.node_at-record.ensures _ c.tag_at-target_tag.ensures _ c.is_allowed.ensures c.if-not-is_allowed.false-raw _ c.target_of-old.ensures _ c.step_rule-stuck.ensures c.if-stuck-ne0.false _ c.node_words.ensures _ _ c.put_target.ensures c.step.ensures
+    move_done s to.summary.now to.node to.target c.requires _ c.node_count-count.ensures _ c.is_inside.ensures c.if-not-is_inside.false-raw _ c.node_at-record.ensures _ c.tag_at-target_tag.ensures _ c.is_allowed.ensures c.if-not-is_allowed.false-raw _ c.target_of-old.ensures _ c.step_rule.ensures (none-refused _ _ c.in_ok-step_rule.was) _ c.node_words.ensures _ _ c.put_target.ensures c.step.ensures

@@ -1,4 +1,6 @@
 -- `target_finding::targets_rule` meets its contract. The loop's invariant: the lowest node of an entry before k that has failed, and what was found.
+use mathlib.Core.Path.{ap}
+use Rattle.image.specs.Refusals.{numbered}
 use native.Mathlib.Omega.{arith}
 use Rattle.draft.proofs.NodeCount.{below-count}
 use borrow.Author.Rules.{rules}
@@ -26,22 +28,6 @@ entry_target-requires c =
       entry-inside to.paths.now to.components.now _ below pre.1 _ read,
     )
 
-pub loop-k-preserved-then-node-failing : goal.loop-k-preserved-then-node-failing
-loop-k-preserved-then-node-failing c =
-    let pre = c.requires in
-    let so = c.loop-k.invariant in
-    let below = below-count _ _ c.path_count-count.ensures _ c.loop-k-test.true in
-    let read = c.entry_at-entry.ensures in
-    entries-lower _ _ _ _ _ _ _ _ _ _ _ _ _ so pre.2 below _ read pre.3 _ c.entry_target.ensures _ c.in-Refused.is c.if-node-failing.true
-
-pub loop-k-preserved-else-node-failing : goal.loop-k-preserved-else-node-failing
-loop-k-preserved-else-node-failing c =
-    let pre = c.requires in
-    let so = c.loop-k.invariant in
-    let below = below-count _ _ c.path_count-count.ensures _ c.loop-k-test.true in
-    let read = c.entry_at-entry.ensures in
-    entries_higher _ _ _ _ _ _ _ _ _ _ _ _ _ so pre.2 below _ read pre.3 _ c.entry_target.ensures _ c.in-Refused.is c.if-node-failing.false
-
 pub bounds-work-node : goal.bounds-work-node
 bounds-work-node c =
     let pre = c.requires in
@@ -57,7 +43,15 @@ loop-k-preserved c =
     let so = c.loop-k.invariant in
     let below = below-count _ _ c.path_count-count.ensures _ c.loop-k-test.true in
     let read = c.entry_at-entry.ensures in
-    entries_next _ _ _ _ _ _ _ _ _ _ _ _ _ so pre.2 below _ read pre.3 _ c.entry_target.ensures _ c.in-At.is
+    let end = c.entry_target.ensures in
+    elim c.match-entry_target.branch [
+      | goal.in-Err+then-node-failing w ↦ rw (w.work-is, w.failing-is, w.answer-is)
+          (entries-lower _ _ _ _ _ _ _ _ _ _ _ _ _ so pre.2 below _ read pre.3 _ end _ (ap numbered w.in-Err.is) w.if-node-failing.true)
+      | goal.in-Err+else-node-failing w ↦ rw (w.work-is, w.failing-is, w.answer-is)
+          (entries_higher _ _ _ _ _ _ _ _ _ _ _ _ _ so pre.2 below _ read pre.3 _ end _ (ap numbered w.in-Err.is) w.if-node-failing.false)
+      | goal.in-Ok w ↦ rw (w.work-is, w.failing-is, w.answer-is)
+          (entries_next _ _ _ _ _ _ _ _ _ _ _ _ _ so pre.2 below _ read pre.3 _ end _ (ap numbered w.in-Ok.is))
+    ]
 
 pub returns : goal.returns
 returns c = entries_end _ _ _ _ _ _ _ _ _ _ _ _ _ c.loop-k.invariant _ c.path_count-count.ensures c.loop-k-test.false

@@ -1,22 +1,15 @@
 -- The invariant: the differences so far are 0 where all bytes so far are alike.
 use mathlib.Core.Path.{refl}
-use borrow.Author.Rules.{rules}
 use Rattle.laws.specs.Counted.{all_of}
-use Rattle.texts.proofs.Blocks.{bits-next, bits_all}
+use Rattle.texts.proofs.Blocks.{bits-next}
 use Rattle.texts.proofs.block_alike.Goals as goal
 
 pub loop-j-init : goal.loop-j-init
 unfolding all_of
-loop-j-init c = (search rules, refl)
+loop-j-init c = refl
 
 pub loop-j-preserved : goal.loop-j-preserved
 loop-j-preserved c =
     let x = c.args in
     let l = c.loop-j in
-    (search rules, bits-next x.a.now x.b.now x.at l.j l.bits l.invariant.1)
-
-pub returns : goal.returns
-returns c =
-    let x = c.args in
-    let l = c.loop-j in
-    bits_all x.a.now x.b.now x.at l.j 64 l.bits l.invariant.1 l.invariant.0 c.loop-j-test.false
+    bits-next x.a.now x.b.now x.at l.j l.bits l.invariant

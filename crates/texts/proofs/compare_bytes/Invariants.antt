@@ -1,12 +1,8 @@
 -- The invariant: what is left of the two is ordered as the two are.
-use Prim.Native.Nat.{◌≤◌, ◌-◌}
 use mathlib.Core.Path.{◌≡◌}
 use lib.ListN.{drop}
 use Rattle.texts.specs.Text.{order_of}
 use Rattle.texts.proofs.compare_bytes.Given as goal
 
 abbrev pub invariant-loop-i : goal.invariant-loop-i
-invariant-loop-i l = (l.i ≤ l.n) × (order_of l.a l.b ≡ order_of (drop l.i l.a) (drop l.i l.b))
-
-abbrev pub decreases-loop-i : goal.decreases-loop-i
-decreases-loop-i l = l.n - l.i
+invariant-loop-i l = order_of l.a l.b ≡ order_of (drop l.i l.a) (drop l.i l.b)

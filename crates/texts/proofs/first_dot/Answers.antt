@@ -1,24 +1,15 @@
--- `texts::first_dot` meets its contract. The invariant: the first dot is i further than the first dot from i on.
+-- `texts::first_dot` meets its contract: it is the place of the first byte that is a dot.
+use mathlib.Core.Path.{◌∙◌}
 use borrow.Author.Rules.{rules}
-use native.Mathlib.Omega.{arith}
-use mathlib.Core.Path.{sym}
-use Rattle.texts.proofs.Dots.{dot_found, dot_passed, dot_missed}
+use Rattle.std.proofs.Common.{tests}
+use lib.Dec.{eqb}
+use Rattle.std.proofs.lemmas.Iterator.{YieldsList-from_slice}
+use Rattle.std.proofs.lemmas.Iterator.Search.{position_from_yields_List}
+use Rattle.texts.proofs.Dots.{dot_or_end}
 use Rattle.texts.proofs.first_dot.Goals as goal
-
-pub loop-i-init : goal.loop-i-init
-loop-i-init c = (search rules, omega arith)
-
-pub returns-then-t-i-eq46 : goal.returns-then-t-i-eq46
-returns-then-t-i-eq46 c =
-    let at = c in
-    sym (dot_found at.args.t.now at.loop-i.i (omega arith) c.if-t-i-eq46.true at.loop-i.invariant.1)
-
-pub loop-i-preserved : goal.loop-i-preserved
-loop-i-preserved c =
-    let at = c in
-    (omega arith, dot_passed at.args.t.now at.loop-i.i (omega arith) c.if-t-i-eq46.false at.loop-i.invariant.1)
 
 pub returns : goal.returns
 returns c =
-    let at = c in
-    sym (dot_missed at.args.t.now at.loop-i.i (omega arith) at.loop-i.invariant.1)
+    let t = c.args.t.now in
+    let found = position_from_yields_List (λ b. eqb b 46) _ _ c.position.result c.position.ensures.ran (YieldsList-from_slice t cc) (λ x b q k. search (rules, tests)) in
+    c.unwrap_or.ensures ∙ dot_or_end t c.position.result found

@@ -1,11 +1,12 @@
 -- `tree::enter` meets its contract.
-use mathlib.Core.Path.{◌≡◌, refl}
+use mathlib.Core.Path.{◌≡◌, refl, sym}
 use Prim.Native.Nat.{◌+◌, ◌<◌, ◌^◌}
 use native.Mathlib.Omega.{arith}
 use Rattle.image.specs.Sections.{Sections}
 use Rattle.image.proofs.Entries.{IsNode, read-node}
 use Rattle.tree.specs.Parts.{parts_of}
-use Rattle.tree.proofs.NodeTurn.{enter-leaf, enter-refused, enter-pushed, leaf, container, Room, room}
+use Rattle.image.proofs.Refused.{refused-alike, some-refused, none-refused}
+use Rattle.tree.proofs.NodeTurn.{any-depth, enter-leaf, enter-refused, enter-pushed, leaf, container, Room, room}
 use Rattle.tree.proofs.enter.Goals as goal
 
 pub node_record-node-requires : goal.node_record-node-requires
@@ -17,8 +18,8 @@ returns-then-node-ne-CONTAINER c =
     let node_is : IsNode Parts c.args.id c.node_record-node.result = read-node _ _ _ _ _ refl refl c.node_record-node.ensures in
     enter-leaf _ _ _ _ _ _ _ _ _ (leaf _ _ _ node_is c.if-node-ne-CONTAINER.true)
 
-pub push_children-first-requires : goal.push_children-first-requires
-push_children-first-requires c =
+pub push_children-requires : goal.push_children-requires
+push_children-requires c =
     let Parts : Sections = parts_of c.args.version c.args.nodes.now c.args.children.now c.args.named.now c.args.strings.now in
     let node_is : IsNode Parts c.args.id c.node_record-node.result = read-node _ _ _ _ _ refl refl c.node_record-node.ensures in
     let room_of : c.node_record-node.result.tag ≡ 1
@@ -30,12 +31,23 @@ push_children-first-requires c =
       count_bound = (r.children, omega arith);
     }
 
-pub returns-then-first-ne0 : goal.returns-then-first-ne0
-returns-then-first-ne0 c =
+pub returns-in_err-push_children : goal.returns-in_err-push_children
+returns-in_err-push_children c =
     let Parts : Sections = parts_of c.args.version c.args.nodes.now c.args.children.now c.args.named.now c.args.strings.now in
     let node_is : IsNode Parts c.args.id c.node_record-node.result = read-node _ _ _ _ _ refl refl c.node_record-node.ensures in
-    enter-refused _ _ _ _ _ _ _ _ _ (container _ _ _ node_is c.if-node-ne-CONTAINER.false) _ node_is.f4 _ _
-    c.push_children-first.ensures _ c.if-first-ne0.true
+    rw (refused-alike _ _ _ c.in_err-push_children.was c.from_residual.ensures.1)
+    (enter-refused _ _ _ _ _ _ _ _ _ (container _ _ _ node_is c.if-node-ne-CONTAINER.false) _ node_is.f4 _ _
+    c.push_children.ensures _ (some-refused _ _ c.in_err-push_children.was))
+
+pub returns-in_err-push_named : goal.returns-in_err-push_named
+returns-in_err-push_named c =
+    let Parts : Sections = parts_of c.args.version c.args.nodes.now c.args.children.now c.args.named.now c.args.strings.now in
+    let node_is : IsNode Parts c.args.id c.node_record-node.result = read-node _ _ _ _ _ refl refl c.node_record-node.ensures in
+    rw (refused-alike _ _ _ c.in_err-push_named.was c.from_residual-in_err-push_named.ensures.1)
+    (any-depth _ _ _ _ _ _ _ _
+    (enter-pushed _ _ _ _ _ _ _ _ _ (container _ _ _ node_is c.if-node-ne-CONTAINER.false) _ node_is.f4 _ _
+    c.push_children.ensures (none-refused _ _ c.in_ok-push_children.was) _ node_is.f6 _ _ _ c.push_named.ensures refl)
+    (some-refused _ _ c.in_err-push_named.was) _)
 
 pub overflow_add-top : goal.overflow_add-top
 overflow_add-top c =
@@ -47,8 +59,8 @@ overflow_add-top c =
     let fits : c.node_record-node.result.tag ≡ 1 → c.args.depth + c.node_record-node.result.f4 + c.node_record-node.result.f6 < 2 ^ 63 = λ e. omega (arith, (room_of e).words) in
     omega (arith, fits c.if-node-ne-CONTAINER.false)
 
-pub push_named-second-requires : goal.push_named-second-requires
-push_named-second-requires c =
+pub push_named-requires : goal.push_named-requires
+push_named-requires c =
     let Parts : Sections = parts_of c.args.version c.args.nodes.now c.args.children.now c.args.named.now c.args.strings.now in
     let node_is : IsNode Parts c.args.id c.node_record-node.result = read-node _ _ _ _ _ refl refl c.node_record-node.ensures in
     let room_of : c.node_record-node.result.tag ≡ 1
@@ -74,5 +86,7 @@ pub returns : goal.returns
 returns c =
     let Parts : Sections = parts_of c.args.version c.args.nodes.now c.args.children.now c.args.named.now c.args.strings.now in
     let node_is : IsNode Parts c.args.id c.node_record-node.result = read-node _ _ _ _ _ refl refl c.node_record-node.ensures in
-    enter-pushed _ _ _ _ _ _ _ _ _ (container _ _ _ node_is c.if-node-ne-CONTAINER.false) _ node_is.f4 _ _
-    c.push_children-first.ensures c.if-first-ne0.false _ node_is.f6 _ _ _ c.push_named-second.ensures refl
+    rw (sym (none-refused _ _ c.in_ok-push_named.was))
+    (enter-pushed _ _ _ _ _ _ _ _ _ (container _ _ _ node_is c.if-node-ne-CONTAINER.false) _ node_is.f4 _ _
+    c.push_children.ensures (none-refused _ _ c.in_ok-push_children.was) _ node_is.f6 _ _ _
+    c.push_named.ensures refl)

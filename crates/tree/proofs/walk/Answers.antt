@@ -1,8 +1,10 @@
 -- `tree::walk` meets its contract.
-use mathlib.Core.Path.{refl, ◌∙◌}
+use mathlib.Core.Path.{refl, sym, ap, ◌∙◌}
 use Prim.Native.Nat.{ℕ, ◌+◌, ◌-◌, ◌<◌}
 use native.Mathlib.Omega.{arith}
 use lib.ListN.{get_or, length-set}
+use Rattle.image.specs.Refusals.{value_in}
+use Rattle.image.proofs.Refused.{refused-alike, some-refused, none-refused}
 use Rattle.tree.proofs.LoadWalk.{load-start, load_end, load_below, load-skip, load-room, load-less, load-entered, load-refused}
 use Rattle.tree.proofs.walk.Goals as goal
 
@@ -40,8 +42,8 @@ bounds-work-id-then-work-id-eq0 c =
     c.loop-depth-test.true refl in
     omega (arith, top_below)
 
-pub enter-step-requires : goal.enter-step-requires
-enter-step-requires c =
+pub enter-requires : goal.enter-requires
+enter-requires c =
     let top : ℕ = get_or c.loop-depth.work (c.args.count + (c.loop-depth.depth - 1)) 0 in
     let top_below : top < c.args.count = load_below _ _ c.requires.count_value c.requires.fit.counts c.args.work.now _ _ c.loop-depth.invariant _
     c.loop-depth-test.true refl in
@@ -51,29 +53,29 @@ enter-step-requires c =
       id_in_bounds = load-room _ _ c.requires.count_value c.requires.fit.counts c.args.work.now _ _ c.loop-depth.invariant _ c.loop-depth-test.true refl c.if-work-id-eq0.true;
     }
 
-pub shape_of-work-then-step-ne0 : goal.shape_of-work-then-step-ne0
-shape_of-work-then-step-ne0 c = c.enter-step.auto.work ∙ simp length-set (c.loop-depth.invariant.long ∙ simp length-set)
-
-pub returns-then-step-ne0 : goal.returns-then-step-ne0
-returns-then-step-ne0 c =
+pub returns-in_err-depth : goal.returns-in_err-depth
+returns-in_err-depth c =
     let head = c in
     let start = c in
-    load-refused _ _ start.requires.count_value start.requires.fit.counts start.args.work.now _ _ head.loop-depth.invariant _ c.loop-depth-test.true refl c.if-work-id-eq0.true _ _ _
-    c.enter-step.ensures c.enter-step.auto.work c.if-step-ne0.true
+    rw (refused-alike _ _ _ c.in_err-depth.was c.from_residual.ensures.1)
+    (load-refused _ _ start.requires.count_value start.requires.fit.counts start.args.work.now _ _ head.loop-depth.invariant _ c.loop-depth-test.true refl c.if-work-id-eq0.true _ _ _
+    c.enter.ensures c.enter.auto.work (some-refused _ _ c.in_err-depth.was))
 
 pub loop-depth-smaller-then-work-id-eq0 : goal.loop-depth-smaller-then-work-id-eq0
 loop-depth-smaller-then-work-id-eq0 c =
     let head = c in
     let start = c in
-    load-less _ _ start.requires.count_value start.requires.fit.counts start.args.work.now _ _ head.loop-depth.invariant _ c.loop-depth-test.true refl c.if-work-id-eq0.true _ _ _
-    c.enter-step.ensures c.enter-step.auto.work c.if-step-ne0.false
+    rw (sym (ap value_in c.in_ok-depth.was))
+    (load-less _ _ start.requires.count_value start.requires.fit.counts start.args.work.now _ _ head.loop-depth.invariant _ c.loop-depth-test.true refl c.if-work-id-eq0.true _ _ _
+    c.enter.ensures c.enter.auto.work (none-refused _ _ c.in_ok-depth.was))
 
 pub loop-depth-preserved-then-work-id-eq0 : goal.loop-depth-preserved-then-work-id-eq0
 loop-depth-preserved-then-work-id-eq0 c =
     let head = c in
     let start = c in
-    load-entered _ _ start.requires.count_value start.requires.fit.counts start.args.work.now _ _ head.loop-depth.invariant _ c.loop-depth-test.true refl c.if-work-id-eq0.true _ _ _
-    c.enter-step.ensures c.enter-step.auto.work c.if-step-ne0.false
+    rw (sym (ap value_in c.in_ok-depth.was))
+    (load-entered _ _ start.requires.count_value start.requires.fit.counts start.args.work.now _ _ head.loop-depth.invariant _ c.loop-depth-test.true refl c.if-work-id-eq0.true _ _ _
+    c.enter.ensures c.enter.auto.work (none-refused _ _ c.in_ok-depth.was))
 
 pub loop-depth-preserved : goal.loop-depth-preserved
 loop-depth-preserved c =

@@ -13,22 +13,22 @@ returns-then-s-ge128 c = ascii-none _
 pub loop-i-init : goal.loop-i-init
 loop-i-init c = ascii-none _
 
-pub returns-then-not-eight_ascii : goal.returns-then-not-eight_ascii
-returns-then-not-eight_ascii c = c.loop-i.invariant
+pub returns-then-not-all_ascii : goal.returns-then-not-all_ascii
+returns-then-not-all_ascii c = c.loop-i.invariant
 
 pub loop-i-preserved : goal.loop-i-preserved
 loop-i-preserved c =
-    let f = c.eight_ascii in
-    ascii-next 8 c.loop-i.invariant (omega arith) (sym f.ensures ∙ not-false f.result c.if-not-eight_ascii.false-raw)
+    let f = c.all_ascii in
+    ascii-next 8 c.loop-i.invariant (omega arith) (sym f.ensures ∙ not-false f.result c.if-not-all_ascii.false-raw)
 
 pub returns-then-i-s : goal.returns-then-i-s
 returns-then-i-s c = c.loop-i.invariant
 
-pub returns-then-eight_ascii : goal.returns-then-eight_ascii
-returns-then-eight_ascii c =
+pub returns-then-all_ascii : goal.returns-then-all_ascii
+returns-then-all_ascii c =
     let s = c.args.s.now in
-    let f = c.eight_ascii-2 in
-    ascii-over (length s - 8) 8 (length s) c.loop-i.invariant (omega arith) (omega arith) (omega arith) (sym f.ensures ∙ c.if-eight_ascii.true)
+    let f = c.all_ascii-2 in
+    ascii-over (length s - 8) 8 (length s) c.loop-i.invariant (omega arith) (omega arith) (omega arith) (sym f.ensures ∙ c.if-all_ascii.true)
 
 pub returns : goal.returns
 returns c = c.loop-i.invariant

@@ -1,5 +1,4 @@
 -- `utf8::blocks_short` meets its contract. The invariant: where the faults so far are 0, all bytes so far are below 0xe0 and right.
-use Prim.Native.Nat.{◌≤◌, ◌-◌}
 use mathlib.Core.Path.{◌≡◌}
 use mathlib.Core.Bool.{true}
 use lib.Dec.{eqb}
@@ -7,7 +6,4 @@ use Rattle.utf8.proofs.ShortBlocks.{Short}
 use Rattle.utf8.proofs.blocks_short.Given as goal
 
 abbrev pub invariant-loop-j : goal.invariant-loop-j
-invariant-loop-j l = (l.j ≤ 64) × (eqb l.e 0 ≡ true → Short l.s l.at l.j)
-
-abbrev pub decreases-loop-j : goal.decreases-loop-j
-decreases-loop-j l = 64 - l.j
+invariant-loop-j l = eqb l.e 0 ≡ true → Short l.s l.at l.j

@@ -1,32 +1,21 @@
 -- `write_paths::rises` meets its contract.
-use mathlib.Core.Path.{refl, sym, ◌∙◌}
-use borrow.Author.Tests.{not-true, not-false}
-use Rattle.write_paths.proofs.NodeList.{all_less, rises_at_lem}
-use Rattle.laws.specs.Counted.{all_of}
-use Rattle.laws.proofs.Flags.{all_next, all_fails}
+use Prim.Native.Nat.{ℕ, ◌-◌}
+use mathlib.Core.Path.{refl, ◌∙◌}
+use mathlib.Core.Bool.{Bool}
+use lib.ListN.{get_or}
+use Rattle.std.proofs.Common.{rules, tests}
+use Rattle.std.proofs.lemmas.Iterator.{YieldsList-from_range}
+use Rattle.std.proofs.lemmas.Iterator.Search.{all_from_yields_List}
+use Rattle.texts.specs.Text.{by_key, rising}
 use Rattle.write_text_keys.specs.Keys.{key_in}
-use borrow.Author.Rules.{rules}
+use Rattle.draft.proofs.Ranges.{all_range}
+use Rattle.write_paths.proofs.NodeList.{rises_none, rises_at_lem}
 use Rattle.write_paths.proofs.rises.Goals as goal
 
-pub loop-i-init : goal.loop-i-init
-unfolding all_of
-loop-i-init c = (search rules, refl)
-
-pub returns-then-not-below : goal.returns-then-not-below
-returns-then-not-below c =
-    let loop = c in
-    let to = loop.args in
-    let key = key_in to.source.version to.nodes.now to.strings.now to.layout to.w.now in
-    let here = rises_at_lem key to.w.now _ _ _ _ loop.loop-i.invariant.0 c.word-last.ensures c.word-here.ensures c.below.ensures in
-    sym (all_fails _ _ _ c.loop-i-test.true (here ∙ not-true _ c.if-not-below.true-raw))
-
-pub loop-i-preserved : goal.loop-i-preserved
-loop-i-preserved c =
-    let loop = c in
-    let to = loop.args in
-    let key = key_in to.source.version to.nodes.now to.strings.now to.layout to.w.now in
-    let here = rises_at_lem key to.w.now _ _ _ _ loop.loop-i.invariant.0 c.word-last.ensures c.word-here.ensures c.below.ensures in
-    (search rules, all_next _ _ loop.loop-i.invariant.1 (here ∙ not-false _ c.if-not-below.false-raw))
-
 pub returns : goal.returns
-returns c = sym (all_less _ _ _ (search rules) c.loop-i.invariant.1)
+returns c =
+    let key = key_in c.args.source.version c.args.nodes.now c.args.strings.now c.args.layout c.args.w.now in
+    let w = c.args.w.now in
+    let test : ℕ → Bool = λ i. by_key key (get_or w (i - 1) 0) (get_or w i 0) in
+    all_from_yields_List test _ _ c.all.result c.all.ensures.ran (YieldsList-from_range 1 c.args.n (c.args.n - 1) refl refl) (λ x b q k. search (rules, tests))
+    ∙ all_range test (rising (λ i. key (get_or w i 0))) 1 c.args.n (rises_none key w) (λ i h k. rises_at_lem key w i h)

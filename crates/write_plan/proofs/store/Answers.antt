@@ -1,11 +1,11 @@
 -- `write_plan::store` meets its contract.
+use Rattle.std.specs.Prelude.{Ok, Err}
 use Prim.Native.Nat.{ℕ, ◌+◌}
 use mathlib.Core.Path.{sym, subst}
 use mathlib.Core.List.{List, []}
 use Rattle.texts.specs.Text.{by_key}
 use Rattle.write_interning.specs.Uses.{RisesFrom}
 use Rattle.write_text_keys.specs.Keys.{key_in}
-use Rattle.write_plan.specs.declared.Plan.TheVariants.{Ready, Refused}
 use Rattle.write_plan.specs.Planned.{layout_with, entries_with, StoredPlan}
 use Rattle.write_plan.proofs.SharedTexts.{same_none, same_next, same_kept, keys-same}
 use Rattle.write_plan.proofs.StoreAnswers.{stored-many, stored-whole, stored-long}
@@ -32,8 +32,8 @@ intern-requires c =
       rises_from = subst (λ (key : ℕ → List ℕ). RisesFrom (by_key key) to.layout.texts (to.layout.texts + to.paths)) (sym keys) asked.rises_from;
     }
 
-pub returns-in-Whole : goal.returns-in-Whole
-returns-in-Whole c =
+pub returns-in-Some : goal.returns-in-Some
+returns-in-Some c =
     let to = c.args in
     let asked = c.requires in
     let if1 = c.if-n-gt4294967295 in
@@ -42,14 +42,14 @@ returns-in-Whole c =
     let keys = keys-same to.strings.now to.layout.at to.layout.texts to.layout.paths to.layout.lengths to.w.now share.new.w asked.texts_bound.0 asked.texts_bound.1
     share.ensures to.source.version to.nodes.now in
     record {
-      answer = subst (λ (key : ℕ → List ℕ). StoredPlan key to.layout to.counts to.paths intern.new.w (Ready (layout_with to.layout to.layout.texts to.paths) (entries_with to.counts to.paths c.in-Whole.strings))) keys
+      answer = subst (λ (key : ℕ → List ℕ). StoredPlan key to.layout to.counts to.paths intern.new.w (Ok (layout_with to.layout to.layout.texts to.paths, entries_with to.counts to.paths c.in-Some.strings))) keys
           (stored-whole (key_in to.source.version to.nodes.now to.strings.now to.layout share.new.w) to.layout to.counts to.paths _ _ intern.new.w if1.false
-          intern.ensures.result_value intern.ensures.offsets c.in-Whole.is);
+          intern.ensures.result_value intern.ensures.offsets c.in-Some.is);
       tables = same_next _ _ _ _ _ _ share.ensures (same_kept _ _ _ _ _ intern.ensures.w_unchanged);
     }
 
-pub returns-in-TooLong : goal.returns-in-TooLong
-returns-in-TooLong c =
+pub returns-in-None : goal.returns-in-None
+returns-in-None c =
     let to = c.args in
     let asked = c.requires in
     let if1 = c.if-n-gt4294967295 in
@@ -58,8 +58,8 @@ returns-in-TooLong c =
     let keys = keys-same to.strings.now to.layout.at to.layout.texts to.layout.paths to.layout.lengths to.w.now share.new.w asked.texts_bound.0 asked.texts_bound.1
     share.ensures to.source.version to.nodes.now in
     record {
-      answer = subst (λ (key : ℕ → List ℕ). StoredPlan key to.layout to.counts to.paths [] (Refused 23)) keys
+      answer = subst (λ (key : ℕ → List ℕ). StoredPlan key to.layout to.counts to.paths [] (Err 23)) keys
           (stored-long (key_in to.source.version to.nodes.now to.strings.now to.layout share.new.w) to.layout to.counts to.paths _ [] if1.false intern.ensures.result_value
-          c.in-TooLong.is);
+          c.in-None.is);
       tables = same_next _ _ _ _ _ _ share.ensures (same_kept _ _ _ _ _ intern.ensures.w_unchanged);
     }

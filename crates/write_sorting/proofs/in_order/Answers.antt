@@ -1,29 +1,21 @@
--- The invariant: none of the words so far is above the next.
-use mathlib.Core.Path.{sym, ◌∙◌}
-use native.Mathlib.Omega.{arith}
+-- `write_sorting::in_order` meets its contract.
+use mathlib.Core.Path.{refl, sym, ◌∙◌}
+use mathlib.Core.Bool.{Bool, not}
+use Prim.Native.Nat.{ℕ, ◌-◌}
+use lib.ListN.{get_or}
+use Rattle.std.proofs.Common.{rules, tests}
+use Rattle.std.proofs.lemmas.Iterator.{YieldsList-from_range}
+use Rattle.std.proofs.lemmas.Iterator.Search.{all_from_yields_List}
 use Rattle.texts.specs.Text.{by_key}
 use Rattle.write_text_keys.specs.Keys.{key_in}
-use Rattle.write_sorting.proofs.Laws.{key_strict, differ}
-use Rattle.write_sorting.proofs.OrderedLists.{level_one, level_next, level_ordered}
+use Rattle.write_sorting.proofs.Laws.{key_strict}
+use Rattle.write_sorting.proofs.OrderedLists.{neighbours-ordered}
 use Rattle.write_sorting.proofs.in_order.Goals as goal
-
-pub loop-i-init : goal.loop-i-init
-loop-i-init c = (omega arith, level_one _ _)
-
-pub returns-then-below : goal.returns-then-below
-returns-then-below c e = differ (sym e)
-
-pub loop-i-preserved : goal.loop-i-preserved
-loop-i-preserved c =
-    let to = c in
-    let key = key_in to.args.source.version to.args.nodes.now to.args.strings.now to.args.layout to.args.w.now in
-    let l = c.loop-i in
-    let f = c.below in
-    (omega arith, level_next (by_key key) to.args.w.now l.i (omega arith) l.invariant.1 (sym f.ensures ∙ c.if-below.false))
 
 pub returns : goal.returns
 returns c e =
-    let to = c in
-    let key = key_in to.args.source.version to.args.nodes.now to.args.strings.now to.args.layout to.args.w.now in
-    let l = c.loop-i in
-    level_ordered (by_key key) (key_strict key) to.args.w.now l.i to.args.n to.requires.0 l.invariant.1 c.loop-i-test.false
+    let key = key_in c.args.source.version c.args.nodes.now c.args.strings.now c.args.layout c.args.w.now in
+    let w = c.args.w.now in
+    let test : ℕ → Bool = λ i. not (by_key key (get_or w i 0) (get_or w (i - 1) 0)) in
+    let all = all_from_yields_List test _ _ c.all.result c.all.ensures.ran (YieldsList-from_range 1 c.args.n (c.args.n - 1) refl refl) (λ x b q k. search (rules, tests)) in
+    neighbours-ordered (by_key key) (key_strict key) w c.args.n c.requires.0 (sym all ∙ e)

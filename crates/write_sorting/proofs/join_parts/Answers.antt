@@ -1,6 +1,9 @@
-use mathlib.Core.Path.{sym, ap, ◌∙◌}
+-- `write_sorting::join_parts` meets its contract.
+use Prim.Native.Nat.{◌+◌, ◌-◌}
+use mathlib.Core.Path.{◌≡◌, sym, ap, ◌∙◌}
 use native.Mathlib.Omega.{arith}
 use lib.ListN.{drop, length-drop}
+use lib.Seq.{paste}
 use Rattle.texts.specs.Text.{by_key}
 use Rattle.write_text_keys.specs.Keys.{key_in}
 use Rattle.write_sorting.proofs.Laws.{key_strict}
@@ -9,12 +12,14 @@ use Rattle.write_sorting.proofs.join_parts.Goals as goal
 
 pub returns-else-below : goal.returns-else-below
 returns-else-below c =
-    let to = c in
-    let key = key_in to.args.source.version to.args.nodes.now to.args.strings.now to.args.layout to.args.w.now in
-    let copied = c.copy_down in
-    let f = sym c.below.ensures ∙ c.if-below.false in
+    let w = c.args.w.now in
+    let m = c.args.m in
+    let n = c.args.n in
+    let key = key_in c.args.source.version c.args.nodes.now c.args.strings.now c.args.layout w in
+    let count : n + m - n ≡ m = omega arith in
+    let copied : c.copy_within.new.self ≡ paste w 0 (drop n w) m = c.copy_within.ensures.after ∙ ap (paste w 0 (drop n w)) count in
     record {
-      w_after = down-joined (by_key key) to.args.w.now copied.new.w to.args.m to.args.n (key_strict key) (omega arith) (omega arith) (omega arith) to.requires.ordered f copied.ensures;
-      w_unchanged = ap (drop to.args.layout.at) copied.ensures
-          ∙ paste-behind to.args.w.now (drop to.args.n to.args.w.now) 0 to.args.m to.args.layout.at (omega arith) (omega (arith, length-drop to.args.n to.args.w.now)) (omega arith);
+      w_after = down-joined (by_key key) w c.copy_within.new.self m n (key_strict key) (omega arith) (omega arith) (omega arith) c.requires.ordered (sym c.below.ensures ∙ c.if-below.false) copied;
+      w_unchanged = ap (drop c.args.layout.at) copied
+          ∙ paste-behind w (drop n w) 0 m c.args.layout.at (omega arith) (omega (arith, length-drop n w)) (omega arith);
     }

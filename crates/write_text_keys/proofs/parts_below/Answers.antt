@@ -1,12 +1,14 @@
--- `write_text_keys::parts_below` meets its contract.
-use mathlib.Core.Path.{◌∙◌}
+-- `write_text_keys::parts_below` meets its contract. One part is not below itself.
+use mathlib.Core.Path.{◌≡◌, ◌∙◌}
+use native.Mathlib.Omega.{arith}
+use Rattle.std.proofs.lemmas.Bool.Decides.{nat_tests}
 use Rattle.write_text_keys.proofs.Uses.{part-self}
 use Rattle.write_text_keys.proofs.parts_below.Goals as goal
 
-pub returns-then-p-q-2 : goal.returns-then-p-q-2
-returns-then-p-q-2 c =
-    let to = c.args in
-    part-self to.strings.now to.p.offset to.p.len to.q.offset to.q.len c.if-p-q.true c.if-p-q-2.true
-
-pub returns : goal.returns
-returns c = c.comes_before.ensures ∙ rw (c.part_bytes.ensures, c.part_bytes-2.ensures)
+pub returns-else-ne : goal.returns-else-ne
+returns-else-ne c =
+    let p = c.args.p in
+    let q = c.args.q in
+    let one : p.offset ≡ q.offset = grind (arith, nat_tests, c.ne.ensures) in
+    let other : p.len ≡ q.len = grind (arith, nat_tests, c.ne.ensures) in
+    c.if-ne.false ∙ part-self c.args.strings.now p.offset p.len q.offset q.len one other

@@ -2,8 +2,8 @@
 use Prim.Native.Nat.{ℕ}
 use mathlib.Core.Path.{◌≡◌, sym, ◌∙◌}
 use mathlib.Core.List.{List}
-use Rattle.texts.specs.declared.Order.{Order}
-use Rattle.texts.specs.declared.Order.TheVariants.{Less, Equal, Greater}
+use Rattle.std.specs.declared.cmp.Ordering.{Ordering}
+use Rattle.std.specs.declared.cmp.Ordering.TheVariants.{Less, Equal, Greater}
 use Rattle.write_text_keys.specs.Keys.{read_back, decided}
 use Rattle.write_text_keys.proofs.Comparison.{by_order}
 use Rattle.write_text_keys.proofs.NameRuns.{run_same, run_order}
@@ -17,7 +17,7 @@ returns-then-c-d c =
 
 pub returns-in-Less : goal.returns-in-Less
 returns-in-Less c =
-    let ordered : (o : Order) → c.compare-order.result ≡ o → let to = c.args in
+    let ordered : (o : Ordering) → c.compare-order.result ≡ o → let to = c.args in
     (v : ℕ) (nodes : List ℕ) → by_order o to.later ≡ decided (read_back to.run v nodes to.strings.now to.c) (read_back to.run v nodes to.strings.now to.d) to.later = λ o e v nodes.
     let at = c in
     let to = at.args in
@@ -26,7 +26,7 @@ returns-in-Less c =
 
 pub returns-in-Equal : goal.returns-in-Equal
 returns-in-Equal c =
-    let ordered : (o : Order) → c.compare-order.result ≡ o → let to = c.args in
+    let ordered : (o : Ordering) → c.compare-order.result ≡ o → let to = c.args in
     (v : ℕ) (nodes : List ℕ) → by_order o to.later ≡ decided (read_back to.run v nodes to.strings.now to.c) (read_back to.run v nodes to.strings.now to.d) to.later = λ o e v nodes.
     let at = c in
     let to = at.args in
@@ -35,7 +35,7 @@ returns-in-Equal c =
 
 pub returns-in-Greater : goal.returns-in-Greater
 returns-in-Greater c =
-    let ordered : (o : Order) → c.compare-order.result ≡ o → let to = c.args in
+    let ordered : (o : Ordering) → c.compare-order.result ≡ o → let to = c.args in
     (v : ℕ) (nodes : List ℕ) → by_order o to.later ≡ decided (read_back to.run v nodes to.strings.now to.c) (read_back to.run v nodes to.strings.now to.d) to.later = λ o e v nodes.
     let at = c in
     let to = at.args in

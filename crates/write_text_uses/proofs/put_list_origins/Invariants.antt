@@ -1,11 +1,7 @@
 -- `write_text_uses::put_list_origins` meets its contract.
-use Prim.Native.Nat.{◌-◌}
 use Rattle.write_text_uses.specs.Uses.{origin_pairs}
 use Rattle.write_text_uses.proofs.Puts.{RunsSoFar}
 use Rattle.write_text_uses.proofs.put_list_origins.Given as goal
 
 abbrev pub invariant-loop-j : goal.invariant-loop-j
 invariant-loop-j l = RunsSoFar l.count (origin_pairs l.payload l.first) l.initial.w l.at l.w l.k l.j
-
-abbrev pub decreases-loop-j : goal.decreases-loop-j
-decreases-loop-j l = l.count - l.j

@@ -1,6 +1,4 @@
 -- `write_text_uses::put_nodes` meets its contract.
-use Prim.Native.Nat.{◌+◌}
-use native.Mathlib.Omega.{arith}
 use Rattle.write_text_uses.specs.Uses.{all_node_pairs}
 use Rattle.write_text_uses.proofs.Puts.{ordered-start, ordered-room, ordered-next, old_read, going_end}
 use Rattle.write_text_uses.proofs.Nodes.{node_needs}
@@ -10,9 +8,6 @@ pub loop-j-init : goal.loop-j-init
 unfolding all_node_pairs
 loop-j-init c = ordered-start _ _ _ _ _ c.requires.1 c.requires.2
 
-pub overflow_cast-i : goal.overflow_cast-i
-overflow_cast-i c = omega (arith, c.slice_known-in-loop-j-1.given (c.args.order + c.loop-j.j))
-
 pub put_node-k-requires : goal.put_node-k-requires
 put_node-k-requires c =
     let asked = c.requires in
@@ -20,14 +15,8 @@ put_node-k-requires c =
     let test = c.loop-j-test in
     let node-count = c.node_count-count in
     let below = rw node-count.ensures at test.true in
-    record {
-      i_in_bounds = (node_needs _ _ _ _ asked.0 _ _ below (old_read _ _ _ _ _ _ _ _ loop.invariant below)
-          (ordered-room _ _ _ _ _ _ _ _ loop.invariant below)).0;
-      list_inside = (node_needs _ _ _ _ asked.0 _ _ below (old_read _ _ _ _ _ _ _ _ loop.invariant below)
-          (ordered-room _ _ _ _ _ _ _ _ loop.invariant below)).1.0;
-      room = (node_needs _ _ _ _ asked.0 _ _ below (old_read _ _ _ _ _ _ _ _ loop.invariant below)
-          (ordered-room _ _ _ _ _ _ _ _ loop.invariant below)).1.1;
-    }
+    let needs = node_needs _ _ _ _ asked.0 _ _ below (old_read _ _ _ _ _ _ _ _ loop.invariant below) (ordered-room _ _ _ _ _ _ _ _ loop.invariant below) in
+    record { i_in_bounds = needs.0; list_inside = needs.1.0; room = needs.1.1 }
 
 pub loop-j-preserved : goal.loop-j-preserved
 loop-j-preserved c =

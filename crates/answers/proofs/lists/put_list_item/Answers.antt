@@ -4,8 +4,8 @@ use Rattle.answers.specs.AnswerWords.{list_item_answer}
 use Rattle.answers.proofs.AnswerSlices.{unanswered, answered_as}
 use Rattle.answers.proofs.lists.put_list_item.Goals as goal
 
-pub returns-in-NotFound : goal.returns-in-NotFound
-returns-in-NotFound c = unanswered _ _ (ap list_item_answer (sym c.in-NotFound.is))
+pub returns-in-None : goal.returns-in-None
+returns-in-None c = unanswered _ _ (ap list_item_answer (sym c.in-None.is))
 
-pub returns-in-Item : goal.returns-in-Item
-returns-in-Item c = answered_as _ _ _ _ _ (ap list_item_answer (sym c.in-Item.is)) c.put_item_numbers.ensures
+pub returns-in-Some : goal.returns-in-Some
+returns-in-Some c = answered_as _ _ _ _ _ (ap list_item_answer (sym c.in-Some.is)) c.put_item_numbers.ensures

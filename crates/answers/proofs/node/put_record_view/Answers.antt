@@ -9,11 +9,11 @@ use Rattle.answers.proofs.node.put_record_view.Goals as goal
 pub returns-then-answer-lt-NODE_VIEW_WORDS : goal.returns-then-answer-lt-NODE_VIEW_WORDS
 returns-then-answer-lt-NODE_VIEW_WORDS c = let a = c.args in view-short (record_view a.strings.now a.payload a.node) _ c.if-answer-lt-NODE_VIEW_WORDS.true
 
-pub returns-in-NotFound : goal.returns-in-NotFound
-returns-in-NotFound c = let a = c.args in unanswered _ _ (kind-missing a.strings.now a.payload a.node (ap words_found (sym c.in-NotFound.is) ∙ c.kind_words.ensures))
+pub returns-in-None : goal.returns-in-None
+returns-in-None c = let a = c.args in unanswered _ _ (kind-missing a.strings.now a.payload a.node (ap words_found (sym c.in-None.is) ∙ c.kind_words.ensures))
 
-pub returns-in-Kind : goal.returns-in-Kind
-returns-in-Kind c =
+pub returns-in-Some : goal.returns-in-Some
+returns-in-Some c =
     let a = c.args in
-    let words = ap words_found (sym c.in-Kind.is) ∙ c.kind_words.ensures in
+    let words = ap words_found (sym c.in-Some.is) ∙ c.kind_words.ensures in
     answered_as _ _ _ _ _ (kind-viewed a.strings.now a.payload a.node _ words) (fitting _ _ c.if-answer-lt-NODE_VIEW_WORDS.false _ c.put_ten.ensures)

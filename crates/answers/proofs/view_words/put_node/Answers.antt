@@ -1,13 +1,13 @@
 -- `answers::view_words::put_node` meets its contract.
+use Rattle.std.specs.Prelude.{Some}
 use mathlib.Core.Path.{sym, ap, ◌∙◌}
-use mathlib.Core.Option.{some}
 use Rattle.answers.specs.NodeViewWords.{node_answer}
 use Rattle.answers.proofs.AnswerSlices.{unanswered, answered_as}
 use Rattle.answers.proofs.view_words.put_node.Goals as goal
 
-pub returns-in-NotFound : goal.returns-in-NotFound
-returns-in-NotFound c = unanswered _ _ (ap node_answer (sym c.in-NotFound.is))
+pub returns-in-None : goal.returns-in-None
+returns-in-None c = unanswered _ _ (ap node_answer (sym c.in-None.is))
 
-pub returns-in-View : goal.returns-in-View
-returns-in-View c =
-    answered_as _ _ _ _ _ (ap some c.node_words-words.ensures ∙ ap node_answer (sym c.in-View.is)) c.put_answer.ensures
+pub returns-in-Some : goal.returns-in-Some
+returns-in-Some c =
+    answered_as _ _ _ _ _ (ap Some c.node_words-words.ensures ∙ ap node_answer (sym c.in-Some.is)) c.put_answer.ensures

@@ -1,5 +1,5 @@
 -- `draft::tables::children_rule` meets its contract. The invariant: the children before `j` pass.
-use Prim.Native.Nat.{ℕ, ◌/◌, ◌≤◌, ◌-◌}
+use Prim.Native.Nat.{ℕ, ◌/◌}
 use mathlib.Core.Path.{◌≡◌}
 use mathlib.Core.List.{[]}
 use lib.ListN.{length}
@@ -9,10 +9,6 @@ use Rattle.draft.specs.Source.{draft_of}
 use Rattle.draft.specs.Draft.{draft_child_rule}
 use Rattle.draft.proofs.tables.children_rule.Given as goal
 
-abbrev pub invariant-loop-j : goal.invariant-loop-j
-invariant-loop-j l =
-    (l.j ≤ length l.children)
-    × ((v : ℕ) → l.count ≡ length l.nodes / node_words v → first_of l.j (draft_child_rule (draft_of v l.nodes l.children [] [] [] [] [])) ≡ 0)
-
-abbrev pub decreases-loop-j : goal.decreases-loop-j
-decreases-loop-j l = length l.children - l.j
+abbrev pub invariant-loop-child : goal.invariant-loop-child
+invariant-loop-child l =
+    (v : ℕ) → l.count ≡ length l.nodes / node_words v → first_of l.child-index (draft_child_rule (draft_of v l.nodes l.children [] [] [] [] [])) ≡ 0

@@ -8,7 +8,7 @@ use Rattle.draft.proofs.tables.nodes_rule.Given as goal
 
 abbrev pub invariant-loop-i : goal.invariant-loop-i
 invariant-loop-i l =
-    (l.i ≤ l.counts.nodes) × Passing (draft_of l.source.version l.nodes l.children l.named l.definitions l.items l.payload l.strings) l.paths l.i l.sums × Hinted l.paths l.i l.hint × Ready l.paths l.i l.hint.rises l.window
+    (l.i ≤ l.counts.nodes) × Passing (draft_of l.source.version l.draft.nodes.now l.draft.children.now l.draft.named.now l.draft.definitions.now l.draft.items.now l.draft.payload.now l.draft.strings.now) l.paths l.i l.sums × Hinted l.paths l.i l.hint × Ready l.paths l.i l.hint.rises l.window
 
 abbrev pub decreases-loop-i : goal.decreases-loop-i
 decreases-loop-i l = l.counts.nodes - l.i

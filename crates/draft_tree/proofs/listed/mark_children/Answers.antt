@@ -8,26 +8,21 @@ use Rattle.draft_tree.proofs.Marks.{none-marked, one_marked}
 use borrow.Author.Rules.{rules}
 use Rattle.draft_tree.proofs.listed.mark_children.Goals as goal
 
-pub loop-j-init : goal.loop-j-init
-loop-j-init c = (search rules, refl, none-marked _ _)
+pub loop-child-init : goal.loop-child-init
+loop-child-init c = (refl, none-marked _ _)
 
-pub overflow_cast-work : goal.overflow_cast-work
-overflow_cast-work c = omega (arith, c.shared_slice_known-1.given c.loop-j.j)
+pub bounds-work-child : goal.bounds-work-child
+bounds-work-child c = omega (arith, c.requires c.loop-child.child-index c.loop-child-test.true, c.loop-child.invariant.0)
 
-pub offset_bounds-work-children : goal.offset_bounds-work-children
-offset_bounds-work-children c = omega (arith, c.shared_slice_known-1.given c.loop-j.j)
-
-pub bounds-work-children : goal.bounds-work-children
-bounds-work-children c = omega (arith, c.requires c.loop-j.j c.loop-j-test.true, c.loop-j.invariant.1)
-
-pub loop-j-preserved : goal.loop-j-preserved
-loop-j-preserved c =
-    let low : get_or c.args.children.now c.loop-j.j 0 < length c.loop-j.work = omega (arith, c.requires c.loop-j.j c.loop-j-test.true, c.loop-j.invariant.1) in
-    let more = one_marked _ _ _ _ c.loop-j.invariant.2 _ _ refl refl low in
-    (search rules, more.long, more)
+pub loop-child-preserved : goal.loop-child-preserved
+loop-child-preserved c =
+    let low : get_or c.args.children.now c.loop-child.child-index 0 < length c.loop-child.work =
+    omega (arith, c.requires c.loop-child.child-index c.loop-child-test.true, c.loop-child.invariant.0) in
+    let more = one_marked _ _ _ _ c.loop-child.invariant.1 _ _ refl refl low in
+    (more.long, more)
 
 pub returns : goal.returns
 returns c =
     let to = c.args in
-    let e : c.loop-j.j ≡ length to.children.now = omega arith in
-    subst (λ (n : ℕ). MarkedAmong n (λ k. get_or to.children.now k 0) to.work.now c.loop-j.work) e c.loop-j.invariant.2
+    let e : c.loop-child.child-index ≡ length to.children.now = omega (arith, c.loop-child.auto.child-index-end) in
+    subst (λ (n : ℕ). MarkedAmong n (λ k. get_or to.children.now k 0) to.work.now c.loop-child.work) e c.loop-child.invariant.1

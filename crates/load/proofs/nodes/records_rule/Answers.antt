@@ -1,4 +1,6 @@
 -- `load::nodes::records_rule` meets its contract: the root, the nodes, what is left over.
+use Rattle.image.specs.Refusals.{numbered, refusal_in}
+use Rattle.image.proofs.Refused.{refused-alike}
 use mathlib.Core.Path.{◌≡◌, ap, sym, ◌∙◌}
 use borrow.Author.Tests.{not-true, not-false}
 use Rattle.words.specs.Words.{words_of}
@@ -27,20 +29,22 @@ returns-then-not-root_right c =
     (nodes_by_lem at.args.bytes.now at.args.view ∙ ap words_of (sym ns))) in
     root-wrong _ (sym rooted ∙ not-true _ c.if-not-root_right.true-raw)
 
-pub returns-in-Refused : goal.returns-in-Refused
-returns-in-Refused c =
+pub returns-in_err-nodes_rule : goal.returns-in_err-nodes_rule
+returns-in_err-nodes_rule c =
     let rooted : c.root_right.result ≡ root_right (sections_by c.args.bytes.now c.args.view) =
     let at = c in
     let ns = c.nodes_part-nodes.ensures in
     c.root_right.ensures
     ∙ shown-root _ _ (c.node_record.ensures ∙ node_record _ _ _ 0 (version_by at.args.bytes.now at.args.view)
     (nodes_by_lem at.args.bytes.now at.args.view ∙ ap words_of (sym ns))) in
-    nodes-refused _ _ _
+    refused-alike _ _ _ c.in_err-nodes_rule.was c.from_residual.ensures.1
+    ∙ ap refusal_in c.in_err-nodes_rule.was
+    ∙ nodes-refused _ _ _
     (sym rooted ∙ not-false _ c.if-not-root_right.false-raw)
-    c.nodes_rule.ensures c.in-Refused.is
+    c.nodes_rule.ensures (ap numbered c.in_err-nodes_rule.was)
 
-pub returns-in-Passed : goal.returns-in-Passed
-returns-in-Passed c =
+pub returns : goal.returns
+returns c =
     let rooted : c.root_right.result ≡ root_right (sections_by c.args.bytes.now c.args.view) =
     let at = c in
     let ns = c.nodes_part-nodes.ensures in
@@ -49,6 +53,6 @@ returns-in-Passed c =
     (nodes_by_lem at.args.bytes.now at.args.view ∙ ap words_of (sym ns))) in
     nodes-passed _ _ _ _
     (sym rooted ∙ not-false _ c.if-not-root_right.false-raw)
-    c.nodes_rule.ensures c.in-Passed.is
+    c.nodes_rule.ensures (ap numbered c.in_ok-nodes_rule.was)
     (c.left_over.ensures _ c.counts_of-counts.ensures
-    (passed-sums _ _ _ c.nodes_rule.ensures c.in-Passed.is))
+    (passed-sums _ _ _ c.nodes_rule.ensures (ap numbered c.in_ok-nodes_rule.was)))

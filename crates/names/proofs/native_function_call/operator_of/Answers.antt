@@ -1,14 +1,9 @@
 -- `names::native_function_call::operator_of` meets its contract.
-use mathlib.Core.Path.{sym}
-use native.Mathlib.Omega.{arith}
+use mathlib.Core.Path.{◌∙◌}
 use Rattle.names.specs.NativeFunctionCall.{ops}
-use Rattle.names.proofs.Numbers.{at_element, past_element}
+use Rattle.names.proofs.Numbers.{looked_up}
 use Rattle.names.proofs.native_function_call.operator_of.Goals as goal
 
-pub returns-then-number-lt31 : goal.returns-then-number-lt31
+pub returns : goal.returns
 unfolding ops
-returns-then-number-lt31 c = sym (at_element ops _ _ (omega arith))
-
-pub returns-else-number-lt31 : goal.returns-else-number-lt31
-unfolding ops
-returns-else-number-lt31 c = sym (past_element ops _ (omega arith))
+returns c = rw (← c.from.ensures) (c.copied.ensures ∙ looked_up ops c.from.result _ c.get.ensures.lookup)

@@ -1,11 +1,16 @@
 -- `pages::viewed::is_operator` meets its contract.
+use Rattle.std.specs.Prelude.{Option, Some, None, is_some}
+use mathlib.Core.Path.{◌≡◌, refl, ap, ◌∙◌}
+use Rattle.names.specs.declared.native_function_call.Op.{Op}
+use Rattle.views.specs.View.{of_operator}
 use Rattle.views.specs.Shown.{operator_view}
+use Rattle.pages.specs.Viewed.{has_kind}
 use Rattle.pages.proofs.viewed.is_operator.Goals as goal
 
-pub returns-in-Known : goal.returns-in-Known
-unfolding operator_view
-returns-in-Known c = rw (← c.new_from_name.ensures, c.in-Known.is)
+told : (r : Option Op) → is_some r ≡ has_kind (of_operator r)
+told (Some k) = refl
+told None = refl
 
-pub returns-in-Unknown : goal.returns-in-Unknown
+pub returns : goal.returns
 unfolding operator_view
-returns-in-Unknown c = rw (← c.new_from_name.ensures, c.in-Unknown.is)
+returns c = c.is_some.ensures ∙ told _ ∙ ap (λ r. has_kind (of_operator r)) c.new_from_name.ensures

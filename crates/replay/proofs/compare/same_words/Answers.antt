@@ -8,14 +8,14 @@ pub returns-then-part-words : goal.returns-then-part-words
 returns-then-part-words c = unlike-length _ _ c.if-part-words.true
 
 pub loop-i-init : goal.loop-i-init
-loop-i-init c = (search rules, search rules, agree-none _ _)
+loop-i-init c = (search rules, agree-none _ _)
 
-pub returns-then-part_word-words : goal.returns-then-part_word-words
-returns-then-part_word-words c = unlike-word _ _ _ _ c.part_word.ensures c.if-part_word-words.true
+pub returns-then-part_word-word : goal.returns-then-part_word-word
+returns-then-part_word-word c = unlike-word _ _ _ _ c.part_word.ensures c.if-part_word-word.true
 
 pub loop-i-preserved : goal.loop-i-preserved
 loop-i-preserved c =
-    (search rules, search rules, agree-more _ _ _ _ c.part_word.ensures c.if-part_word-words.false c.loop-i.invariant.2)
+    (search rules, agree-more _ _ _ _ c.part_word.ensures c.if-part_word-word.false c.loop-i.invariant.1)
 
 pub returns : goal.returns
-returns c = agree_all _ _ _ c.loop-i.invariant.1 (omega arith) c.loop-i.invariant.2
+returns c = agree_all _ _ _ c.loop-i.invariant.0 (omega arith) c.loop-i.invariant.1

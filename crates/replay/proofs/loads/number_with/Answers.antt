@@ -1,10 +1,11 @@
 -- `replay::loads::number_with` meets its contract.
+use mathlib.Core.Path.{ap, ◌∙◌}
+use Rattle.image.specs.Refusals.{numbered}
 use Rattle.replay.proofs.Comparing.{view-number, refused-number}
-use borrow.Author.Rules.{rules}
 use Rattle.replay.proofs.loads.number_with.Goals as goal
 
-pub returns-in-View : goal.returns-in-View
-returns-in-View c = search (rules, view-number)
+pub returns-in-Ok : goal.returns-in-Ok
+returns-in-Ok c = view-number _ _ _ _ c.load.ensures.answer (ap numbered c.in-Ok.is)
 
-pub returns-in-Refused : goal.returns-in-Refused
-returns-in-Refused c = search (rules, refused-number)
+pub returns-in-Err : goal.returns-in-Err
+returns-in-Err c = c.number.ensures ∙ refused-number _ _ _ _ c.load.ensures.answer (ap numbered c.in-Err.is)

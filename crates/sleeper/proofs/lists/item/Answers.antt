@@ -1,10 +1,11 @@
 -- `sleeper::lists::item` meets its contract.
+use mathlib.Core.Path.{◌∙◌}
 use Rattle.sleeper.proofs.Reading.{item-missing, item-there}
 use borrow.Author.Rules.{rules}
 use Rattle.sleeper.proofs.lists.item.Goals as goal
 
-pub returns-in-NotFound : goal.returns-in-NotFound
-returns-in-NotFound c = search (rules, item-missing)
+pub returns-in_err-item : goal.returns-in_err-item
+returns-in_err-item c = c.from_residual.ensures ∙ search (rules, item-missing)
 
-pub returns-in-Item : goal.returns-in-Item
-returns-in-Item c = search (rules, item-there)
+pub returns : goal.returns
+returns c = search (rules, item-there)

@@ -15,13 +15,13 @@ part-strings-requires c =
     let lent = placed.args in
     (view-inside lent.bytes.now lent.view _ placed.with_places-whole.ensures).strings
 
-pub returns-in-NotFound : goal.returns-in-NotFound
-returns-in-NotFound c = unanswered _ _ (words-missing _ _ _ c.with_places-whole.ensures _ _ c.node_of.ensures c.in-NotFound.is)
+pub returns-in-None : goal.returns-in-None
+returns-in-None c = unanswered _ _ (words-missing _ _ _ c.with_places-whole.ensures _ _ c.node_of.ensures c.in-None.is)
 
-pub returns-in-Record : goal.returns-in-Record
-returns-in-Record c =
+pub returns-in-Some : goal.returns-in-Some
+returns-in-Some c =
     let found = c in
     let placed = found.with_places-whole.ensures in
     let lent = found.args in
     let inside = view-inside lent.bytes.now lent.view _ placed in
-    answered_as _ _ _ _ _ (words-found _ _ _ placed _ _ found.node_of.ensures _ c.in-Record.is _ (c.payload_length.ensures ∙ sym (counts _ _ inside).payload) _ c.part-strings.ensures) c.put_record_view.ensures
+    answered_as _ _ _ _ _ (words-found _ _ _ placed _ _ found.node_of.ensures _ c.in-Some.is _ (c.payload_length.ensures ∙ sym (counts _ _ inside).payload) _ c.part-strings.ensures) c.put_record_view.ensures

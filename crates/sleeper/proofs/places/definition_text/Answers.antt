@@ -3,5 +3,5 @@ use Rattle.sleeper.proofs.TextPlaces.{definition-there}
 use borrow.Author.Rules.{rules}
 use Rattle.sleeper.proofs.places.definition_text.Goals as goal
 
-pub returns-in-Definition : goal.returns-in-Definition
-returns-in-Definition c = search (rules, definition-there)
+pub returns : goal.returns
+returns c = search (rules, definition-there)

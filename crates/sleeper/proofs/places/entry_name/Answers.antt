@@ -3,5 +3,5 @@ use Rattle.sleeper.proofs.TextPlaces.{name-there}
 use borrow.Author.Rules.{rules}
 use Rattle.sleeper.proofs.places.entry_name.Goals as goal
 
-pub returns-in-Entry : goal.returns-in-Entry
-returns-in-Entry c = search (rules, name-there)
+pub returns : goal.returns
+returns c = search (rules, name-there)

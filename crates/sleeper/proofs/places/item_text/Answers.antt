@@ -3,5 +3,5 @@ use Rattle.sleeper.proofs.TextPlaces.{item-there}
 use borrow.Author.Rules.{rules}
 use Rattle.sleeper.proofs.places.item_text.Goals as goal
 
-pub returns-in-Item : goal.returns-in-Item
-returns-in-Item c = search (rules, item-there)
+pub returns : goal.returns
+returns c = search (rules, item-there)

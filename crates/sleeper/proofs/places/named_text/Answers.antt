@@ -3,5 +3,5 @@ use Rattle.sleeper.proofs.TextPlaces.{named-there}
 use borrow.Author.Rules.{rules}
 use Rattle.sleeper.proofs.places.named_text.Goals as goal
 
-pub returns-in-Named : goal.returns-in-Named
-returns-in-Named c = search (rules, named-there)
+pub returns : goal.returns
+returns c = search (rules, named-there)

@@ -3,5 +3,5 @@ use Rattle.sleeper.proofs.TextPlaces.{origin-there}
 use borrow.Author.Rules.{rules}
 use Rattle.sleeper.proofs.places.origin_text.Goals as goal
 
-pub returns-in-Text : goal.returns-in-Text
-returns-in-Text c = search (rules, origin-there)
+pub returns : goal.returns
+returns c = search (rules, origin-there)

@@ -6,8 +6,8 @@ use Rattle.sleeper.proofs.text.put_text.Goals as goal
 pub put_text_copy-requires : goal.put_text_copy-requires
 put_text_copy-requires c = copy_long _ _ c.text_part-part.ensures _ c.part_length-long.ensures
 
-pub returns-in-Absent : goal.returns-in-Absent
-returns-in-Absent c = search (rules, no_copy)
+pub returns-in-None : goal.returns-in-None
+returns-in-None c = search (rules, no_copy)
 
-pub returns-in-Present : goal.returns-in-Present
-returns-in-Present c = search (rules, copy_there)
+pub returns-in-Some : goal.returns-in-Some
+returns-in-Some c = search (rules, copy_there)

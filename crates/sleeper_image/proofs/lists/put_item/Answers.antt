@@ -3,8 +3,8 @@ use Rattle.sleeper_image.proofs.Entries.{no_item, item_put}
 use borrow.Author.Rules.{rules}
 use Rattle.sleeper_image.proofs.lists.put_item.Goals as goal
 
-pub returns-in-NotFound : goal.returns-in-NotFound
-returns-in-NotFound c = search (rules, no_item)
+pub returns-in-None : goal.returns-in-None
+returns-in-None c = search (rules, no_item)
 
-pub returns-in-Item : goal.returns-in-Item
-returns-in-Item c = search (rules, item_put)
+pub returns-in-Some : goal.returns-in-Some
+returns-in-Some c = search (rules, item_put)

@@ -1,6 +1,6 @@
 -- `sleeper_image::lists::story_image_sleeper_definition` meets its contract.
 use mathlib.Core.Path.{ap}
-use Rattle.answers.specs.AnswerWords.{count_answer}
+use Rattle.answers.specs.AnswerWords.{found_answer}
 use Rattle.sleeper_image.proofs.Views.{no_view, asked}
 use Rattle.sleeper_image.proofs.lists.story_image_sleeper_definition.Goals as goal
 
@@ -9,4 +9,4 @@ returns-then-view-lt-VIEW_WORDS c = no_view c.args.view.now _ _ c.if-view-lt-VIE
 
 pub returns : goal.returns
 returns c =
-    asked c.args.view.now _ _ _ _ c.if-view-lt-VIEW_WORDS.false _ c.view_of.ensures _ (ap count_answer c.definition_item_count.ensures) c.put_count.ensures
+    asked c.args.view.now _ _ _ _ c.if-view-lt-VIEW_WORDS.false _ c.view_of.ensures _ (ap found_answer c.definition_item_count.ensures) c.put_found.ensures

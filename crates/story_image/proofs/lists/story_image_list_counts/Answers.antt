@@ -9,11 +9,11 @@ use Rattle.story_image.proofs.lists.story_image_list_counts.Goals as goal
 pub returns-then-view-lt-VIEW_WORDS : goal.returns-then-view-lt-VIEW_WORDS
 returns-then-view-lt-VIEW_WORDS c = no_view c.args.view.now _ _ c.if-view-lt-VIEW_WORDS.true
 
-pub returns-in-NotFound : goal.returns-in-NotFound
-returns-in-NotFound c =
-    asked c.args.view.now _ _ _ _ c.if-view-lt-VIEW_WORDS.false _ c.view_of-found.ensures _ (no_list _ _ c.list_place.ensures _ c.in-NotFound.is) (unanswered _ _ refl)
+pub returns-in-None : goal.returns-in-None
+returns-in-None c =
+    asked c.args.view.now _ _ _ _ c.if-view-lt-VIEW_WORDS.false _ c.view_of-found.ensures _ (no_list _ _ c.list_place.ensures _ c.in-None.is) (unanswered _ _ refl)
 
-pub returns-in-List : goal.returns-in-List
-returns-in-List c =
-    let list = a_list _ _ c.list_place.ensures _ _ c.in-List.is in
+pub returns-in-Some : goal.returns-in-Some
+returns-in-Some c =
+    let list = a_list _ _ c.list_place.ensures _ _ c.in-Some.is in
     asked c.args.view.now _ _ _ _ c.if-view-lt-VIEW_WORDS.false _ c.view_of-found.ensures _ (ap list_count_words c.list_payload.ensures ∙ list) c.put_list_counts.ensures

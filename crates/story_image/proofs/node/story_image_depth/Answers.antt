@@ -1,6 +1,6 @@
 -- `story_image::node::story_image_depth` meets its contract.
 use mathlib.Core.Path.{ap}
-use Rattle.answers.specs.AnswerWords.{count_answer}
+use Rattle.answers.specs.AnswerWords.{found_answer}
 use Rattle.story_image.proofs.Views.{no_view, asked}
 use Rattle.story_image.proofs.node.story_image_depth.Goals as goal
 
@@ -9,4 +9,4 @@ returns-then-view-lt-VIEW_WORDS c = no_view c.args.view.now _ _ c.if-view-lt-VIE
 
 pub returns : goal.returns
 returns c =
-    asked c.args.view.now _ _ _ _ c.if-view-lt-VIEW_WORDS.false _ c.view_of.ensures _ (ap count_answer c.depth.ensures) c.put_count.ensures
+    asked c.args.view.now _ _ _ _ c.if-view-lt-VIEW_WORDS.false _ c.view_of.ensures _ (ap found_answer c.depth.ensures) c.put_found.ensures

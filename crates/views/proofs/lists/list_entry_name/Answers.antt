@@ -2,10 +2,10 @@
 use Rattle.views.specs.Lists.{list_entry_name}
 use Rattle.views.proofs.lists.list_entry_name.Goals as goal
 
-pub returns-in-NotFound : goal.returns-in-NotFound
+pub returns-in-None : goal.returns-in-None
 unfolding list_entry_name
-returns-in-NotFound c = rw (← c.list_entry.ensures, c.in-NotFound.is)
+returns-in-None c = rw (← c.list_entry.ensures, c.in-None.is)
 
-pub returns-in-Entry : goal.returns-in-Entry
+pub returns-in-Some : goal.returns-in-Some
 unfolding list_entry_name
-returns-in-Entry c = rw (← c.list_entry.ensures, c.in-Entry.is) c.text_part.ensures
+returns-in-Some c = rw (← c.list_entry.ensures, c.in-Some.is) c.text_part.ensures

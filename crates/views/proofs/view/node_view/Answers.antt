@@ -5,8 +5,8 @@ use lib.ListN.{length}
 use Rattle.image.proofs.Views.{payload_by, strings_by}
 use Rattle.views.proofs.view.node_view.Goals as goal
 
-pub returns-in-NotFound : goal.returns-in-NotFound
-returns-in-NotFound c = view-missing _ _ _ c.node_of.ensures c.in-NotFound.is
+pub returns-in_err-node : goal.returns-in_err-node
+returns-in_err-node c = c.from_residual.ensures ∙ view-missing _ _ _ c.node_of.ensures c.in_err-node.was
 
-pub returns-in-Record : goal.returns-in-Record
-returns-in-Record c = view-found _ _ _ c.node_of.ensures _ c.in-Record.is _ _ (ap length (payload_by _ _ ∙ sym c.section_part-payload.ensures)) (strings_by _ _ ∙ sym c.section_part-strings.ensures) _ c.record_view.ensures
+pub returns : goal.returns
+returns c = view-found _ _ _ c.node_of.ensures _ c.in_ok-node.was _ _ (ap length (payload_by _ _ ∙ sym c.section_part-payload.ensures)) (strings_by _ _ ∙ sym c.section_part-strings.ensures) _ c.record_view.ensures

@@ -1,11 +1,12 @@
 -- `views::view::operator` meets its contract.
+use mathlib.Core.Path.{◌∙◌}
 use Rattle.views.specs.Shown.{operator_view}
 use Rattle.views.proofs.view.operator.Goals as goal
 
-pub returns-in-Known : goal.returns-in-Known
+pub returns : goal.returns
 unfolding operator_view
-returns-in-Known c = rw (← c.new_from_name.ensures, c.in-Known.is)
+returns c = rw (← c.new_from_name.ensures, c.in_ok-op.was)
 
-pub returns-in-Unknown : goal.returns-in-Unknown
+pub returns-in_err-op : goal.returns-in_err-op
 unfolding operator_view
-returns-in-Unknown c = rw (← c.new_from_name.ensures, c.in-Unknown.is)
+returns-in_err-op c = c.from_residual.ensures ∙ rw (← c.new_from_name.ensures, c.in_err-op.was)

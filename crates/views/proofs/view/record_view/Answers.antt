@@ -1,11 +1,12 @@
 -- `views::view::record_view` meets its contract.
+use mathlib.Core.Path.{◌∙◌}
 use Rattle.views.specs.View.{record_view}
 use Rattle.views.proofs.view.record_view.Goals as goal
 
-pub returns-in-NotFound : goal.returns-in-NotFound
+pub returns-in_err-kind : goal.returns-in_err-kind
 unfolding record_view
-returns-in-NotFound c = rw (← c.kind_view.ensures, c.in-NotFound.is)
+returns-in_err-kind c = c.from_residual.ensures ∙ rw (← c.kind_view.ensures, c.in_err-kind.was)
 
-pub returns-in-Kind : goal.returns-in-Kind
+pub returns : goal.returns
 unfolding record_view
-returns-in-Kind c = rw (← c.kind_view.ensures, c.in-Kind.is) (cc)
+returns c = rw (← c.kind_view.ensures, c.in_ok-kind.was) (cc)

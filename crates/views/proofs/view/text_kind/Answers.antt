@@ -1,10 +1,10 @@
 -- `views::view::text_kind` meets its contract.
 use Rattle.views.proofs.Tags.{text-absent, text-present}
-use mathlib.Core.Path.{refl}
+use mathlib.Core.Path.{refl, ◌∙◌}
 use Rattle.views.proofs.view.text_kind.Goals as goal
 
-pub returns-in-Absent : goal.returns-in-Absent
-returns-in-Absent c = text-absent _ _ _ _ c.optional_text.ensures c.in-Absent.is refl
+pub returns-in_err-name : goal.returns-in_err-name
+returns-in_err-name c = c.from_residual.ensures ∙ text-absent _ _ _ _ c.optional_text.ensures c.in_err-name.was refl
 
-pub returns-in-Present : goal.returns-in-Present
-returns-in-Present c = text-present _ _ _ _ c.optional_text.ensures _ c.in-Present.is c.with_name.ensures
+pub returns : goal.returns
+returns c = text-present _ _ _ _ c.optional_text.ensures _ c.in_ok-name.was c.with_name.ensures

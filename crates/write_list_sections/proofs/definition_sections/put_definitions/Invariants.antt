@@ -1,5 +1,5 @@
 -- `write_list_sections::definition_sections::put_definitions` meets its contract.
-use Prim.Native.Nat.{◌-◌, ◌/◌}
+use Prim.Native.Nat.{◌/◌}
 use lib.ListN.{length}
 use Rattle.write_list_sections.proofs.DefinitionLoops.{Defining}
 use Rattle.image.specs.Sections.{definition_words}
@@ -7,6 +7,3 @@ use Rattle.write_list_sections.proofs.definition_sections.put_definitions.Given 
 
 abbrev pub invariant-loop-d : goal.invariant-loop-d
 invariant-loop-d l = Defining l.definitions l.w l.offsets (length l.definitions / definition_words) l.initial.out l.out l.k l.at l.d
-
-abbrev pub decreases-loop-d : goal.decreases-loop-d
-decreases-loop-d l = length l.definitions / definition_words - l.d

@@ -17,12 +17,8 @@ put_list_items-behind-requires c =
     let payload-get = c.payload_get-items in
     let payload-get2 = c.payload_get-origins in
     let put-words = c.put_words in
-    record {
-      count_in_bounds = (items_fit to.payload.now to.w.now to.text to.start to.at to.out.now _ _ payload-get.ensures payload-get2.ensures asked.start_in_bounds asked.start_in_bounds_2
-          _ put-words.ensures).0;
-      count_in_bounds_2 = (items_fit to.payload.now to.w.now to.text to.start to.at to.out.now _ _ payload-get.ensures payload-get2.ensures asked.start_in_bounds asked.start_in_bounds_2
-          _ put-words.ensures).1;
-    }
+    let fit = items_fit to.payload.now to.w.now to.text to.start to.at to.out.now _ _ payload-get.ensures payload-get2.ensures asked.start_in_bounds asked.start_in_bounds_2 _ put-words.ensures in
+    record { count_in_bounds = fit.0; count_in_bounds_2 = fit.1 }
 
 pub put_list_origins-requires : goal.put_list_origins-requires
 put_list_origins-requires c =

@@ -11,10 +11,8 @@ pub put_list-requires : goal.put_list-requires
 put_list-requires c =
     let to = c.args in
     let asked = c.requires in
-    record {
-      start_in_bounds = (node-asked to.payload.now to.w.now to.text to.node to.at to.out.now c.if-node-ne-LIST_VALUE.false asked.tag_in_bounds asked.node_in_bounds).0;
-      start_in_bounds_2 = (node-asked to.payload.now to.w.now to.text to.node to.at to.out.now c.if-node-ne-LIST_VALUE.false asked.tag_in_bounds asked.node_in_bounds).1;
-    }
+    let fits = node-asked to.payload.now to.w.now to.text to.node to.at to.out.now c.if-node-ne-LIST_VALUE.false asked.tag_in_bounds asked.node_in_bounds in
+    record { start_in_bounds = fits.0; start_in_bounds_2 = fits.1 }
 
 pub returns : goal.returns
 returns c =

@@ -18,10 +18,8 @@ put_node-at-requires c =
     let test = c.loop-j-test in
     let node-count = c.node_count-count in
     let below = rw node-count.ensures at test.true in
-    record {
-      tag_in_bounds = (pay_asked _ _ _ _ _ _ _ _ _ _ _ loop.invariant below _ c.word.ensures _ c.node_at-node.ensures).0;
-      node_in_bounds = (pay_asked _ _ _ _ _ _ _ _ _ _ _ loop.invariant below _ c.word.ensures _ c.node_at-node.ensures).1;
-    }
+    let asked = pay_asked _ _ _ _ _ _ _ _ _ _ _ loop.invariant below _ c.word.ensures _ c.node_at-node.ensures in
+    record { tag_in_bounds = asked.0; node_in_bounds = asked.1 }
 
 pub overflow_add-text : goal.overflow_add-text
 overflow_add-text c =

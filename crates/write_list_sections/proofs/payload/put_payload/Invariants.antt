@@ -1,12 +1,6 @@
 -- `write_list_sections::payload::put_payload` meets its contract.
-use Prim.Native.Nat.{◌-◌, ◌/◌}
-use lib.ListN.{length}
-use Rattle.image.specs.Sections.{node_words}
 use Rattle.write_list_sections.proofs.PayloadLoop.{ListsSoFar}
 use Rattle.write_list_sections.proofs.payload.put_payload.Given as goal
 
 abbrev pub invariant-loop-j : goal.invariant-loop-j
 invariant-loop-j l = ListsSoFar l.source.version l.nodes l.payload l.w l.order l.initial.text l.initial.out l.out l.text l.at l.j
-
-abbrev pub decreases-loop-j : goal.decreases-loop-j
-decreases-loop-j l = length l.nodes / node_words l.source.version - l.j

@@ -1,0 +1,6 @@
+-- `lookups::order_at` meets its contract.
+use Rattle.lookups.proofs.Lookups.{entry-order}
+use Rattle.lookups.proofs.order_at.Goals as goal
+
+pub returns : goal.returns
+returns c = entry-order _ _ _ _ _ c.text_entry-entry.ensures _ c.text_part.ensures _ c.compare.ensures
