@@ -69,7 +69,10 @@ pub fn put_words(words: &[u32], out: &mut [u32])
     requires { length words.now ≤ length out.old }
     ensures { out.new ≡ words.now ++ drop (length words.now) out.old }
 {
-    out[..words.len()].copy_from_slice(words);
+    // Not `copy_from_slice`: of two or three words it takes up to twice the time.
+    for (i, word) in words.iter().enumerate() {
+        out[i] = *word;
+    }
 }
 
 // The words of an answer.

@@ -117,6 +117,15 @@ pub fn answer_of(bytes: &[u8]) -> Answer
     }
 }
 
+// Prints the line of an answer. It goes out whole, by one write: `write!` would write each part of it by itself.
+fn print_answer<W: Write>(answer: Answer, writer: &mut W) -> io::Result<()>
+    ensures { OnOk result (Appends (W.contents writer.old) (W.contents writer.new) (line_of answer)) }
+{
+    let mut line = [0; 25];
+    let n = answer_text(answer, &mut line);
+    writer.write_all(&line[..n])
+}
+
 // Prints the line of the image that the reader gives. A read or a write that fails is the error that is returned.
 pub fn print_answer_of<R: Read, W: Write>(reader: &mut R, writer: &mut W) -> io::Result<()>
     ensures { OnOk result (IfSome (R.remaining reader.old)
@@ -125,6 +134,5 @@ pub fn print_answer_of<R: Read, W: Write>(reader: &mut R, writer: &mut W) -> io:
     // one byte more than is read tells a longer input
     let mut buffer = [0; LIMIT + 1];
     let n = input::read_full(reader, &mut buffer)?;
-    let answer = answer_of(&buffer[..n]);
-    write!(writer, "{answer}")
+    print_answer(answer_of(&buffer[..n]), writer)
 }

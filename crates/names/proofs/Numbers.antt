@@ -63,7 +63,7 @@ at_element (x ∷ xs) (suc k) d h = at_element xs k d (le_of_suc-le-suc h)
 found_element : {A : Type 0} (xs : List A) (k : ℕ) (a : A) → k < length xs → a ≡ get_or xs k a → Some a ≡ element_at xs k
 found_element xs k a h e = ap Some e ∙ sym (at_element xs k a h)
 
-past_element : {A : Type 0} (xs : List A) (k : ℕ) → length xs ≤ k → element_at xs k ≡ None
+pub past_element : {A : Type 0} (xs : List A) (k : ℕ) → length xs ≤ k → element_at xs k ≡ None
 unfolding element_at
 past_element [] k h = refl
 past_element (x ∷ xs) zero h = absurd (not-suc-le-zero h)

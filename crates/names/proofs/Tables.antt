@@ -18,7 +18,7 @@ use Rattle.names.specs.Spelling.{hash_of}
 use Rattle.names.specs.Table.{name_at, listed, lies, leads, is_table}
 use Rattle.names.proofs.Distinct.{number-placed, held-number}
 
-module _ (s : Table) where
+module _ {n : ℕ} (s : Table n) where
   abbrev pub names : List (List ℕ)
   names = listed s.names.now s.starts.now
 
@@ -52,6 +52,10 @@ module _ (s : Table) where
   -- the number at a hash
   abbrev pub entry : ℕ → ℕ
   entry h = get_or s.by_hash.now (h % length s.by_hash.now) 0
+
+  -- their count is the type's
+  pub sized_place : (h : ℕ) → h % n ≡ h % length s.by_hash.now
+  sized_place h = rw s.sized refl
 
   -- is a name's
   pub entry-below : (h : ℕ) → entry h < length names

@@ -69,7 +69,7 @@ const COMMANDS: [CommandType; 26] = [
 ];
 
 // The names, by number and by hash.
-fn names() -> Table<'static>
+fn names() -> Table<'static, 58>
     ensures { listed result.names.now result.starts.now ≡ commands }
 {
     Table {

@@ -79,7 +79,7 @@ const OPERATORS: [Op; 31] = [
 ];
 
 // The names, by number and by hash.
-fn names() -> Table<'static>
+fn names() -> Table<'static, 54>
     ensures { listed result.names.now result.starts.now ≡ operators }
 {
     Table {

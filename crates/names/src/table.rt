@@ -7,17 +7,18 @@ ghost use Rattle.names.specs.Table.{listed, is_table};
 use crate::{Name, hash, name_of};
 
 #[derive(Clone, Copy)]
-pub struct Table<'a> {
+pub struct Table<'a, const N: usize> {
     // The names, one after the other.
     pub names: &'a [u8],
     // Where each name starts among them, and where the last one ends.
     pub starts: &'a [u8],
-    // By hash, the number of the only name that has that hash.
-    pub by_hash: &'a [u8],
+    // By hash, the number of the only name that has that hash. How many there are stands in the type, so that no division is needed.
+    pub by_hash: &'a [u8; N],
+    ghost sized: { length by_hash.now ≡ N },
     ghost right: { is_table names.now starts.now by_hash.now ≡ true },
 }
 
-impl Table<'_> {
+impl<const N: usize> Table<'_, N> {
     // The bytes of a name, by its number.
     fn at(&self, number: u8) -> &[u8]
         requires { number < length (listed self.now.names.now self.now.starts.now) }
@@ -42,7 +43,7 @@ impl Table<'_> {
     pub fn number(&self, text: &[u8]) -> Option<u8>
         ensures { result ≡ number_in (listed self.now.names.now self.now.starts.now) text.now }
     {
-        let number = self.by_hash[hash(text) % self.by_hash.len()];
+        let number = self.by_hash[hash(text) % N];
         if self.at(number) == text {
             Some(number)
         } else {

@@ -52,7 +52,10 @@ fn put_words(slot: &[u32; 12], out: &mut [u32])
     requires { (length slot.now ≡ slot_words) × (slot_words ≤ length out.old) }
     ensures { out.new ≡ slot.now ++ drop slot_words out.old }
 {
-    out[..SLOT_WORDS].copy_from_slice(slot);
+    // Not `copy_from_slice`: the slot would be made in memory first and read again, which takes longer than all the rest.
+    for (i, word) in slot.iter().enumerate() {
+        out[i] = *word;
+    }
 }
 
 // Writes the slot of node `id` at the start of words that hold it. The node's words are copied first, all at once; that a node has no view

@@ -1,10 +1,10 @@
 -- Texts of commands and operators: their numbers, and the bytes that hold them.
 use Rattle.std.specs.Prelude.{None, Some}
-use Prim.Native.Nat.{ℕ, zero, suc, ◌-◌, ◌≤◌, ◌<◌}
+use Prim.Native.Nat.{ℕ, ◌-◌, ◌≤◌, ◌<◌}
 use mathlib.Core.Path.{◌≡◌, refl, sym, ◌∙◌}
 use mathlib.Core.List.{List, [], ◌∷◌}
 use native.Mathlib.Omega.{arith}
-use native.Mathlib.Nat.{not-suc-le-zero, le_of_suc-le-suc}
+use native.Mathlib.Nat.{not-suc-le-zero}
 use lib.ListN.{length, get_or, replicate, length-replicate, length-append}
 use lib.Seq.{length-take-le}
 use lib.Dec.{leb}
@@ -14,7 +14,7 @@ use Rattle.names.specs.Names.{commands, operators, number_in, names}
 use Rattle.names.specs.Spelling.{element_at, name_of, spelled}
 use Rattle.names.specs.declared.Name.{Name}
 use Rattle.names.proofs.Distinct.{place-number}
-use Rattle.names.proofs.Numbers.{Numbered, every, at_element, named-number, named_yes}
+use Rattle.names.proofs.Numbers.{Numbered, every, at_element, past_element, named-number, named_yes}
 use Rattle.names.proofs.Spellings.{name-spelled}
 
 -- ---- a name fits its bytes
@@ -50,12 +50,6 @@ command_count = refl
 pub operator_count : length operators ≡ 31
 unfolding names
 operator_count = refl
-
-past_element : {A : Type 0} (xs : List A) (k : ℕ) → length xs ≤ k → element_at xs k ≡ None
-unfolding element_at
-past_element [] k h = refl
-past_element (x ∷ xs) zero h = absurd (not-suc-le-zero h)
-past_element (x ∷ xs) (suc k) h = past_element xs k (le_of_suc-le-suc h)
 
 module _ {A : Type 0} {number : A → ℕ} {kinds : List A} {names : List (List ℕ)} (n : Numbered number kinds names) (count : ℕ) (e : length names ≡ count) (k : ℕ) where
   pub past-names : count ≤ k → element_at names k ≡ None

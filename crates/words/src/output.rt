@@ -19,5 +19,8 @@ pub fn put_bytes(bytes: &[u8], out: &mut [u8])
     requires { length bytes.now ≤ length out.old }
     ensures { out.new ≡ over bytes.now out.old }
 {
-    out[..bytes.len()].copy_from_slice(bytes);
+    // Not `copy_from_slice`: an archive for C would need `memmove` from outside.
+    for (i, byte) in bytes.iter().enumerate() {
+        out[i] = *byte;
+    }
 }

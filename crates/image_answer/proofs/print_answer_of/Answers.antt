@@ -7,4 +7,4 @@ pub returns : goal.returns
 returns g c =
     let read = c.in_ok-n.ensures in
     let size = length-take-le c.in_ok-n.n c.read_full.new.buffer read.bound in
-    said _ _ _ _ _ _ _ read.bytes (λ h. read.end (omega arith)) c.answer_of-answer.ensures c.write.ensures.bytes
+    said _ _ _ _ _ _ _ read.bytes (λ h. read.end (omega arith)) c.answer_of.ensures c.print_answer.ensures

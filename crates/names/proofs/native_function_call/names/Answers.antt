@@ -8,7 +8,7 @@ use Rattle.names.proofs.native_function_call.names.Goals as goal
 
 pub invariant_of-result : goal.invariant_of-result
 unfolding counted spellings tables
-invariant_of-result c = record { right = refl }
+invariant_of-result c = record { sized = refl; right = refl }
 
 pub returns : goal.returns
 unfolding names tables
